@@ -1,0 +1,23 @@
+-- Exploration of a deterministic labelled graph: definitions, and what they mean.
+pub mod Mem
+pub mod Size
+pub mod Order
+pub mod Explore
+pub mod Search
+pub mod Cases
+pub mod MemLaws
+pub mod SizeLaws
+pub mod OrderLaws
+pub mod Fresh
+pub mod Expand
+pub mod Rounds
+pub mod Entries
+pub mod First
+pub mod Reach
+pub mod Meaning
+pub mod Fuel
+pub mod Places
+pub mod Agree
+pub mod Sweep
+pub mod SearchLaws
+pub mod SearchMeaning
