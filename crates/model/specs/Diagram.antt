@@ -1,0 +1,53 @@
+-- Diagrams (source document 000, section 4): following a word, accepted contents; the contents of all queues as one word.
+use mathlib.Core.Path.{_≡_}
+use mathlib.Core.Bool.{Bool, true, false}
+use mathlib.Core.Option.{Option, none, some}
+use mathlib.Core.List.{List, [], _∷_, _++_}
+use Prim.Native.Nat.{ℕ, _+_, _≤_}
+use lib.Dec.{ltb}
+use Rattle.model.specs.Model.{queueOf}
+
+-- the states that all diagrams share: how many, which are final, and where an arc leads
+pub record Pool : Type 0 where
+  pub states : ℕ
+  pub final : ℕ → Bool
+  pub arc : ℕ → ℕ → Option ℕ
+
+module _ (P : Pool) where
+  -- a missing arc leads nowhere, and nowhere leads nowhere
+  abbrev pub along : Option ℕ → ℕ → Option ℕ
+  along none m = none
+  along (some s) m = P .arc s m
+
+  abbrev pub follow : Option ℕ → List ℕ → Option ℕ
+  follow s [] = s
+  follow s (m ∷ u) = follow (along s m) u
+
+  abbrev pub isFinal : Option ℕ → Bool
+  isFinal none = false
+  isFinal (some s) = P .final s
+
+  abbrev pub accepts : Option ℕ → List ℕ → Bool
+  accepts s u = isFinal (follow s u)
+
+-- the contents of all queues as one word: queue 0, then queue 1, and so on
+abbrev pub word : List (List ℕ) → List ℕ
+word [] = []
+word (q ∷ qs) = q ++ word qs
+
+-- and back: the messages below hi that a word begins with, and what is left; so queue by queue, the first from k on
+abbrev pub frontOf : ℕ → List ℕ → List ℕ
+frontOf hi [] = []
+frontOf hi (m ∷ u) = elim (ltb m hi) [ true ↦ m ∷ frontOf hi u | false ↦ [] ]
+
+abbrev pub restOf : ℕ → List ℕ → List ℕ
+restOf hi [] = []
+restOf hi (m ∷ u) = elim (ltb m hi) [ true ↦ restOf hi u | false ↦ m ∷ u ]
+
+abbrev pub queuesFrom : ℕ → List ℕ → List ℕ → List (List ℕ)
+queuesFrom k [] u = []
+queuesFrom k (n ∷ ns) u = frontOf (k + n) u ∷ queuesFrom (k + n) ns (restOf (k + n) u)
+
+-- the pool is in queue order when no state has an arc in for a message of some queue and an arc out for a message of an earlier queue
+abbrev pub InQueueOrder : List ℕ → Pool → Type 0
+InQueueOrder ns P = (r m s n s′ : ℕ) → P .arc r m ≡ some s → P .arc s n ≡ some s′ → queueOf ns m ≤ queueOf ns n

@@ -1,0 +1,59 @@
+use mathlib.Core.Path.{_≡_, sym, ap, _∙_}
+use Rattle.session.specs.Said.{saidField}
+use borrow.Author.Tests.{le-leb, lt-leb}
+use Rattle.session.specs.Pool.{readAscending}
+use borrow.Author.Needs.{needs}
+use Rattle.session.proofs.pool.read_ascending.Statement.{statement}
+use Rattle.session.proofs.pool.read_ascending.Tie as tie
+use Rattle.session.proofs.pool.read_ascending.Reads as reads
+use Rattle.session.proofs.pool.read_ascending.Lts as lts
+use Rattle.session.proofs.number.read_below.Reads as read-below-reads
+use Rattle.session.proofs.number.wide.Reads as wide-reads
+
+-- src/pool.rt:42:29
+wide-requires : tie.Need-wide-requires
+wide-requires c κs = search needs
+
+-- src/pool.rt:42:11
+read-below-requires : tie.Need-read-below-requires
+read-below-requires c κs = search needs
+
+-- src/pool.rt:43:24
+enum-known-why : tie.Need-enum-known-why
+enum-known-why c = search needs
+
+-- src/pool.rt:44:22
+enum-known-m : tie.Need-enum-known-m
+enum-known-m c = search needs
+
+-- src/pool.rt:45:16
+wide-requires-2 : tie.Need-wide-requires-2
+wide-requires-2 c κs = search needs
+
+-- src/pool.rt:46:17
+returns : tie.Need-returns
+unfolding readAscending
+returns c = rw (← c .before .before .before .before .before .before .wide .ensures .same, sym (c .before .before .before .before .before .read-below .ensures) ∙ ap saidField (c .before .before .before .m .given .1), ← c .before .wide2 .ensures .same, lt-leb _ _ (c .if1 .taken))
+
+-- src/pool.rt:39:1
+returns-2 : tie.Need-returns-2
+unfolding readAscending
+returns-2 c = rw (← c .before .before .before .before .wide .ensures .same, sym (c .before .before .before .read-below .ensures) ∙ ap saidField (c .before .why .given .1))
+
+-- src/pool.rt:39:1
+returns-3 : tie.Need-returns-3
+unfolding readAscending
+returns-3 c = rw (← c .before .before .before .before .before .before .wide .ensures .same, sym (c .before .before .before .before .before .read-below .ensures) ∙ ap saidField (c .before .before .before .m .given .1), ← c .before .wide2 .ensures .same, le-leb _ _ (c .if1 .left))
+
+pub read-ascending-spec : {M : Type 1} → statement M
+read-ascending-spec =
+    tie.close
+    (tie.spec
+    wide-requires
+    read-below-requires
+    enum-known-why
+    enum-known-m
+    wide-requires-2
+    returns
+    returns-2
+    returns-3)

@@ -1,0 +1,208 @@
+-- What holds of the pool that was read (field 4), and what an arc of it says.
+use Prim.Native.Nat.{ℕ, zero, suc, _+_, _-_, _*_, _≤_, _<_}
+use mathlib.Core.Path.{_≡_, refl, ap, subst, _∙_}
+use mathlib.Core.Bool.{Bool, true, false}
+use mathlib.Core.List.{List}
+use mathlib.Core.Option.{none, some}
+use lib.ListN.{length, getD, set, replicate, length-set, length-replicate}
+use lib.Seq.{getD-set-same, getD-set-other}
+use lib.Dec.{eqb, ltb}
+use borrow.Author.Tests.{eqb-false, ne-eqb, ltb-true, ltb-false}
+use native.Mathlib.Omega.{arith}
+use native.Mathlib.Nat.{zero-add}
+use Rattle.session.specs.Limits.{mostPool, mostMessages}
+use Rattle.session.specs.Part.{got, cond}
+use Rattle.session.specs.PartLaws.{andThen-got, same-value}
+use Rattle.session.specs.Number.{readWithin, readBelow}
+use Rattle.session.specs.Pool.{arcAt, readArc, readArcs, readState, readStates, readPool}
+use Rattle.session.specs.Ranges.{below-range, within-range, arc-range}
+use Rattle.session.specs.Laws.Written.{at-or-other, Changed, changed-none, changed-set, changed-then, changed-wider, Entries, entries-none, entries-more, Written, written-none, written-more, zeros-hold}
+use Rattle.session.specs.Laws.Rounds.{Rounds, rounds-keep}
+use Rattle.session.specs.declared.tables.Pool.{Pool}
+
+-- over messages below sum: an entry of the arcs is 0 for none, or 1 plus the target
+pub record PoolValid (sum : ℕ) (P : Pool) : Type 0 where
+  pub least : 1 ≤ P .count
+  pub most : P .count ≤ mostPool
+  pub finalsLong : length (P .finals) ≡ mostPool
+  pub arcsLong : length (P .arcs) ≡ mostPool * mostMessages
+  pub finals : (i : ℕ) → i < P .count → getD (P .finals) i 0 < 2
+  pub finalsRest : (i : ℕ) → P .count ≤ i → getD (P .finals) i 0 ≡ 0
+  pub arcs : (i m : ℕ) → i < P .count → m < mostMessages → getD (P .arcs) (i * mostMessages + m) 0 ≤ P .count
+  pub arcsAbove : (i m : ℕ) → i < P .count → sum ≤ m → m < mostMessages → getD (P .arcs) (i * mostMessages + m) 0 ≡ 0
+  pub arcsRest : (k : ℕ) → P .count * mostMessages ≤ k → getD (P .arcs) k 0 ≡ 0
+
+-- an arc of the table is an entry that is not 0
+pub arc-entry : (arcs : List ℕ) (i m : ℕ) {t : ℕ} → arcAt arcs i m ≡ some t → getD arcs (i * mostMessages + m) 0 ≡ suc t
+arc-entry arcs i m {t} e = go (eqb (getD arcs (i * mostMessages + m) 0) 0) refl e
+  where
+    go : (b : Bool) → eqb (getD arcs (i * mostMessages + m) 0) 0 ≡ b
+        → cond b none (some (getD arcs (i * mostMessages + m) 0 - 1)) ≡ some t → getD arcs (i * mostMessages + m) 0 ≡ suc t
+    go true f e′ = let z : _≡_ {A = ℕ} 0 1 = cc in omega arith
+    go false f e′ =
+        let n : getD arcs (i * mostMessages + m) 0 - 1 ≡ t = cc in
+        let p = eqb-false (getD arcs (i * mostMessages + m) 0) 0 f in
+        omega arith
+
+pub entry-arc : (arcs : List ℕ) (i m : ℕ) {t : ℕ} → getD arcs (i * mostMessages + m) 0 ≡ suc t → arcAt arcs i m ≡ some t
+entry-arc arcs i m {t} e =
+    let f : eqb (getD arcs (i * mostMessages + m) 0) 0 ≡ false = ne-eqb (getD arcs (i * mostMessages + m) 0) 0 (omega arith) in
+    let n : getD arcs (i * mostMessages + m) 0 - 1 ≡ t = omega arith in
+    ap (λ b. cond b none (some (getD arcs (i * mostMessages + m) 0 - 1))) f ∙ ap some n
+
+-- where an arc of a pool that was read comes from and leads to
+pub record ArcValid (sum n i m t : ℕ) : Type 0 where
+  pub from : i < n
+  pub message : m < sum
+  pub to : t < n
+
+pub arc-valid : {sum : ℕ} {P : Pool} (i m : ℕ) {t : ℕ} → PoolValid sum P → m < mostMessages → arcAt (P .arcs) i m ≡ some t
+    → ArcValid sum (P .count) i m t
+arc-valid {sum} {P} i m {t} z h e = go (ltb i (P .count)) refl (ltb m sum) refl
+  where
+    entry : getD (P .arcs) (i * mostMessages + m) 0 ≡ suc t
+    entry = arc-entry (P .arcs) i m e
+
+    go : (b : Bool) → ltb i (P .count) ≡ b → (c : Bool) → ltb m sum ≡ c → ArcValid sum (P .count) i m t
+    go false f c g =
+        let l = ltb-false i (P .count) f in
+        absurd (omega (arith, z .arcsRest (i * mostMessages + m) (omega arith), entry))
+    go true f false g =
+        absurd (omega (arith, z .arcsAbove i m (ltb-true i (P .count) f) (ltb-false m sum g) h, entry))
+    go true f true g =
+        let l = ltb-true i (P .count) f in
+        record { from = l; message = ltb-true m sum g; to = omega (arith, z .arcs i m l h, entry) }
+
+-- What the arcs of a state write whose entries begin at row: nothing below message least, nothing from sum on.
+pub record Arcs (n sum row least : ℕ) (before after : List ℕ) : Type 0 where
+  pub changed : Changed (row + least) (row + sum) before after
+  pub small : (k : ℕ) → row ≤ k → getD after k 0 ≤ n
+
+-- and what a state writes, its final mark with them
+record State (n sum row : ℕ) (before : List ℕ) (x : ℕ × List ℕ) : Type 0 where
+  final : x .0 < 2
+  changed : Changed row (row + sum) before (x .1)
+  small : (k : ℕ) → row ≤ k → getD (x .1) k 0 ≤ n
+
+-- a state's part of the table
+abbrev Fits : ℕ → ℕ → ℕ → List ℕ → Type 0
+Fits n sum i arcs =
+    (m : ℕ) → m < mostMessages → (getD arcs (i * mostMessages + m) 0 ≤ n) × (sum ≤ m → getD arcs (i * mostMessages + m) 0 ≡ 0)
+
+record States (n sum : ℕ) (finals arcs : List ℕ) (i : ℕ) (x : List ℕ × List ℕ) : Type 0 where
+  marks : Entries (λ k v. v < 2) 0 i finals (x .0)
+  parts : Written (Fits n sum) (λ k. k * mostMessages) 0 i arcs (x .1)
+
+module _ (s : List ℕ) (n sum : ℕ) where
+  pub arcs-read : (row left at least : ℕ) (arcs : List ℕ) {x : List ℕ} {next : ℕ} → row + sum ≤ length arcs
+      → ((k : ℕ) → row ≤ k → getD arcs k 0 ≤ n) → readArcs s n sum row left at least arcs ≡ got x next → Arcs n sum row least arcs x
+  unfolding readArcs
+  arcs-read row zero at least arcs h small e =
+      subst (Arcs n sum row least arcs) (same-value e) (record { changed = changed-none (row + least) (row + sum) arcs; small = small })
+  arcs-read row (suc left) at least arcs h small e =
+      let t = andThen-got (readArc s at n sum least) e in
+      let m = t .value .0 in
+      let v = t .value .1 + 1 in
+      let r = arc-range s at n sum least (t .first) in
+      let l = length-set arcs (row + m) v in
+      let rest =
+      arcs-read row left (t .place) (m + 1) (set arcs (row + m) v) (omega arith)
+      (λ k g.
+      at-or-other (λ j. row ≤ j → getD (set arcs (row + m) v) j 0 ≤ n) (row + m) k
+      (λ _. omega (arith, getD-set-same arcs (row + m) v 0 (omega (arith, r .1)), r .2))
+      (λ d g′. omega (arith, getD-set-other arcs (row + m) k v 0 d, small k g′)) g)
+      (t .then)
+      in
+      record {
+        changed =
+            changed-then (changed-set (row + least) (row + sum) (row + m) v arcs (omega (arith, r .0)) (omega (arith, r .1)))
+            (changed-wider (omega (arith, r .0)) (omega arith) (rest .changed));
+        small = rest .small;
+      }
+
+  state-read : (row at : ℕ) (arcs : List ℕ) {x : ℕ × List ℕ} {next : ℕ} → row + sum ≤ length arcs
+      → ((k : ℕ) → row ≤ k → getD arcs k 0 ≤ n) → readState s n sum row at arcs ≡ got x next → State n sum row arcs x
+  unfolding readState
+  state-read row at arcs h small e =
+      let t = andThen-got (readBelow s at 2) e in
+      let u = andThen-got (readWithin s (t .place) 0 sum) (t .then) in
+      let w = andThen-got (readArcs s n sum row (u .value) (u .place) 0 arcs) (u .then) in
+      let z = arcs-read row (u .value) (u .place) 0 arcs h small (w .first) in
+      subst (State n sum row arcs) (same-value (w .then))
+      (record {
+        final = below-range s at 2 (t .first);
+        changed = changed-wider (omega arith) (omega arith) (z .changed);
+        small = z .small;
+      })
+
+  pub states-rounds : Rounds (λ left i at x. readStates s n sum left i at (x .0) (x .1))
+      (λ i at x. readState s n sum (i * mostMessages) at (x .1)) (λ i v x. (set (x .0) i (v .0), v .1))
+  unfolding readStates
+  states-rounds = record { stop = λ i at x. refl; round = λ left i at x. refl }
+
+  state-step : (finals arcs : List ℕ) (i at : ℕ) (x : List ℕ × List ℕ) (v : ℕ × List ℕ) (next : ℕ) → sum ≤ mostMessages
+      → i < length finals → (i + 1) * mostMessages ≤ length arcs → ((k : ℕ) → getD arcs k 0 ≡ 0)
+      → readState s n sum (i * mostMessages) at (x .1) ≡ got v next → States n sum finals arcs i x
+      → States n sum finals arcs (i + 1) (set (x .0) i (v .0), v .1)
+  state-step finals arcs i at x v next few hf ha blank e z =
+      let before = z .parts .changed in
+      let r =
+      state-read (i * mostMessages) at (x .1) (omega (arith, before .long))
+      (λ k g. omega (arith, before .over k g, blank k)) e
+      in
+      record {
+        marks = entries-more (λ k w. w < 2) (omega arith) hf (z .marks) (r .final);
+        parts =
+            written-more (Fits n sum) (λ k. k * mostMessages) (λ a b g. omega arith)
+            (λ b t u same f m l.
+            let e′ = same (b * mostMessages + m) (omega arith) in
+            (omega (arith, f m l .0), λ g. e′ ∙ f m l .1 g))
+            (omega arith) (z .parts) (changed-wider (omega arith) (omega arith) (r .changed))
+            (λ m l. (
+              r .small (i * mostMessages + m) (omega arith),
+              λ g.
+                  r .changed .over (i * mostMessages + m) (omega arith) ∙ before .over (i * mostMessages + m) (omega arith)
+                  ∙ blank (i * mostMessages + m),
+            ));
+      }
+
+  states-read : (finals arcs : List ℕ) (at : ℕ) {x : List ℕ × List ℕ} {next : ℕ} → sum ≤ mostMessages → n ≤ length finals
+      → n * mostMessages ≤ length arcs → ((k : ℕ) → getD arcs k 0 ≡ 0) → readStates s n sum n 0 at finals arcs ≡ got x next
+      → States n sum finals arcs n x
+  states-read finals arcs at few hf ha blank e =
+      rounds-keep states-rounds (States n sum finals arcs) n
+      (λ i at′ x v next l. state-step finals arcs i at′ x v next few (omega arith) (omega arith) blank) n 0 at (finals, arcs)
+      (zero-add n) e
+      (record {
+        marks = entries-none (λ k w. w < 2) 0 finals;
+        parts = written-none (Fits n sum) (λ k. k * mostMessages) 0 arcs;
+      })
+
+pub pool-valid : (s : List ℕ) (sum at : ℕ) {P : Pool} {next : ℕ} → sum ≤ mostMessages → readPool s sum at ≡ got P next
+    → PoolValid sum P
+unfolding readPool
+pool-valid s sum at few e =
+    let t = andThen-got (readWithin s at 1 mostPool) e in
+    let n = t .value in
+    let r = within-range s at 1 mostPool (t .first) in
+    let a =
+    andThen-got (readStates s n sum n 0 (t .place) (replicate mostPool 0) (replicate (mostPool * mostMessages) 0)) (t .then)
+    in
+    let lf = length-replicate {A = ℕ} mostPool 0 in
+    let la = length-replicate {A = ℕ} (mostPool * mostMessages) 0 in
+    let z =
+    states-read s n sum (replicate mostPool 0) (replicate (mostPool * mostMessages) 0) (t .place) few (omega (arith, r .1))
+    (omega (arith, r .1)) (zeros-hold (mostPool * mostMessages)) (a .first)
+    in
+    subst (PoolValid sum) (same-value (a .then))
+    (record {
+      least = r .0;
+      most = r .1;
+      finalsLong = z .marks .changed .long ∙ lf;
+      arcsLong = z .parts .changed .long ∙ la;
+      finals = λ i g. z .marks .each i (omega arith) g;
+      finalsRest = λ i g. z .marks .changed .over i g ∙ zeros-hold mostPool i;
+      arcs = λ i m g l. z .parts .each i (omega arith) g m l .0;
+      arcsAbove = λ i m g h l. z .parts .each i (omega arith) g m l .1 h;
+      arcsRest = λ k g. z .parts .changed .over k g ∙ zeros-hold (mostPool * mostMessages) k;
+    })

@@ -1,0 +1,17 @@
+pub mod Limits
+pub mod Part
+pub mod PartLaws
+pub mod Said
+pub mod Kinds
+pub mod Number
+pub mod Machines
+pub mod Queues
+pub mod Transitions
+pub mod Pool
+pub mod Order
+pub mod OrderLaws
+pub mod Map
+pub mod Bad
+pub mod File
+pub mod Ranges
+pub mod Laws

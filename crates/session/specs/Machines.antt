@@ -1,0 +1,36 @@
+-- Field 1: the machines, their states and starting states.
+use Prim.Native.Nat.{ℕ, zero, suc, _+_, _*_}
+use mathlib.Core.List.{List}
+use lib.ListN.{getD, set, replicate}
+use lib.Dec.{leb}
+use Rattle.session.specs.Limits.{mostMachines, mostStates, mostControls}
+use Rattle.session.specs.Part.{Part, got, provided, andThen}
+use Rattle.session.specs.Number.{readWithin, readBelow}
+use Rattle.session.specs.declared.tables.Machines.{Machines}
+
+-- how many states a machine has: with those before it the product passes no limit
+unfoldable pub readFactor : List ℕ → ℕ → ℕ → Part ℕ
+readFactor s at product =
+    andThen (readWithin s at 1 mostStates) (λ v next. provided (leb (product * v) mostControls) 6 at (got v next))
+
+-- the states of the machines from number i on, and the product
+unfoldable pub readSizes : List ℕ → ℕ → ℕ → ℕ → ℕ → List ℕ → Part (ℕ × List ℕ)
+readSizes s zero i at product sizes = got (product, sizes) at
+readSizes s (suc left) i at product sizes =
+    andThen (readFactor s at product) (λ v next. readSizes s left (i + 1) next (product * v) (set sizes i v))
+
+-- the starting states of the machines from number i on
+unfoldable pub readStarts : List ℕ → List ℕ → ℕ → ℕ → ℕ → List ℕ → Part (List ℕ)
+readStarts s sizes zero i at starts = got starts at
+readStarts s sizes (suc left) i at starts =
+    andThen (readBelow s at (getD sizes i 0)) (λ v next. readStarts s sizes left (i + 1) next (set starts i v))
+
+-- both, for machines of this count
+unfoldable pub countedMachines : List ℕ → ℕ → ℕ → Part Machines
+countedMachines s at count =
+    andThen (readSizes s count 0 at 1 (replicate mostMachines 0)) (λ sized p₁.
+    andThen (readStarts s (sized .1) count 0 p₁ (replicate mostMachines 0)) (λ starts p₂.
+    got (record { count = count; product = sized .0; states = sized .1; starts = starts }) p₂))
+
+unfoldable pub readMachines : List ℕ → ℕ → Part Machines
+readMachines s at = andThen (readWithin s at 1 mostMachines) (λ count p. countedMachines s p count)

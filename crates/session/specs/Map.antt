@@ -1,0 +1,18 @@
+-- Field 5: for each control state 0 for no root, or 1 plus the root.
+use Prim.Native.Nat.{ℕ, zero, suc, _+_}
+use mathlib.Core.List.{List}
+use lib.ListN.{set, replicate}
+use Rattle.session.specs.Limits.{mostControls}
+use Rattle.session.specs.Part.{Part, got, andThen}
+use Rattle.session.specs.Number.{readWithin}
+use Rattle.session.specs.declared.tables.Map.{Map}
+
+-- the roots of the control states from number i on
+unfoldable pub readRoots : List ℕ → ℕ → ℕ → ℕ → ℕ → List ℕ → Part (List ℕ)
+readRoots s n zero i at roots = got roots at
+readRoots s n (suc left) i at roots =
+    andThen (readWithin s at 0 n) (λ v next. readRoots s n left (i + 1) next (set roots i v))
+
+unfoldable pub readMap : List ℕ → ℕ → ℕ → ℕ → Part Map
+readMap s product n at =
+    andThen (readRoots s n product 0 at (replicate mostControls 0)) (λ roots next. got (record { roots = roots }) next)

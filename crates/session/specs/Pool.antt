@@ -1,0 +1,52 @@
+-- Field 4: the pool of diagram states, with a dense table of arcs: state · 32 + message holds 0 for none, else 1 plus the target.
+use Prim.Native.Nat.{ℕ, zero, suc, _+_, _-_, _*_}
+use mathlib.Core.List.{List}
+use mathlib.Core.Option.{Option, none, some}
+use lib.ListN.{getD, set, replicate}
+use lib.Dec.{leb, eqb}
+use Rattle.session.specs.Limits.{mostPool, mostMessages}
+use Rattle.session.specs.Part.{Part, got, cond, provided, andThen}
+use Rattle.session.specs.Number.{readWithin, readBelow}
+use Rattle.session.specs.declared.tables.Pool.{Pool}
+
+-- where the arc of state s for message m leads; a missing arc has nowhere to go
+abbrev pub arcAt : List ℕ → ℕ → ℕ → Option ℕ
+arcAt arcs s m =
+    cond (eqb (getD arcs (s * mostMessages + m) 0) 0) none (some (getD arcs (s * mostMessages + m) 0 - 1))
+
+-- an arc's message: below the sum, and not below the least that still ascends
+unfoldable pub readAscending : List ℕ → ℕ → ℕ → ℕ → Part ℕ
+readAscending s at sum least = andThen (readBelow s at sum) (λ m next. provided (leb least m) 8 at (got m next))
+
+-- an arc: its message and its target
+unfoldable pub readArc : List ℕ → ℕ → ℕ → ℕ → ℕ → Part (ℕ × ℕ)
+readArc s at n sum least =
+    andThen (readAscending s at sum least) (λ m p. andThen (readBelow s p n) (λ t next. got (m, t) next))
+
+-- the arcs that are left of a state whose entries begin at row; messages ascend strictly
+unfoldable pub readArcs : List ℕ → ℕ → ℕ → ℕ → ℕ → ℕ → ℕ → List ℕ → Part (List ℕ)
+readArcs s n sum row zero at least arcs = got arcs at
+readArcs s n sum row (suc left) at least arcs =
+    andThen (readArc s at n sum least) (λ arc next.
+    readArcs s n sum row left next (arc .0 + 1) (set arcs (row + arc .0) (arc .1 + 1)))
+
+-- one state: its final mark, and the table with its arcs
+unfoldable pub readState : List ℕ → ℕ → ℕ → ℕ → ℕ → List ℕ → Part (ℕ × List ℕ)
+readState s n sum row at arcs =
+    andThen (readBelow s at 2) (λ final p₁.
+    andThen (readWithin s p₁ 0 sum) (λ count p₂.
+    andThen (readArcs s n sum row count p₂ 0 arcs) (λ arcs′ p₃.
+    got (final, arcs′) p₃)))
+
+-- the states from number i on
+unfoldable pub readStates : List ℕ → ℕ → ℕ → ℕ → ℕ → ℕ → List ℕ → List ℕ → Part (List ℕ × List ℕ)
+readStates s n sum zero i at finals arcs = got (finals, arcs) at
+readStates s n sum (suc left) i at finals arcs =
+    andThen (readState s n sum (i * mostMessages) at arcs) (λ state next.
+    readStates s n sum left (i + 1) next (set finals i (state .0)) (state .1))
+
+unfoldable pub readPool : List ℕ → ℕ → ℕ → Part Pool
+readPool s sum at =
+    andThen (readWithin s at 1 mostPool) (λ n p₁.
+    andThen (readStates s n sum n 0 p₁ (replicate mostPool 0) (replicate (mostPool * mostMessages) 0)) (λ states p₂.
+    got (record { count = n; finals = states .0; arcs = states .1 }) p₂))

@@ -1,0 +1,66 @@
+// Field 6: the bad entries.
+use crate::number::Field;
+use crate::number::Filled;
+use crate::number::Pair;
+use crate::number::read_two;
+use crate::number::read_within;
+use crate::number::wide;
+use crate::tables::BadList;
+use crate::tables::MOST_BAD;
+ghost use mathlib.Core.Path.{_≡_};
+ghost use Prim.Native.Nat.{_≤_};
+ghost use Rattle.session.specs.Said.{filledWith};
+ghost use Rattle.session.specs.Bad.{readEntries, readBad};
+
+pub struct BadRead {
+    pub filled: Filled,
+    pub bad: BadList,
+}
+
+fn read_entries(
+    s: &[u8],
+    at: usize,
+    product: usize,
+    n: u8,
+    count: usize,
+    rows: &mut [u8; 128],
+) -> Filled
+    requires { ⌜ product ≤ 256 ⌝ }
+    requires { ⌜ count ≤ 64 ⌝ }
+    ensures { λ r. ⌜ filledWith r (now (rows .exit)) ≡ readEntries (now (s .entry)) product n count 0 at (now (rows .entry)) ⌝ }
+{
+    let mut place = at;
+    let mut b: usize = 0;
+    while b < count {
+        match read_two(s, place, product, wide(n)) {
+            Pair::Refused(why) => return Filled::Refused(why),
+            Pair::Values(control, root, next) => {
+                rows[b * 2] = control;
+                rows[b * 2 + 1] = root;
+                place = next;
+                b += 1;
+            }
+        }
+    }
+    Filled::To(place)
+}
+
+pub fn read_bad(s: &[u8], at: usize, product: usize, n: u8) -> BadRead
+    requires { ⌜ product ≤ 256 ⌝ }
+    ensures { λ r. ⌜ filledWith (r .filled) (r .bad) ≡ readBad (now (s .entry)) product n at ⌝ }
+{
+    let mut rows = [0u8; 128];
+    match read_within(s, at, 0, MOST_BAD) {
+        Field::Refused(why) => BadRead {
+            filled: Filled::Refused(why),
+            bad: BadList { count: 0, rows },
+        },
+        Field::Value(count, place) => {
+            let filled = read_entries(s, place, product, n, wide(count), &mut rows);
+            BadRead {
+                filled,
+                bad: BadList { count, rows },
+            }
+        }
+    }
+}

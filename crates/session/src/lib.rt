@@ -1,0 +1,13 @@
+// Session files: the kinds of number, the tables, and reading, which turns any bytes into tables or a refusal.
+pub mod bad;
+pub mod kinds;
+pub mod machines;
+pub mod map;
+pub mod number;
+pub mod order;
+pub mod pool;
+pub mod queues;
+pub mod reading;
+pub mod refusal;
+pub mod tables;
+pub mod transitions;

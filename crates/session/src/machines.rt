@@ -1,0 +1,128 @@
+// Field 1: the machines.
+use crate::number::Field;
+use crate::number::Filled;
+use crate::number::Number;
+use crate::number::read_below;
+use crate::number::read_within;
+use crate::number::wide;
+use crate::refusal::Refusal;
+use crate::tables::MOST_CONTROLS;
+use crate::tables::MOST_MACHINES;
+use crate::tables::MOST_STATES;
+use crate::tables::Machines;
+ghost use mathlib.Core.Path.{_≡_};
+ghost use Prim.Native.Nat.{_≤_};
+ghost use Rattle.session.specs.Said.{saidField, numberWith, filledWith};
+ghost use Rattle.session.specs.Machines.{readFactor, readSizes, readStarts, countedMachines, readMachines};
+
+pub struct MachinesRead {
+    pub filled: Filled,
+    pub machines: Machines,
+}
+
+// How many states the next machine has, after machines with this product.
+fn read_factor(s: &[u8], at: usize, product: usize) -> Field
+    requires { ⌜ product ≤ 256 ⌝ }
+    ensures { λ r. ⌜ saidField r ≡ readFactor (now (s .entry)) at product ⌝ }
+{
+    match read_within(s, at, 1, MOST_STATES) {
+        Field::Refused(why) => Field::Refused(why),
+        Field::Value(v, next) => {
+            if MOST_CONTROLS < product * wide(v) {
+                return Field::Refused(Refusal::PassesLimit(at));
+            }
+            Field::Value(v, next)
+        }
+    }
+}
+
+// The states of each machine, and their product.
+fn read_sizes(s: &[u8], at: usize, count: usize, sizes: &mut [u8; 4]) -> Number
+    requires { ⌜ count ≤ 4 ⌝ }
+    ensures { λ r. ⌜ numberWith r (now (sizes .exit)) ≡ readSizes (now (s .entry)) count 0 at 1 (now (sizes .entry)) ⌝ }
+{
+    let mut product: usize = 1;
+    let mut place = at;
+    let mut i: usize = 0;
+    while i < count {
+        match read_factor(s, place, product) {
+            Field::Refused(why) => return Number::Refused(why),
+            Field::Value(v, next) => {
+                sizes[i] = v;
+                product = product * wide(v);
+                place = next;
+                i += 1;
+            }
+        }
+    }
+    Number::Value(product, place)
+}
+
+// The starting state of each machine.
+fn read_starts(s: &[u8], at: usize, count: usize, sizes: [u8; 4], starts: &mut [u8; 4]) -> Filled
+    requires { ⌜ count ≤ 4 ⌝ }
+    ensures { λ r. ⌜ filledWith r (now (starts .exit)) ≡ readStarts (now (s .entry)) sizes count 0 at (now (starts .entry)) ⌝ }
+{
+    let mut place = at;
+    let mut i: usize = 0;
+    while i < count {
+        match read_below(s, place, wide(sizes[i])) {
+            Field::Refused(why) => return Filled::Refused(why),
+            Field::Value(v, next) => {
+                starts[i] = v;
+                place = next;
+                i += 1;
+            }
+        }
+    }
+    Filled::To(place)
+}
+
+// Both, for machines of this count.
+fn read_counted(s: &[u8], at: usize, count: u8) -> MachinesRead
+    requires { ⌜ count ≤ 4 ⌝ }
+    ensures { λ r. ⌜ filledWith (r .filled) (r .machines) ≡ countedMachines (now (s .entry)) at count ⌝ }
+{
+    let mut states = [0u8; 4];
+    let mut starts = [0u8; 4];
+    match read_sizes(s, at, count as usize, &mut states) {
+        Number::Refused(why) => MachinesRead {
+            filled: Filled::Refused(why),
+            machines: Machines {
+                count,
+                product: 0,
+                states,
+                starts,
+            },
+        },
+        Number::Value(product, place) => {
+            let filled = read_starts(s, place, count as usize, states, &mut starts);
+            MachinesRead {
+                filled,
+                machines: Machines {
+                    count,
+                    product,
+                    states,
+                    starts,
+                },
+            }
+        }
+    }
+}
+
+pub fn read_machines(s: &[u8], at: usize) -> MachinesRead
+    ensures { λ r. ⌜ filledWith (r .filled) (r .machines) ≡ readMachines (now (s .entry)) at ⌝ }
+{
+    match read_within(s, at, 1, MOST_MACHINES) {
+        Field::Refused(why) => MachinesRead {
+            filled: Filled::Refused(why),
+            machines: Machines {
+                count: 0,
+                product: 0,
+                states: [0u8; 4],
+                starts: [0u8; 4],
+            },
+        },
+        Field::Value(count, place) => read_counted(s, place, count),
+    }
+}

@@ -1,0 +1,45 @@
+// Field 5: the root of each control state.
+use crate::number::Field;
+use crate::number::Filled;
+use crate::number::read_within;
+use crate::tables::Map;
+ghost use mathlib.Core.Path.{_≡_};
+ghost use Prim.Native.Nat.{_≤_};
+ghost use Rattle.session.specs.Said.{filledWith};
+ghost use Rattle.session.specs.Map.{readRoots, readMap};
+
+pub struct MapRead {
+    pub filled: Filled,
+    pub map: Map,
+}
+
+fn read_roots(s: &[u8], at: usize, n: u8, count: usize, roots: &mut [u8; 256]) -> Filled
+    requires { ⌜ count ≤ 256 ⌝ }
+    ensures { λ r. ⌜ filledWith r (now (roots .exit)) ≡ readRoots (now (s .entry)) n count 0 at (now (roots .entry)) ⌝ }
+{
+    let mut place = at;
+    let mut i: usize = 0;
+    while i < count {
+        match read_within(s, place, 0, n) {
+            Field::Refused(why) => return Filled::Refused(why),
+            Field::Value(v, next) => {
+                roots[i] = v;
+                place = next;
+                i += 1;
+            }
+        }
+    }
+    Filled::To(place)
+}
+
+pub fn read_map(s: &[u8], at: usize, product: usize, n: u8) -> MapRead
+    requires { ⌜ product ≤ 256 ⌝ }
+    ensures { λ r. ⌜ filledWith (r .filled) (r .map) ≡ readMap (now (s .entry)) product n at ⌝ }
+{
+    let mut roots = [0u8; 256];
+    let filled = read_roots(s, at, n, product, &mut roots);
+    MapRead {
+        filled,
+        map: Map { roots },
+    }
+}

@@ -1,0 +1,188 @@
+// Field 4: the pool of diagram states, and arc lookup.
+use crate::kinds::DiagramState;
+use crate::kinds::Message;
+use crate::number::Field;
+use crate::number::Filled;
+use crate::number::Pair;
+use crate::number::read_below;
+use crate::number::read_within;
+use crate::number::wide;
+use crate::refusal::Refusal;
+use crate::tables::ARCS;
+use crate::tables::MOST_POOL;
+use crate::tables::Pool;
+ghost use mathlib.Core.Path.{_≡_};
+ghost use Prim.Native.Nat.{_≤_};
+ghost use Rattle.session.specs.Said.{saidField, saidPair, fieldWith, filledWith, saidArc};
+ghost use Rattle.session.specs.Pool.{arcAt, readAscending, readArc, readArcs, readState, readStates, readPool};
+
+// Where an arc leads.
+pub enum Arc {
+    Target(DiagramState),
+    Nowhere,
+}
+
+pub struct PoolRead {
+    pub filled: Filled,
+    pub pool: Pool,
+}
+
+// The arc of a state for a message, in the dense table of arcs.
+pub fn arc_of(arcs: &[u8], s: DiagramState, m: Message) -> Arc
+    ensures { λ r. ⌜ saidArc r ≡ arcAt (now (arcs .entry)) (s .0) (m .0) ⌝ }
+{
+    let i = wide(s.0) * ARCS + wide(m.0);
+    if i < arcs.len() {
+        let target = arcs[i];
+        if target == 0 {
+            return Arc::Nowhere;
+        }
+        return Arc::Target(DiagramState(target - 1));
+    }
+    Arc::Nowhere
+}
+
+// An arc's message, which is not below the least that still ascends.
+fn read_ascending(s: &[u8], at: usize, sum: u8, least: usize) -> Field
+    ensures { λ r. ⌜ saidField r ≡ readAscending (now (s .entry)) at sum least ⌝ }
+{
+    match read_below(s, at, wide(sum)) {
+        Field::Refused(why) => Field::Refused(why),
+        Field::Value(m, next) => {
+            if wide(m) < least {
+                return Field::Refused(Refusal::NotAscending(at));
+            }
+            Field::Value(m, next)
+        }
+    }
+}
+
+// An arc: its message and its target.
+fn read_arc(s: &[u8], at: usize, n: u8, sum: u8, least: usize) -> Pair
+    ensures { λ r. ⌜ saidPair r ≡ readArc (now (s .entry)) at n sum least ⌝ }
+{
+    match read_ascending(s, at, sum, least) {
+        Field::Refused(why) => Pair::Refused(why),
+        Field::Value(m, place) => match read_below(s, place, wide(n)) {
+            Field::Refused(why) => Pair::Refused(why),
+            Field::Value(t, next) => Pair::Values(m, t, next),
+        },
+    }
+}
+
+// The arcs of a state, into the entries from row on.
+fn read_arcs(
+    s: &[u8],
+    at: usize,
+    n: u8,
+    sum: u8,
+    row: usize,
+    count: usize,
+    arcs: &mut [u8; 4064],
+) -> Filled
+    requires { ⌜ n ≤ 127 ⌝ }
+    requires { ⌜ sum ≤ 32 ⌝ }
+    requires { ⌜ row ≤ 4032 ⌝ }
+    ensures { λ r. ⌜ filledWith r (now (arcs .exit)) ≡ readArcs (now (s .entry)) n sum row count at 0 (now (arcs .entry)) ⌝ }
+{
+    let mut place = at;
+    let mut least: usize = 0;
+    let mut i: usize = 0;
+    while i < count {
+        match read_arc(s, place, n, sum, least) {
+            Pair::Refused(why) => return Filled::Refused(why),
+            Pair::Values(m, t, next) => {
+                let raw = wide(m);
+                arcs[row + raw] = t + 1;
+                least = raw + 1;
+                place = next;
+                i += 1;
+            }
+        }
+    }
+    Filled::To(place)
+}
+
+// A state: whether it is final, and its arcs.
+fn read_state(s: &[u8], at: usize, n: u8, sum: u8, row: usize, arcs: &mut [u8; 4064]) -> Field
+    requires { ⌜ n ≤ 127 ⌝ }
+    requires { ⌜ sum ≤ 32 ⌝ }
+    requires { ⌜ row ≤ 4032 ⌝ }
+    ensures { λ r. ⌜ fieldWith r (now (arcs .exit)) ≡ readState (now (s .entry)) n sum row at (now (arcs .entry)) ⌝ }
+{
+    match read_below(s, at, 2) {
+        Field::Refused(why) => Field::Refused(why),
+        Field::Value(last, place) => match read_within(s, place, 0, sum) {
+            Field::Refused(why) => Field::Refused(why),
+            Field::Value(count, begin) => match read_arcs(
+                s,
+                begin,
+                n,
+                sum,
+                row,
+                wide(count),
+                arcs,
+            ) {
+                Filled::Refused(why) => Field::Refused(why),
+                Filled::To(next) => Field::Value(last, next),
+            },
+        },
+    }
+}
+
+fn read_states(
+    s: &[u8],
+    at: usize,
+    n: u8,
+    sum: u8,
+    finals: &mut [u8; 127],
+    arcs: &mut [u8; 4064],
+) -> Filled
+    requires { ⌜ n ≤ 127 ⌝ }
+    requires { ⌜ sum ≤ 32 ⌝ }
+    ensures { λ r. ⌜ filledWith r (now (finals .exit), now (arcs .exit)) ≡ readStates (now (s .entry)) n sum n 0 at (now (finals .entry)) (now (arcs .entry)) ⌝ }
+{
+    let count = n as usize;
+    let mut place = at;
+    let mut i: usize = 0;
+    while i < count {
+        match read_state(s, place, n, sum, i * ARCS, arcs) {
+            Field::Refused(why) => return Filled::Refused(why),
+            Field::Value(last, next) => {
+                finals[i] = last;
+                place = next;
+                i += 1;
+            }
+        }
+    }
+    Filled::To(place)
+}
+
+pub fn read_pool(s: &[u8], at: usize, sum: u8) -> PoolRead
+    requires { ⌜ sum ≤ 32 ⌝ }
+    ensures { λ r. ⌜ filledWith (r .filled) (r .pool) ≡ readPool (now (s .entry)) sum at ⌝ }
+{
+    let mut finals = [0u8; 127];
+    let mut arcs = [0u8; 4064];
+    match read_within(s, at, 1, MOST_POOL) {
+        Field::Refused(why) => PoolRead {
+            filled: Filled::Refused(why),
+            pool: Pool {
+                count: 0,
+                finals,
+                arcs,
+            },
+        },
+        Field::Value(count, place) => {
+            let filled = read_states(s, place, count, sum, &mut finals, &mut arcs);
+            PoolRead {
+                filled,
+                pool: Pool {
+                    count,
+                    finals,
+                    arcs,
+                },
+            }
+        }
+    }
+}

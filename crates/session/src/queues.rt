@@ -1,0 +1,110 @@
+// Field 2: the queues.
+use crate::number::Field;
+use crate::number::Filled;
+use crate::number::entry;
+use crate::number::read_within;
+use crate::number::wide;
+use crate::refusal::Refusal;
+use crate::tables::MOST_MESSAGES;
+use crate::tables::MOST_QUEUES;
+use crate::tables::Queues;
+ghost use mathlib.Core.Path.{_≡_};
+ghost use Prim.Native.Nat.{_≤_};
+ghost use Rattle.session.specs.Said.{saidField, fieldWith, filledWith};
+ghost use Rattle.session.specs.Queues.{readTerm, readCounts, readQueues, Spans};
+
+pub struct QueuesRead {
+    pub filled: Filled,
+    pub queues: Queues,
+}
+
+// The messages of a queue: from lo on and below hi.
+pub struct Span {
+    pub lo: usize,
+    pub hi: usize,
+}
+
+// How many messages the next queue has, after queues with this sum.
+fn read_term(s: &[u8], at: usize, sum: u8) -> Field
+    ensures { λ r. ⌜ saidField r ≡ readTerm (now (s .entry)) at sum ⌝ }
+{
+    match read_within(s, at, 1, MOST_MESSAGES) {
+        Field::Refused(why) => Field::Refused(why),
+        Field::Value(v, next) => {
+            if (MOST_MESSAGES as usize) < (sum as usize) + wide(v) {
+                return Field::Refused(Refusal::PassesLimit(at));
+            }
+            Field::Value(v, next)
+        }
+    }
+}
+
+// The messages of each queue, and their sum.
+fn read_counts(s: &[u8], at: usize, count: usize, counts: &mut [u8; 4]) -> Field
+    requires { ⌜ count ≤ 4 ⌝ }
+    ensures { λ r. ⌜ fieldWith r (now (counts .exit)) ≡ readCounts (now (s .entry)) count 0 at 0 (now (counts .entry)) ⌝ }
+{
+    let mut sum: u8 = 0;
+    let mut place = at;
+    let mut i: usize = 0;
+    while i < count {
+        match read_term(s, place, sum) {
+            Field::Refused(why) => return Field::Refused(why),
+            Field::Value(v, next) => {
+                counts[i] = v;
+                sum = sum + v;
+                place = next;
+                i += 1;
+            }
+        }
+    }
+    Field::Value(sum, place)
+}
+
+pub fn read_queues(s: &[u8], at: usize) -> QueuesRead
+    ensures { λ r. ⌜ filledWith (r .filled) (r .queues) ≡ readQueues (now (s .entry)) at ⌝ }
+{
+    let mut messages = [0u8; 4];
+    match read_within(s, at, 1, MOST_QUEUES) {
+        Field::Refused(why) => QueuesRead {
+            filled: Filled::Refused(why),
+            queues: Queues {
+                count: 0,
+                sum: 0,
+                messages,
+            },
+        },
+        Field::Value(count, place) => match read_counts(s, place, wide(count), &mut messages) {
+            Field::Refused(why) => QueuesRead {
+                filled: Filled::Refused(why),
+                queues: Queues {
+                    count: 0,
+                    sum: 0,
+                    messages,
+                },
+            },
+            Field::Value(sum, next) => QueuesRead {
+                filled: Filled::To(next),
+                queues: Queues {
+                    count,
+                    sum,
+                    messages,
+                },
+            },
+        },
+    }
+}
+
+// The messages of one queue.
+pub fn messages_of(counts: [u8; 4], queue: u8) -> Span
+    ensures { λ r. ⌜ Spans counts queue r ⌝ }
+{
+    let mut lo: usize = 0;
+    let mut i: u8 = 0;
+    while i < queue {
+        lo = lo + wide(entry(&counts, i as usize));
+        i += 1;
+    }
+    let hi = lo + wide(entry(&counts, queue as usize));
+    Span { lo, hi }
+}
