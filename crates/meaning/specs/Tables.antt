@@ -1,0 +1,77 @@
+-- The session that the tables of a file describe. Its projections compute, so a proof pays nothing for it.
+use Prim.Native.Nat.{ℕ, zero, suc, _+_, _-_, _*_}
+use mathlib.Core.Bool.{Bool, true, false}
+use mathlib.Core.Option.{Option, none, some}
+use mathlib.Core.List.{List, [], _∷_}
+use lib.ListN.{getD, take, drop}
+use lib.Dec.{ltb, eqb}
+use Rattle.session.specs.Limits.{mostMessages}
+use Rattle.session.specs.Transitions.{rowLength}
+use Rattle.session.specs.Pool.{arcAt}
+use Rattle.session.specs.declared.tables.Machines.{Machines}
+use Rattle.session.specs.declared.tables.Queues.{Queues}
+use Rattle.session.specs.declared.tables.Transitions.{Transitions}
+use Rattle.session.specs.declared.tables.Pool as Declared
+use Rattle.session.specs.declared.tables.Tables.{Tables}
+use Rattle.model.specs.Model.{Model, Action, local, send, receive, Transition}
+use Rattle.model.specs.Diagram.{Pool}
+use Rattle.model.specs.Session.{Session}
+
+-- the word of the transition whose row begins at entry row
+abbrev pub wordAt : List ℕ → ℕ → List ℕ
+wordAt rows row = take (getD rows (row + 5) 0) (drop (row + 6) rows)
+
+-- kinds: 0 local, 1 send, 2 receive
+abbrev pub actionOf : ℕ → ℕ → List ℕ → Action
+actionOf zero q w = local
+actionOf (suc zero) q w = send q w
+actionOf (suc (suc k)) q w = receive q w
+
+abbrev pub transitionAt : List ℕ → ℕ → Transition
+transitionAt rows row =
+    record {
+      machine = getD rows row 0;
+      from = getD rows (row + 1) 0;
+      to = getD rows (row + 2) 0;
+      action = actionOf (getD rows (row + 3) 0) (getD rows (row + 4) 0) (wordAt rows row);
+    }
+
+-- so many transitions from number t on
+abbrev pub transitionsFrom : List ℕ → ℕ → ℕ → List Transition
+transitionsFrom rows zero t = []
+transitionsFrom rows (suc left) t = transitionAt rows (t * rowLength) ∷ transitionsFrom rows left (suc t)
+
+abbrev pub modelOf : Machines → Queues → Transitions → Model
+modelOf m q τ =
+    record {
+      sizes = take (m .count) (m .states);
+      starts = take (m .count) (m .starts);
+      queues = take (q .count) (q .messages);
+      transitions = transitionsFrom (τ .rows) (τ .count) 0;
+    }
+
+-- a state's entries of the table of arcs are for the messages below 32
+abbrev pub arcOf : List ℕ → ℕ → ℕ → Option ℕ
+arcOf arcs s m = elim (ltb m mostMessages) [ true ↦ arcAt arcs s m | false ↦ none ]
+
+abbrev pub poolOf : Declared.Pool → Pool
+poolOf P = record { states = P .count; final = λ s. eqb (getD (P .finals) s 0) 1; arc = arcOf (P .arcs) }
+
+-- 0 is no root, else 1 is added to it
+abbrev pub rootOf : List ℕ → ℕ → Option ℕ
+rootOf roots c = elim (eqb (getD roots c 0) 0) [ true ↦ none | false ↦ some (getD roots c 0 - 1) ]
+
+-- so many bad entries from number b on
+abbrev pub entriesFrom : List ℕ → ℕ → ℕ → List (ℕ × ℕ)
+entriesFrom rows zero b = []
+entriesFrom rows (suc left) b = (getD rows (b * 2) 0, getD rows (b * 2 + 1) 0) ∷ entriesFrom rows left (suc b)
+
+-- THE SESSION of a file that was read
+abbrev pub sessionOf : Tables → Session
+sessionOf T =
+    record {
+      model = modelOf (T .machines) (T .queues) (T .transitions);
+      pool = poolOf (T .pool);
+      root = rootOf (T .map .roots);
+      bad = entriesFrom (T .bad .rows) (T .bad .count) 0;
+    }
