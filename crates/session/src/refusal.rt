@@ -1,4 +1,7 @@
 // Why a file is turned away. Each case but the first has its place in the bytes.
+use crate::tables::MOST_BYTES;
+ghost use mathlib.Core.Path.{_≡_};
+ghost use Rattle.session.specs.Said.{numberOf, placeOf};
 
 pub enum Refusal {
     // more bytes than a file may have
@@ -19,4 +22,38 @@ pub enum Refusal {
     NotInQueueOrder(usize),
     // bytes after the last field
     Trailing(usize),
+}
+
+// The refusal's number in document 01.
+pub fn number(why: Refusal) -> usize
+    ensures { λ r. ⌜ r ≡ numberOf why ⌝ }
+{
+    match why {
+        Refusal::TooLong => 1,
+        Refusal::Ends(_) => 3,
+        Refusal::NotShortest(_) => 4,
+        Refusal::OutOfRange(_) => 5,
+        Refusal::PassesLimit(_) => 6,
+        Refusal::OtherQueue(_) => 7,
+        Refusal::NotAscending(_) => 8,
+        Refusal::NotInQueueOrder(_) => 9,
+        Refusal::Trailing(_) => 10,
+    }
+}
+
+// And its place.
+pub fn place(why: Refusal) -> usize
+    ensures { λ r. ⌜ r ≡ placeOf why ⌝ }
+{
+    match why {
+        Refusal::TooLong => MOST_BYTES,
+        Refusal::Ends(at) => at,
+        Refusal::NotShortest(at) => at,
+        Refusal::OutOfRange(at) => at,
+        Refusal::PassesLimit(at) => at,
+        Refusal::OtherQueue(at) => at,
+        Refusal::NotAscending(at) => at,
+        Refusal::NotInQueueOrder(at) => at,
+        Refusal::Trailing(at) => at,
+    }
 }

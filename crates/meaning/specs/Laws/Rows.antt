@@ -1,0 +1,88 @@
+-- The model's transitions and bad entries are the rows of the tables, and so are within the ranges of the rows.
+use Prim.Native.Nat.{ℕ, zero, suc, _+_, _*_, _≤_, _<_}
+use mathlib.Core.Path.{_≡_, refl, sym, ap, subst}
+use mathlib.Core.List.{List, List·Memᴰ·not-nil}
+use lib.ListN.{length, getD, take, drop}
+use lib.Seq.{getD-drop, getD-take, length-take-le}
+use native.Mathlib.Omega.{arith}
+use Rattle.session.specs.Transitions.{rowLength}
+use Rattle.session.specs.Laws.Queues.{QueuesValid}
+use Rattle.session.specs.Laws.Transitions.{RowValid, TransitionsValid}
+use Rattle.session.specs.Laws.Bad.{BadValid}
+use Rattle.session.specs.declared.tables.Machines.{Machines}
+use Rattle.session.specs.declared.tables.Queues.{Queues}
+use Rattle.session.specs.declared.tables.Transitions.{Transitions}
+use Rattle.session.specs.declared.tables.BadList.{BadList}
+use Rattle.explore.specs.Mem.{Mem, here, there}
+use Rattle.model.specs.Model.{Transition, first, Between}
+use Rattle.model.specs.Session.{OwnWord}
+use Rattle.meaning.specs.Tables.{wordAt, actionOf, transitionAt, transitionsFrom, modelOf, entriesFrom}
+use Rattle.meaning.specs.Laws.Counts.{first-is, between-take}
+
+pub transitions-length : (rows : List ℕ) (left t : ℕ) → length (transitionsFrom rows left t) ≡ left
+transitions-length rows zero t = refl
+transitions-length rows (suc left) t = ap suc (transitions-length rows left (suc t))
+
+pub entries-length : (rows : List ℕ) (left b : ℕ) → length (entriesFrom rows left b) ≡ left
+entries-length rows zero b = refl
+entries-length rows (suc left) b = ap suc (entries-length rows left (suc b))
+
+-- which row a transition is
+pub transition-row : (rows : List ℕ) (left t : ℕ) (τ : Transition) → Mem τ (transitionsFrom rows left t)
+    → (j : ℕ) × (j < t + left) × (τ ≡ transitionAt rows (j * rowLength))
+transition-row rows zero t τ m = absurd (List·Memᴰ·not-nil m)
+transition-row rows (suc left) t τ (here e) = (t, omega arith, e)
+transition-row rows (suc left) t τ (there m) = let (j, l, e) = transition-row rows left (suc t) τ m in (j, omega arith, e)
+
+-- and which a bad entry is
+pub entry-row : (rows : List ℕ) (left b : ℕ) (e : ℕ × ℕ) → Mem e (entriesFrom rows left b)
+    → (j : ℕ) × (j < b + left) × (e ≡ (getD rows (j * 2) 0, getD rows (j * 2 + 1) 0))
+entry-row rows zero b e m = absurd (List·Memᴰ·not-nil m)
+entry-row rows (suc left) b e (here p) = (b, omega arith, p)
+entry-row rows (suc left) b e (there m) = let (j, l, p) = entry-row rows left (suc b) e m in (j, omega arith, p)
+
+module _ (m : Machines) (q : Queues) (τ : Transitions) (Q : QueuesValid q) where
+  -- the word of a row is of messages of its queue
+  row-word : (row : ℕ) → RowValid m q (τ .rows) row
+      → (getD (τ .rows) (row + 4) 0 < length (take (q .count) (q .messages)))
+      × Between (first (modelOf m q τ) (getD (τ .rows) (row + 4) 0)) (first (modelOf m q τ) (suc (getD (τ .rows) (row + 4) 0))) (wordAt (τ .rows) row)
+  row-word row r =
+      let a = r .action in
+      let p = getD (τ .rows) (row + 4) 0 in
+      let long = length-take-le (q .count) (q .messages) (omega (arith, Q .most, Q .long)) in
+      let lo = first-is (q .messages) (q .count) p (omega (arith, a .queue)) in
+      let hi = first-is (q .messages) (q .count) (suc p) (a .queue) in (
+        omega (arith, a .queue),
+        between-take (getD (τ .rows) (row + 5) 0) (drop (row + 6) (τ .rows))
+            (λ j l.
+            let e = getD-drop (row + 6) (τ .rows) j 0 in
+            let o = a .word j l in
+            (omega (arith, o .from), omega (arith, o .below))),
+      )
+
+  own-word : (k row : ℕ) → RowValid m q (τ .rows) row → OwnWord (modelOf m q τ) (actionOf k (getD (τ .rows) (row + 4) 0) (wordAt (τ .rows) row))
+  own-word zero row r = tt
+  own-word (suc zero) row r = row-word row r
+  own-word (suc (suc k)) row r = row-word row r
+
+  pub words-own : TransitionsValid m q τ → (σ : Transition) → Mem σ (modelOf m q τ .transitions) → OwnWord (modelOf m q τ) (σ .action)
+  words-own v σ h =
+      let (j, l, e) = transition-row (τ .rows) (τ .count) 0 σ h in
+      subst (λ ρ. OwnWord (modelOf m q τ) (ρ .action)) (sym e)
+      (own-word (getD (τ .rows) (j * rowLength + 3) 0) (j * rowLength) (v .row j (omega arith)))
+
+  -- a transition leads to a state of its machine
+  pub moves-within : m .count ≤ length (m .states) → TransitionsValid m q τ → (σ : Transition) → Mem σ (modelOf m q τ .transitions)
+      → σ .to < getD (modelOf m q τ .sizes) (σ .machine) 0
+  moves-within long v σ h =
+      let (j, l, e) = transition-row (τ .rows) (τ .count) 0 σ h in
+      let r = v .row j (omega arith) .move in
+      let machine = getD (τ .rows) (j * rowLength) 0 in
+      let same = getD-take (m .count) (m .states) machine 0 (r .machine) in
+      subst (λ ρ. ρ .to < getD (modelOf m q τ .sizes) (ρ .machine) 0) (sym e) (omega (arith, same, r .to))
+
+-- the root of a bad entry is a state of the pool
+pub entries-within : (product n : ℕ) (B : BadList) → BadValid product n B → (e : ℕ × ℕ) → Mem e (entriesFrom (B .rows) (B .count) 0) → e .1 < n
+entries-within product n B v e h =
+    let (j, l, p) = entry-row (B .rows) (B .count) 0 e h in
+    subst (λ x. x .1 < n) (sym p) (v .root j (omega arith))

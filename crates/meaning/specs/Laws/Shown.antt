@@ -1,0 +1,105 @@
+-- The contents shown fit the contents buffer, one byte for each message, and the buffer keeps its length.
+use Prim.Native.Nat.{ℕ, zero, suc, _+_, _*_, _≤_, zero-le}
+use mathlib.Core.Path.{_≡_, refl, sym, subst}
+use mathlib.Core.List.{List, [], _∷_}
+use lib.ListN.{length, drop, take, getD, length-append, length-drop, length-take}
+use native.Mathlib.Omega.{arith}
+use native.Mathlib.Nat.{mul-le-mul}
+use Rattle.session.specs.Part as Part
+use Rattle.session.specs.Limits.{mostWord, mostMessages}
+use Rattle.session.specs.Transitions.{rowLength}
+use Rattle.session.specs.Laws.Valid.{Valid}
+use Rattle.session.specs.declared.tables.Tables.{Tables}
+use Rattle.explore.specs.Mem.{Mem, here, there}
+use Rattle.model.specs.Model.{Between, nothing, Contents}
+use Rattle.model.specs.Diagram.{word}
+use Rattle.model.specs.Session.{Session, WellFormed}
+use Rattle.model.specs.Verdict.{Item, start, step, entry, items, mostPairs, Reply, closed, outside, leaves, bad, Means}
+use Rattle.model.specs.Judge.{Judged, passes, fails, judge, reply, decide, out}
+use Rattle.model.specs.Judge as Judge
+use Rattle.model.specs.Laws.Queues.{word-between, between-wide}
+use Rattle.model.specs.Laws.Items.{IsItem, item-is, at-place}
+use Rattle.model.specs.Laws.Lengths.{taken, shown-bound}
+use Rattle.model.specs.Laws.Verdicts.{verdict-means}
+use Rattle.meaning.specs.Tables.{actionOf, sessionOf}
+use Rattle.meaning.specs.Reply.{FileReply, refused, verdict, replyTo, shownOf}
+use Rattle.meaning.specs.Checking.{contentsAfter}
+use Rattle.meaning.specs.Laws.Rows.{transition-row}
+use Rattle.meaning.specs.Laws.Order.{messages-are}
+use Rattle.meaning.specs.Laws.Sessions.{well-formed}
+use Rattle.meaning.specs.Laws.Claims.{Sound}
+
+-- a failing item shows no more than w
+reply-shows : (i : Item) (w : List ℕ) (b : ℕ) → length w ≤ b → length (shownOf (verdict (reply i w))) ≤ b
+reply-shows start w b h = zero-le
+reply-shows (step c t τ) w b h = h
+reply-shows (entry c e) w b h = h
+
+module _ (S : Session) (wf : WellFormed S) (b : ℕ) (most : (i : Item) → IsItem S i → mostPairs (S .pool .states) + length (taken i) ≤ b) where
+  decided-fits : (is : List Item) (n : ℕ) → ((i : Item) → Mem i is → IsItem S i) → length (shownOf (verdict (decide S is n))) ≤ b
+  unfolding decide
+  decided-fits [] n h = zero-le
+  decided-fits (i ∷ is) n h = byJudgement (judge S i) refl (λ k. decided-fits is (n + k) (λ j m. h j (there m)))
+    where
+      byJudgement : (j : Judged) → judge S i ≡ j → ((k : ℕ) → length (shownOf (verdict (decide S is (n + k)))) ≤ b)
+          → length (shownOf (verdict (elim j [ passes k ↦ decide S is (n + k) | fails w ↦ reply i w ]))) ≤ b
+      byJudgement (passes k) e rest = rest k
+      byJudgement (fails w) e rest =
+          let item = h i (here refl) in
+          let short = shown-bound S wf i item w e in
+          let all = most i item in
+          reply-shows i w b (omega arith)
+
+-- a word of a file has at most four messages
+module _ (T : Tables) (ok : Valid T) where
+  out-short : (k q len : ℕ) (t : List ℕ) → len ≤ mostWord → length (out (actionOf k q (take len t))) ≤ mostWord
+  out-short zero q len t h = zero-le
+  out-short (suc zero) q len t h = zero-le
+  out-short (suc (suc k)) q len t h = omega (arith, length-take len t)
+
+  taken-short : (i : Item) → IsItem (sessionOf T) i → length (taken i) ≤ mostWord
+  taken-short start h = zero-le
+  taken-short (step c t τ) (l, g, a) =
+      let rows = T .transitions .rows in
+      let (j, m, e) = transition-row rows (T .transitions .count) 0 τ (at-place (sessionOf T .model .transitions) t g) in
+      subst (λ σ. length (out (σ .action)) ≤ mostWord) (sym e)
+      (out-short (getD rows (j * rowLength + 3) 0) (getD rows (j * rowLength + 4) 0) (getD rows (j * rowLength + 5) 0)
+      (drop (j * rowLength + 6) rows) (ok .transitions .row j (omega arith) .action .most))
+  taken-short (entry b e) h = zero-le
+
+  shown-most : (i : Item) → IsItem (sessionOf T) i → mostPairs (T .pool .count) + length (taken i) ≤ 32516
+  shown-most i h =
+      let n = T .pool .count in
+      let few : n ≤ 127 = ok .pool .most in
+      let more : n + 1 ≤ 128 = omega arith in
+      omega (arith, mul-le-mul few more, taken-short i h)
+
+  session-fits : length (shownOf (verdict (Judge.verdict (sessionOf T)))) ≤ 32516
+  unfolding Judge.verdict
+  session-fits = decided-fits (sessionOf T) (well-formed T ok) 32516 shown-most (items (sessionOf T)) 0 (item-is (sessionOf T))
+
+-- THE CONTENTS SHOWN FIT
+pub shown-fits : (x : Part.Part Tables) → Sound x → length (shownOf (replyTo x)) ≤ 32516
+shown-fits (Part.refused k p) ok = zero-le
+shown-fits (Part.got T next) ok = session-fits T (ok T next refl)
+
+pub contents-length : (r : FileReply) (contents : List ℕ) → length (shownOf r) ≤ length contents → length (contentsAfter r contents) ≡ length contents
+contents-length r contents h = omega (arith, length-append (shownOf r) (drop (length (shownOf r)) contents), length-drop (length (shownOf r)) contents)
+
+-- EACH MESSAGE SHOWN is below the sum of the messages, and so a byte
+module _ (T : Tables) (ok : Valid T) where
+  fails-below : (qs : List (List ℕ)) (w : List ℕ) → Contents (sessionOf T .model) qs → word qs ≡ w → Between 0 mostMessages w
+  fails-below qs w c e =
+      let sum = messages-are (T .queues) (T .pool) (ok .queues) (ok .pool) in
+      subst (Between 0 mostMessages) e (between-wide (omega arith) (omega (arith, ok .queues .sumMost)) (word-between c))
+
+  meaning-below : (v : Reply) → Means (sessionOf T) (items (sessionOf T)) v → Between 0 mostMessages (shownOf (verdict v))
+  meaning-below (closed n) m = nothing
+  meaning-below outside m = nothing
+  meaning-below (leaves c t w) (τ, F) = fails-below (F .fails .shown .queues) w (F .fails .against .contents) (F .fails .contents)
+  meaning-below (bad b w) (e, F) = fails-below (F .fails .shown .queues) w (F .fails .against .contents) (F .fails .contents)
+
+pub shown-below : (x : Part.Part Tables) → Sound x → Between 0 mostMessages (shownOf (replyTo x))
+shown-below (Part.refused k p) ok = nothing
+shown-below (Part.got T next) ok =
+    meaning-below T (ok T next refl) (Judge.verdict (sessionOf T)) (verdict-means (sessionOf T) (well-formed T (ok T next refl)))

@@ -1,0 +1,53 @@
+// Reads a stream of files, each its length in three bytes, low byte first, and then its bytes, and prints what reading found
+// of each: the refusal or the counts, and a digest of every entry of the tables, used or not.
+mod digest;
+mod report;
+
+use report::report;
+use session::number::wide;
+
+// More files than a stream has: every loop has an end.
+const MOST_FILES: usize = 100000;
+
+fn main() {
+    let mut space = [0u8; 65536];
+    answer_all(&mut space);
+}
+
+fn answer_all(space: &mut [u8]) {
+    let mut left = MOST_FILES;
+    while 0 < left {
+        if !answer_next(space) {
+            return;
+        }
+        left -= 1;
+    }
+}
+
+// Answers the next file of the stream; false where there is none.
+fn answer_next(space: &mut [u8]) -> bool {
+    let mut head = [0u8; 3];
+    if io::read_full(0, &mut head) < 3 {
+        return false;
+    }
+    let length = wide(head[0]) + 256 * wide(head[1]) + 65536 * wide(head[2]);
+    if !fill_front(space, length) {
+        return false;
+    }
+    report_front(space, length);
+    true
+}
+
+// Fills the front of the space from standard input.
+fn fill_front(space: &mut [u8], length: usize) -> bool {
+    if space.len() < length {
+        return false;
+    }
+    length <= io::read_full(0, &mut space[..length])
+}
+
+fn report_front(space: &[u8], length: usize) {
+    if length <= space.len() {
+        report(&space[..length]);
+    }
+}

@@ -1,0 +1,75 @@
+//! One number over all entries of the tables, used or not, and the line that reading is compared by.
+
+use crate::read::{Refusal, Tables};
+
+const MODULUS: u64 = 16_777_213;
+
+struct Digest(u64);
+
+impl Digest {
+    fn add(&mut self, entry: impl Into<u64>) {
+        self.0 = (self.0 * 257 + entry.into() + 1) % MODULUS;
+    }
+
+    fn add_count(&mut self, count: usize) {
+        self.add(count as u64);
+    }
+
+    fn add_all(&mut self, entries: &[u8]) {
+        for &entry in entries {
+            self.add(entry);
+        }
+    }
+}
+
+pub fn digest(tables: &Tables) -> u64 {
+    let mut digest = Digest(0);
+    digest.add_count(tables.machine_count);
+    digest.add_all(&tables.states);
+    digest.add_all(&tables.starts);
+    digest.add_count(tables.control_state_count);
+    digest.add_count(tables.queue_count);
+    digest.add_all(&tables.messages);
+    digest.add_count(tables.message_sum);
+    digest.add_count(tables.transition_count);
+    for transition in &tables.transitions {
+        digest.add_all(&[
+            transition.machine,
+            transition.from,
+            transition.to,
+            transition.kind as u8,
+            transition.queue,
+            transition.length,
+        ]);
+        digest.add_all(&transition.messages);
+    }
+    digest.add_count(tables.pool_state_count);
+    for &is_final in &tables.finals {
+        digest.add(is_final);
+    }
+    digest.add_all(&tables.arcs);
+    digest.add_all(&tables.roots);
+    digest.add_count(tables.bad_count);
+    for entry in &tables.bad {
+        digest.add_all(&[entry.control_state, entry.root]);
+    }
+    digest.0
+}
+
+/// `refused N at P H` or `read M K Q s T n B H`.
+pub fn reading_line(reply: &Result<Tables, Refusal>) -> String {
+    match reply {
+        Err(refusal) => format!("{refusal} {}", digest(&Tables::empty())),
+        Ok(tables) => format!(
+            "read {} {} {} {} {} {} {} {}",
+            tables.machine_count,
+            tables.control_state_count,
+            tables.queue_count,
+            tables.message_sum,
+            tables.transition_count,
+            tables.pool_state_count,
+            tables.bad_count,
+            digest(tables)
+        ),
+    }
+}

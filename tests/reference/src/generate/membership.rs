@@ -1,0 +1,158 @@
+//! Questions of membership: every refusal, yes and no, and no for every reason.
+
+use super::document;
+use super::plan::{random_plan, Plan, Shape};
+use super::reading::{reading_cases, Expected};
+use crate::random::Random;
+use crate::stream::Question;
+
+/// What a question was made for.
+#[derive(Clone, Copy, Debug, PartialEq, Eq, PartialOrd, Ord)]
+pub enum Purpose {
+    Document,
+    /// Contents on a way through the diagram, to a final state if there is one.
+    OnTheWay,
+    /// Any contents in queue order.
+    InOrder,
+    NoRoot,
+    /// Refused by 11, whatever the contents.
+    ControlState,
+    /// Refused by 12 at the place given.
+    MessageTooHigh(usize),
+    /// Refused by 13 at the place given.
+    OutOfOrder(usize),
+    RefusedFile,
+    Long,
+}
+
+pub fn questions(seed: u64) -> Vec<(Purpose, Question)> {
+    let mut random = Random::new(seed);
+    let mut questions = document_questions();
+    for _ in 0..200 {
+        let plan = random_plan(&mut random, &Shape::SMALL);
+        questions.extend(on_the_way(&mut random, &plan));
+        questions.push(in_order(&mut random, &plan));
+        questions.push(control_state_too_high(&mut random, &plan));
+        questions.push(message_too_high(&mut random, &plan));
+        questions.extend(out_of_order(&mut random, &plan));
+        questions.extend(no_root(&mut random, &plan));
+    }
+    questions.extend(refused_files(&mut random, seed));
+    questions
+}
+
+fn document_questions() -> Vec<(Purpose, Question)> {
+    let about = |file: &str, control_state: usize, contents: &[u8]| Question {
+        file: document::hex(file),
+        control_state,
+        contents: contents.to_vec(),
+    };
+    vec![
+        (Purpose::Document, about(document::S, 0, &[0, 1])),
+        (Purpose::Document, about(document::S, 0, &[1, 0])),
+        (Purpose::Document, about(document::S, 0, &[])),
+        (Purpose::Document, about(document::S, 1, &[])),
+        (Purpose::Document, about(document::S, 0, &[2])),
+        (Purpose::Document, about(document::S, 0, &[1, 2, 0])),
+        (Purpose::Document, about(document::R, 0, &[0, 0, 0])),
+        (Purpose::Document, about(document::R, 65_535, &[255])),
+        (Purpose::Long, about(document::R, 0, &[0; 20_000])),
+        (Purpose::MessageTooHigh(20_000), about(document::R, 0, &[&[0; 20_000][..], &[1]].concat())),
+    ]
+}
+
+fn about(plan: &Plan, control_state: usize, contents: &[usize]) -> Question {
+    let contents = contents.iter().map(|&message| message as u8).collect();
+    Question { file: plan.bytes(), control_state, contents }
+}
+
+fn on_the_way(random: &mut Random, plan: &Plan) -> Option<(Purpose, Question)> {
+    let rooted: Vec<usize> =
+        (0..plan.roots.len()).filter(|&control_state| plan.roots[control_state].is_some()).collect();
+    let &control_state = random.pick(&rooted)?;
+    let mut state = plan.roots[control_state]?;
+    let mut contents = Vec::new();
+    for _ in 0..random.between(0, 12) {
+        let arcs: Vec<(usize, usize)> =
+            plan.pool[state].arcs.iter().map(|(&message, &target)| (message, target)).collect();
+        let Some(&(message, target)) = random.pick(&arcs) else { break };
+        contents.push(message);
+        state = target;
+        if plan.pool[state].is_final && random.chance(25) {
+            break;
+        }
+    }
+    Some((Purpose::OnTheWay, about(plan, control_state, &contents)))
+}
+
+fn word_in_order(random: &mut Random, plan: &Plan, longest: usize) -> Vec<usize> {
+    let mut contents: Vec<usize> = (0..random.between(0, longest)).map(|_| random.below(plan.message_sum())).collect();
+    contents.sort_by_key(|&message| plan.queue_of(message));
+    contents
+}
+
+fn in_order(random: &mut Random, plan: &Plan) -> (Purpose, Question) {
+    let contents = word_in_order(random, plan, 8);
+    (Purpose::InOrder, about(plan, random.below(plan.control_states()), &contents))
+}
+
+fn control_state_too_high(random: &mut Random, plan: &Plan) -> (Purpose, Question) {
+    let control_state = match random.below(3) {
+        0 => plan.control_states(),
+        1 => plan.control_states() + random.between(1, 300),
+        _ => random.between(256, 65_535),
+    };
+    let contents: Vec<usize> = (0..random.between(0, 4)).map(|_| random.below(256)).collect();
+    (Purpose::ControlState, about(plan, control_state, &contents))
+}
+
+/// Messages after the one that is too high are anything.
+fn message_too_high(random: &mut Random, plan: &Plan) -> (Purpose, Question) {
+    let mut contents = word_in_order(random, plan, 6);
+    let place = contents.len();
+    contents.push(if random.chance(50) { plan.message_sum() } else { random.between(plan.message_sum(), 255) });
+    contents.extend((0..random.between(0, 3)).map(|_| random.below(256)));
+    (Purpose::MessageTooHigh(place), about(plan, random.below(plan.control_states()), &contents))
+}
+
+/// A message of a later queue, then one of an earlier queue, then anything.
+fn out_of_order(random: &mut Random, plan: &Plan) -> Option<(Purpose, Question)> {
+    if plan.queues.len() < 2 {
+        return None;
+    }
+    let mut contents = word_in_order(random, plan, 5);
+    let later = random.between(1, plan.queues.len() - 1);
+    let earlier = random.between(0, later - 1);
+    contents.retain(|&message| plan.queue_of(message) <= later);
+    contents.push(plan.messages_of(later).start);
+    let place = contents.len();
+    contents.push(plan.messages_of(earlier).end - 1);
+    contents.extend((0..random.between(0, 3)).map(|_| random.below(256)));
+    Some((Purpose::OutOfOrder(place), about(plan, random.below(plan.control_states()), &contents)))
+}
+
+fn no_root(random: &mut Random, plan: &Plan) -> Option<(Purpose, Question)> {
+    let rootless: Vec<usize> =
+        (0..plan.roots.len()).filter(|&control_state| plan.roots[control_state].is_none()).collect();
+    let &control_state = random.pick(&rootless)?;
+    let contents = word_in_order(random, plan, 3);
+    Some((Purpose::NoRoot, about(plan, control_state, &contents)))
+}
+
+/// Files refused by each row; the question would be refused too.
+fn refused_files(random: &mut Random, seed: u64) -> Vec<(Purpose, Question)> {
+    let mut asked = [0; 11];
+    let mut questions = Vec::new();
+    for case in reading_cases(seed).cases.into_iter().rev() {
+        let Expected::Refused(number, _) = case.expected else { continue };
+        let count = &mut asked[usize::from(number)];
+        let enough = if number == 1 { 2 } else { 15 };
+        if *count < enough && (number == 1 || case.bytes.len() < 300) {
+            *count += 1;
+            let question =
+                Question { file: case.bytes, control_state: random.between(0, 300), contents: vec![random.byte()] };
+            questions.push((Purpose::RefusedFile, question));
+        }
+    }
+    questions
+}

@@ -1,0 +1,266 @@
+//! Files for checking: every verdict and refusal, and files that tell a mistaken checker from a right one.
+
+use std::collections::BTreeMap;
+
+use super::document;
+use super::large;
+use super::plan::{random_plan, random_transition, Direction, Plan, Shape};
+use super::reading::{reading_cases, Expected};
+use crate::decide::competitors;
+use crate::diagram::follow;
+use crate::random::Random;
+use crate::read::{read, Tables};
+use crate::traps::{verdict_with, Trap};
+use crate::verdict::Verdict;
+use crate::walk::{check_tables, Scratch};
+
+/// What `decide` can judge quickly.
+pub const SHAPE: Shape =
+    Shape { machines: 3, control_states: 6, queues: 3, messages: 4, transitions: 5, pool_states: 5, bad: 3 };
+
+pub struct Case {
+    pub kind: String,
+    pub bytes: Vec<u8>,
+}
+
+/// Plans that are raw, half mended or mended until they are closed.
+pub struct Plans {
+    pub random: Random,
+    scratch: Scratch,
+}
+
+impl Plans {
+    pub fn new(seed: u64) -> Self {
+        Plans { random: Random::new(seed), scratch: Scratch::default() }
+    }
+
+    pub fn judge(&mut self, plan: &Plan) -> (Tables, Verdict) {
+        let tables = read(&plan.bytes()).expect("plans are valid");
+        let verdict = check_tables(&tables, &mut self.scratch);
+        (tables, verdict)
+    }
+
+    /// A small plan.
+    pub fn small(&mut self) -> Plan {
+        self.mended(&SHAPE)
+    }
+
+    /// A plan of a shape with something to check, mended for no, some or many rounds.
+    pub fn mended(&mut self, shape: &Shape) -> Plan {
+        let mut plan = random_plan(&mut self.random, shape);
+        while plan.transitions.len() < 2 {
+            let transition = random_transition(&mut self.random, &plan);
+            plan.transitions.push(transition);
+        }
+        let mends = match self.random.below(4) {
+            0 => 0,
+            1 => self.random.between(1, 3),
+            2 => self.random.between(4, 12),
+            _ => 60,
+        };
+        for round in 0..mends {
+            let (tables, verdict) = self.judge(&plan);
+            if !self.mend(&mut plan, &tables, &verdict, round) {
+                break;
+            }
+        }
+        plan
+    }
+
+    /// Changes what failed. False if nothing did.
+    fn mend(&mut self, plan: &mut Plan, tables: &Tables, verdict: &Verdict, round: usize) -> bool {
+        match verdict {
+            Verdict::Closed { .. } => return false,
+            Verdict::Outside => {
+                let start =
+                    plan.starts.iter().zip(&plan.states).fold(0, |number, (start, states)| number * states + start);
+                let root = *plan.roots[start].get_or_insert(self.random.below(plan.pool.len()));
+                plan.pool[root].is_final = true;
+            }
+            Verdict::Leaves { control_state, transition, contents } => {
+                // Growing the set may go on for ever, so after some rounds the step goes.
+                let grows = round < 30 && self.random.chance(70);
+                if !(grows && self.grow(plan, tables, *control_state, *transition, contents)) {
+                    plan.transitions.remove(*transition);
+                }
+            }
+            Verdict::Bad { entry, .. } => {
+                if self.random.chance(50) {
+                    plan.bad.remove(*entry);
+                } else {
+                    plan.bad[*entry].1 = self.random.below(plan.pool.len());
+                    plan.pool[plan.bad[*entry].1].is_final &= self.random.chance(70);
+                }
+            }
+        }
+        true
+    }
+
+    /// Lets the target accept the contents after the step, or comes a message nearer to it.
+    fn grow(
+        &mut self,
+        plan: &mut Plan,
+        tables: &Tables,
+        control_state: usize,
+        transition: usize,
+        contents: &[u8],
+    ) -> bool {
+        let step = &plan.transitions[transition];
+        let weight: usize = plan.states[step.machine + 1..].iter().product();
+        let next = control_state + step.to * weight - step.from * weight;
+        let Some(root) = plan.roots[next] else {
+            plan.roots[next] = Some(self.random.below(plan.pool.len()));
+            return true;
+        };
+        let after = contents_after(plan, transition, contents);
+        let taken = (0..=after.len()).rev().find(|&taken| follow(tables, Some(root), &after[..taken]).is_some());
+        let taken = taken.expect("no messages lead somewhere");
+        let state = follow(tables, Some(root), &after[..taken]).expect("just found");
+        if taken == after.len() {
+            plan.pool[state].is_final = true;
+            return true;
+        }
+        let message = usize::from(after[taken]);
+        let target = self.random.below(plan.pool.len());
+        plan.pool[state].arcs.insert(message, target);
+        // The new arc may break the queue order; then it is taken back.
+        let stays = read(&plan.bytes()).is_ok();
+        if !stays {
+            plan.pool[state].arcs.remove(&message);
+        }
+        stays
+    }
+}
+
+fn contents_after(plan: &Plan, transition: usize, contents: &[u8]) -> Vec<u8> {
+    let Some(action) = &plan.transitions[transition].action else { return contents.to_vec() };
+    let own = plan.messages_of(action.queue);
+    let begins = contents.iter().take_while(|&&message| usize::from(message) < own.start).count();
+    let ends = contents.iter().take_while(|&&message| usize::from(message) < own.end).count();
+    let word: Vec<u8> = action.word.iter().map(|&message| message as u8).collect();
+    match action.direction {
+        Direction::Send => [&contents[..ends], &word, &contents[ends..]].concat(),
+        Direction::Receive => [&contents[..begins], &contents[begins + word.len()..]].concat(),
+    }
+}
+
+const REFUSED_OF_EACH_ROW: usize = 130;
+/// Random plans that are looked at.
+const PLANS: usize = 60_000;
+
+/// How many files of each kind are kept.
+fn quota(kind: &str) -> usize {
+    match kind {
+        "closed, few pairs" => 200,
+        "closed" => 500,
+        "outside" => 150,
+        "leaves with 0" | "leaves with 1" => 250,
+        "leaves with 2" | "leaves with 3" => 200,
+        "leaves with 4 or more" => 250,
+        "leaves, competing" => 300,
+        "bad with 0" => 120,
+        "bad with 1" | "bad with 2 or more" => 150,
+        _ => 60,
+    }
+}
+
+pub fn verdict_cases(seed: u64) -> Vec<Case> {
+    let mut cases: Vec<Case> = document::cases()
+        .into_iter()
+        .chain(document::samples())
+        .map(|worked| Case { kind: format!("document: {}", worked.name), bytes: worked.bytes })
+        .collect();
+    cases.extend(refused_cases(seed));
+    cases.extend(large_cases(seed));
+
+    let mut plans = Plans::new(seed);
+    let mut kept: BTreeMap<String, usize> = BTreeMap::new();
+    for _ in 0..PLANS {
+        let plan = plans.small();
+        let (tables, verdict) = plans.judge(&plan);
+        let wanted = |kind: &str| kept.get(kind).copied().unwrap_or(0) < quota(kind);
+        if let Some(kind) = kind_of(&tables, &verdict, wanted) {
+            *kept.entry(kind.clone()).or_default() += 1;
+            cases.push(Case { kind, bytes: plan.bytes() });
+        }
+    }
+    cases
+}
+
+/// What a file is good for, the rarest first, if that is wanted.
+fn kind_of(tables: &Tables, verdict: &Verdict, wanted: impl Fn(&str) -> bool) -> Option<String> {
+    for trap in Trap::ALL {
+        let kind = format!("tells from {trap:?}");
+        if wanted(&kind) && verdict_with(tables, Some(trap)) != *verdict {
+            return Some(kind);
+        }
+    }
+    if competes(tables, verdict) && wanted("leaves, competing") {
+        return Some("leaves, competing".to_string());
+    }
+    let kind = match verdict {
+        Verdict::Closed { pairs } if *pairs < 10 => "closed, few pairs".to_string(),
+        Verdict::Closed { .. } => "closed".to_string(),
+        Verdict::Outside => "outside".to_string(),
+        Verdict::Leaves { contents, .. } if contents.len() >= 4 => "leaves with 4 or more".to_string(),
+        Verdict::Leaves { contents, .. } => format!("leaves with {}", contents.len()),
+        Verdict::Bad { contents, .. } if contents.len() >= 2 => "bad with 2 or more".to_string(),
+        Verdict::Bad { contents, .. } => format!("bad with {}", contents.len()),
+    };
+    wanted(&kind).then_some(kind)
+}
+
+/// Whether other contents of the same length fail too, so that the lowest must be chosen.
+fn competes(tables: &Tables, verdict: &Verdict) -> bool {
+    match verdict {
+        Verdict::Leaves { control_state, transition, contents } => {
+            contents.len() <= 5 && competitors(tables, *control_state, *transition, contents.len()) > 1
+        }
+        _ => false,
+    }
+}
+
+/// Walks that fill the tables, long contents, and middling files.
+fn large_cases(seed: u64) -> Vec<Case> {
+    let mut plans = Plans::new(seed + 2);
+    let mut files = vec![
+        large::long_local_leaves(),
+        large::long_send_leaves(),
+        large::last_step_leaves(),
+        large::last_entry_is_bad(),
+        large::many_dense_steps(&mut plans.random),
+    ];
+    for direction in [None, Some(Direction::Send), Some(Direction::Receive)] {
+        files.push(large::dense(&mut plans.random, direction));
+        files.push(large::with_holes(&mut plans.random, direction, 50));
+        files.push(large::with_holes(&mut plans.random, direction, 90));
+    }
+    for _ in 0..120 {
+        let plan = plans.mended(&Shape::MEDIUM);
+        files.push(plan);
+    }
+    files.into_iter().map(|plan| Case { kind: "large".to_string(), bytes: plan.bytes() }).collect()
+}
+
+/// Small refused files, spread evenly over what the generator for reading has for each row.
+fn refused_cases(seed: u64) -> Vec<Case> {
+    let mut by_row: BTreeMap<u8, Vec<Vec<u8>>> = BTreeMap::new();
+    for seed in [seed, seed + 1] {
+        for case in reading_cases(seed).cases {
+            if let Expected::Refused(number, _) = case.expected {
+                if case.bytes.len() < 300 || number == 1 {
+                    by_row.entry(number).or_default().push(case.bytes);
+                }
+            }
+        }
+    }
+    let mut cases = Vec::new();
+    for (number, files) in by_row {
+        // Files refused by 1 are long.
+        let count = if number == 1 { 2 } else { REFUSED_OF_EACH_ROW };
+        let stride = (files.len() / count).max(1);
+        let spread = files.into_iter().step_by(stride).take(count);
+        cases.extend(spread.map(|bytes| Case { kind: format!("refused by {number}"), bytes }));
+    }
+    cases
+}

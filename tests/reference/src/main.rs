@@ -1,0 +1,162 @@
+//! Streams of files and questions, and the lines that answer them.
+
+use std::cell::Cell;
+use std::io::{self, BufWriter, Read, Write};
+use std::process::ExitCode;
+
+use reference_checker::coverage::{membership_coverage, reading_coverage, verdict_coverage, Coverage};
+use reference_checker::decide::{decide, TooLarge};
+use reference_checker::digest::reading_line;
+use reference_checker::generate::large::maximal_closed;
+use reference_checker::generate::membership::questions;
+use reference_checker::generate::reading::reading_cases;
+use reference_checker::generate::verdicts::verdict_cases;
+use reference_checker::membership::{membership, membership_line};
+use reference_checker::random::Random;
+use reference_checker::read::read;
+use reference_checker::selftest::selftest;
+use reference_checker::stream::{put_file, put_question, Question, Records};
+use reference_checker::verdict::{line, Reply};
+use reference_checker::walk::{check, Scratch};
+
+/// The seed of every stream that is kept.
+const SEED: u64 = 20_261_115;
+
+const USAGE: &str = "\
+usage: reference COMMAND
+  generate-reading       write the stream of files for reading
+  reading                answer such a stream on standard input, one line a file
+  coverage               say what that stream hits; fails if a row is hit too seldom
+  generate-membership    write the stream of questions
+  membership             answer such a stream on standard input, one line a question
+  coverage-membership    say what that stream hits
+  generate-verdicts      write the stream of files for checking
+  verdicts               answer such a stream on standard input, one line a file
+  coverage-verdicts      say what that stream hits, and which mistakes it would tell
+  selftest SEED COUNT    compare all ways to the verdict on random small files
+  check                  check one file on standard input, by walking
+  maximal                write the longest file that is read";
+
+fn main() -> ExitCode {
+    let arguments: Vec<String> = std::env::args().skip(1).collect();
+    match run(&arguments) {
+        Ok(()) => ExitCode::SUCCESS,
+        Err(complaint) => {
+            eprintln!("{complaint}");
+            ExitCode::FAILURE
+        }
+    }
+}
+
+fn run(arguments: &[String]) -> Result<(), String> {
+    let arguments: Vec<&str> = arguments.iter().map(String::as_str).collect();
+    match arguments[..] {
+        ["generate-reading"] => {
+            let mut stream = Vec::new();
+            for case in reading_cases(SEED).cases {
+                put_file(&mut stream, &case.bytes);
+            }
+            write(&stream)
+        }
+        ["reading"] => answer_files(|file| reading_line(&read(file))),
+        ["coverage"] => tell(reading_coverage(&reading_cases(SEED))),
+        ["generate-verdicts"] => {
+            let mut stream = Vec::new();
+            for case in verdict_cases(SEED) {
+                put_file(&mut stream, &case.bytes);
+            }
+            write(&stream)
+        }
+        ["verdicts"] => {
+            let walked = Cell::new(0);
+            answer_files(|file| line(&verdict(file, &walked)))?;
+            if walked.get() > 0 {
+                eprintln!("{} files were too large to be decided by words and were walked", walked.get());
+            }
+            Ok(())
+        }
+        ["coverage-verdicts"] => tell(verdict_coverage(&verdict_cases(SEED))),
+        ["generate-membership"] => {
+            let mut stream = Vec::new();
+            for (_, question) in questions(SEED) {
+                put_question(&mut stream, &question);
+            }
+            write(&stream)
+        }
+        ["membership"] => answer_questions(),
+        ["coverage-membership"] => tell(membership_coverage(&questions(SEED))),
+        ["check"] => {
+            let file = standard_input()?;
+            println!("{}", line(&check(&file, &mut Scratch::default())));
+            Ok(())
+        }
+        ["maximal"] => write(&maximal_closed(&mut Random::new(SEED)).bytes()),
+        ["selftest", seed, count] => {
+            let agreement = selftest(number(seed)?, number(count)? as usize);
+            for (verdict, files) in &agreement.verdicts {
+                println!("{verdict}: {files}");
+            }
+            println!("too large to decide by words: {}", agreement.too_large_for_words);
+            println!("disagreements: {}", agreement.disagreements.len());
+            fail_on(&agreement.disagreements)
+        }
+        _ => Err(USAGE.to_string()),
+    }
+}
+
+fn number(text: &str) -> Result<u64, String> {
+    text.parse().map_err(|_| format!("{text} is not a number"))
+}
+
+/// By words, and by walking where there are too many.
+fn verdict(file: &[u8], walked: &Cell<usize>) -> Reply {
+    decide(file).unwrap_or_else(|TooLarge| {
+        walked.set(walked.get() + 1);
+        check(file, &mut Scratch::default())
+    })
+}
+
+fn tell(coverage: Coverage) -> Result<(), String> {
+    write(coverage.report.as_bytes())?;
+    fail_on(&coverage.complaints)
+}
+
+fn fail_on(complaints: &[String]) -> Result<(), String> {
+    if complaints.is_empty() {
+        Ok(())
+    } else {
+        Err(complaints.join("\n"))
+    }
+}
+
+fn answer_files(answer: impl Fn(&[u8]) -> String) -> Result<(), String> {
+    let stream = standard_input()?;
+    let mut records = Records(&stream);
+    let mut lines = BufWriter::new(io::stdout().lock());
+    while let Some(file) = records.file() {
+        writeln!(lines, "{}", answer(file?)).map_err(|error| error.to_string())?;
+    }
+    lines.flush().map_err(|error| error.to_string())
+}
+
+fn answer_questions() -> Result<(), String> {
+    let stream = standard_input()?;
+    let mut records = Records(&stream);
+    let mut lines = BufWriter::new(io::stdout().lock());
+    while let Some(question) = records.question() {
+        let Question { file, control_state, contents } = question?;
+        let line = membership_line(&membership(&file, control_state, &contents));
+        writeln!(lines, "{line}").map_err(|error| error.to_string())?;
+    }
+    lines.flush().map_err(|error| error.to_string())
+}
+
+fn standard_input() -> Result<Vec<u8>, String> {
+    let mut bytes = Vec::new();
+    io::stdin().lock().read_to_end(&mut bytes).map_err(|error| error.to_string())?;
+    Ok(bytes)
+}
+
+fn write(bytes: &[u8]) -> Result<(), String> {
+    io::stdout().lock().write_all(bytes).map_err(|error| error.to_string())
+}

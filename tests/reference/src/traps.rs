@@ -1,0 +1,303 @@
+//! Wrong verdicts on purpose: the mistakes that the document warns of, and others of their kind.
+//!
+//! A set of files is worth something only if each mistake changes the line of some of them. With no trap set, this is
+//! a third way to the verdict, slow and plain.
+
+use std::collections::HashSet;
+use std::ops::Range;
+
+use crate::diagram::follow;
+use crate::read::{Kind, Tables, Transition};
+use crate::verdict::Verdict;
+
+#[derive(Clone, Copy, Debug, PartialEq, Eq, PartialOrd, Ord)]
+pub enum Trap {
+    /// A sent word goes to the end of the whole word.
+    AppendAtTheVeryEnd,
+    /// A received word is taken from the front of the whole word.
+    ReceiveFromTheVeryFront,
+    /// A pair whose target has nowhere to go is dropped.
+    DropLostTarget,
+    /// A target that has nowhere to go fails even where the source does not accept.
+    LostTargetFailsAtOnce,
+    /// Pairs before and after the step are not kept apart.
+    OneSide,
+    /// Among words of equal length the step counts as lower than any message.
+    StepFirst,
+    /// Among words of equal length the highest is shown.
+    HighestFirst,
+    /// The contents shown for a receive lack the received word.
+    ReceiveShownWithoutWord,
+    /// The contents shown for a send have the sent word.
+    SendShownWithWord,
+    /// A receive puts its word in front instead of taking it away.
+    ReceivePutsWord,
+    /// Only the first step is walked.
+    FirstStepOnly,
+    /// The last machine is most significant.
+    LastMachineFirst,
+    /// A send or receive of the empty word has no pairs before it.
+    EmptyWordIsLocal,
+    /// A step to a control state without a root holds and counts nothing.
+    RootlessTargetHolds,
+    /// Pairs of a bad entry count also where its diagram is nowhere.
+    BadCountsLost,
+    /// The pair of a step's roots is not counted.
+    RootsUncounted,
+    /// A pair seen in an earlier item is not counted again.
+    CountedOnceInAll,
+    /// Steps are taken by transition, and within it by control state.
+    TransitionsOutermost,
+    /// Bad entries are tested before the steps.
+    BadBeforeSteps,
+    /// The root of a bad entry is read like one of the map, with 1 added.
+    BadRootWithOneAdded,
+    /// Steps from a control state to itself are left out.
+    SelfStepsSkipped,
+    /// The start is not tested.
+    StartUntested,
+}
+
+impl Trap {
+    pub const ALL: [Trap; 22] = [
+        Trap::AppendAtTheVeryEnd,
+        Trap::ReceiveFromTheVeryFront,
+        Trap::DropLostTarget,
+        Trap::LostTargetFailsAtOnce,
+        Trap::OneSide,
+        Trap::StepFirst,
+        Trap::HighestFirst,
+        Trap::ReceiveShownWithoutWord,
+        Trap::SendShownWithWord,
+        Trap::ReceivePutsWord,
+        Trap::FirstStepOnly,
+        Trap::LastMachineFirst,
+        Trap::EmptyWordIsLocal,
+        Trap::RootlessTargetHolds,
+        Trap::BadCountsLost,
+        Trap::RootsUncounted,
+        Trap::CountedOnceInAll,
+        Trap::TransitionsOutermost,
+        Trap::BadBeforeSteps,
+        Trap::BadRootWithOneAdded,
+        Trap::SelfStepsSkipped,
+        Trap::StartUntested,
+    ];
+}
+
+#[derive(Clone, Copy, Debug, PartialEq, Eq, Hash)]
+struct Node {
+    after: bool,
+    source: usize,
+    target: Option<usize>,
+}
+
+enum Item<'t> {
+    Step { control_state: usize, number: usize, transition: &'t Transition },
+    Bad { entry: usize },
+}
+
+/// What is searched for one item.
+struct Search<'t> {
+    kind: Kind,
+    word: &'t [u8],
+    before: Range<usize>,
+    after: Range<usize>,
+    is_bad: bool,
+}
+
+pub struct Judge<'t> {
+    tables: &'t Tables,
+    trap: Option<Trap>,
+    counted: HashSet<Node>,
+    pairs: usize,
+}
+
+/// The verdict with a mistake, or without one.
+pub fn verdict_with(tables: &Tables, trap: Option<Trap>) -> Verdict {
+    Judge { tables, trap, counted: HashSet::new(), pairs: 0 }.verdict()
+}
+
+impl<'t> Judge<'t> {
+    fn is(&self, trap: Trap) -> bool {
+        self.trap == Some(trap)
+    }
+
+    /// How far apart control states are that differ in one machine's state by one.
+    fn weight(&self, machine: usize) -> usize {
+        let states = &self.tables.states[..self.tables.machine_count];
+        let lower = if self.is(Trap::LastMachineFirst) { &states[..machine] } else { &states[machine + 1..] };
+        lower.iter().map(|&states| usize::from(states)).product()
+    }
+
+    fn root(&self, control_state: usize) -> Option<usize> {
+        usize::from(self.tables.roots[control_state]).checked_sub(1)
+    }
+
+    fn items(&self) -> Vec<Item<'t>> {
+        let tables = self.tables;
+        let mut steps = Vec::new();
+        for control_state in 0..tables.control_state_count {
+            for (number, transition) in tables.used_transitions().iter().enumerate() {
+                let machine = usize::from(transition.machine);
+                let state = control_state / self.weight(machine) % usize::from(tables.states[machine]);
+                let skipped = self.is(Trap::SelfStepsSkipped) && transition.from == transition.to;
+                if state == usize::from(transition.from) && !skipped {
+                    steps.push((control_state, number, transition));
+                }
+            }
+        }
+        if self.is(Trap::TransitionsOutermost) {
+            steps.sort_by_key(|&(control_state, number, _)| (number, control_state));
+        }
+        if self.is(Trap::FirstStepOnly) {
+            steps.truncate(1);
+        }
+        let mut items: Vec<Item> = steps
+            .into_iter()
+            .map(|(control_state, number, transition)| Item::Step { control_state, number, transition })
+            .collect();
+        let bad = (0..tables.bad_count).map(|entry| Item::Bad { entry });
+        let at = if self.is(Trap::BadBeforeSteps) { 0 } else { items.len() };
+        items.splice(at..at, bad);
+        items
+    }
+
+    fn verdict(mut self) -> Verdict {
+        let tables = self.tables;
+        let start =
+            (0..tables.machine_count).map(|machine| usize::from(tables.starts[machine]) * self.weight(machine)).sum();
+        if !self.is(Trap::StartUntested) && !self.root(start).is_some_and(|root| tables.finals[root]) {
+            return Verdict::Outside;
+        }
+        for item in self.items() {
+            match item {
+                Item::Step { control_state, number, transition } => {
+                    if let Some(contents) = self.leaving(control_state, transition) {
+                        return Verdict::Leaves { control_state, transition: number, contents };
+                    }
+                }
+                Item::Bad { entry } => {
+                    if let Some(contents) = self.bad(entry) {
+                        return Verdict::Bad { entry, contents };
+                    }
+                }
+            }
+        }
+        Verdict::Closed { pairs: self.pairs as u64 }
+    }
+
+    fn leaving(&mut self, control_state: usize, transition: &'t Transition) -> Option<Vec<u8>> {
+        let source = self.root(control_state)?;
+        let weight = self.weight(usize::from(transition.machine));
+        let next = control_state + usize::from(transition.to) * weight - usize::from(transition.from) * weight;
+        let target = self.root(next);
+        if target.is_none() && self.is(Trap::RootlessTargetHolds) {
+            return None;
+        }
+        let all = self.tables.message_sum;
+        let own = self.tables.first_message(usize::from(transition.queue));
+        let own_end = self.tables.first_message(usize::from(transition.queue) + 1);
+        let (before, after) = match transition.kind {
+            Kind::Send if self.is(Trap::AppendAtTheVeryEnd) => (0..all, 0..0),
+            Kind::Send => (0..own_end, own_end..all),
+            Kind::Receive if self.is(Trap::ReceiveFromTheVeryFront) => (0..0, 0..all),
+            Kind::Receive => (0..own, own..all),
+            Kind::Local => (0..0, 0..all),
+        };
+        let empty_as_local = self.is(Trap::EmptyWordIsLocal) && transition.length == 0;
+        let kind = if empty_as_local { Kind::Local } else { transition.kind };
+        let after = if empty_as_local { 0..all } else { after };
+        let search = Search { kind, word: transition.word(), before, after, is_bad: false };
+        self.search(&search, Node { after: kind == Kind::Local, source, target })
+    }
+
+    fn bad(&mut self, entry: usize) -> Option<Vec<u8>> {
+        let entry = self.tables.bad[entry];
+        let source = self.root(usize::from(entry.control_state))?;
+        let root = usize::from(entry.root);
+        let target = if self.is(Trap::BadRootWithOneAdded) { root.checked_sub(1) } else { Some(root) };
+        let search =
+            Search { kind: Kind::Local, word: &[], before: 0..0, after: 0..self.tables.message_sum, is_bad: true };
+        self.search(&search, Node { after: true, source, target })
+    }
+
+    /// Breadth first, each node with the word that found it. The first failing node's contents, or none.
+    fn search(&mut self, search: &Search, root: Node) -> Option<Vec<u8>> {
+        let mut known: HashSet<Node> = HashSet::from([self.key(root)]);
+        let mut found: Vec<(Node, Vec<u8>)> = vec![(root, vec![])];
+        let mut next = 0;
+        while next < found.len() {
+            let (node, word) = found[next].clone();
+            if node.after && self.fails(search, node) {
+                return Some(word);
+            }
+            for (child, more) in self.children(search, node) {
+                if known.insert(self.key(child)) {
+                    found.push((child, [&word[..], &more[..]].concat()));
+                }
+            }
+            next += 1;
+        }
+        self.pairs += found.len();
+        if self.is(Trap::RootsUncounted) && !search.is_bad {
+            self.pairs -= 1;
+        }
+        if self.is(Trap::CountedOnceInAll) {
+            self.pairs -= found.iter().filter(|(node, _)| self.counted.contains(node)).count();
+            self.counted.extend(found.iter().map(|&(node, _)| node));
+        }
+        None
+    }
+
+    fn key(&self, node: Node) -> Node {
+        Node { after: node.after && !self.is(Trap::OneSide), ..node }
+    }
+
+    fn fails(&self, search: &Search, node: Node) -> bool {
+        let accepted = node.target.is_some_and(|target| self.tables.finals[target]);
+        if self.is(Trap::LostTargetFailsAtOnce) && !search.is_bad && node.target.is_none() {
+            return true;
+        }
+        self.tables.finals[node.source] && accepted == search.is_bad
+    }
+
+    /// The nodes one letter further, with what the letter adds to the contents shown.
+    fn children(&self, search: &Search, node: Node) -> Vec<(Node, Vec<u8>)> {
+        let messages = if node.after { search.after.clone() } else { search.before.clone() };
+        let mut children: Vec<(Node, Vec<u8>)> = messages
+            .filter_map(|message| {
+                let letter = vec![message as u8];
+                let source = follow(self.tables, Some(node.source), &letter)?;
+                let target = follow(self.tables, node.target, &letter);
+                Some((Node { source, target, ..node }, letter))
+            })
+            .collect();
+        if !node.after {
+            children.extend(self.across(search, node));
+        }
+        children.retain(|(child, _)| {
+            let dropped = if search.is_bad { !self.is(Trap::BadCountsLost) } else { self.is(Trap::DropLostTarget) };
+            child.target.is_some() || !dropped
+        });
+        if self.is(Trap::HighestFirst) {
+            children.reverse();
+        }
+        if self.is(Trap::StepFirst) {
+            children.sort_by_key(|(child, _)| child.after == node.after);
+        }
+        children
+    }
+
+    fn across(&self, search: &Search, node: Node) -> Option<(Node, Vec<u8>)> {
+        let sent_by_source = search.kind == Kind::Send || self.is(Trap::ReceivePutsWord);
+        if sent_by_source {
+            let target = follow(self.tables, node.target, search.word);
+            let shown = if self.is(Trap::SendShownWithWord) { search.word } else { &[] };
+            return Some((Node { after: true, target, ..node }, shown.to_vec()));
+        }
+        let source = follow(self.tables, Some(node.source), search.word)?;
+        let shown = if self.is(Trap::ReceiveShownWithoutWord) { &[] } else { search.word };
+        Some((Node { after: true, source, ..node }, shown.to_vec()))
+    }
+}

@@ -1,0 +1,215 @@
+//! Reading, against files worked by hand from the document.
+
+use reference_checker::coverage::reading_coverage;
+use reference_checker::digest::{digest, reading_line};
+use reference_checker::generate::document::{cases, hex, R, S};
+use reference_checker::generate::reading::reading_cases;
+use reference_checker::read::{read, BadEntry, Kind, Refusal, Tables, Transition, MESSAGES};
+
+fn refusal(text: &str) -> (u8, usize) {
+    match read(&hex(text)) {
+        Ok(_) => panic!("{text} was read"),
+        Err(Refusal { number, place }) => (number, place),
+    }
+}
+
+fn tables(text: &str) -> Tables {
+    read(&hex(text)).unwrap_or_else(|refusal| panic!("{text} was {refusal}"))
+}
+
+#[test]
+fn file_r() {
+    let mut expected = Tables::empty();
+    expected.machine_count = 2;
+    expected.states[..2].copy_from_slice(&[1, 1]);
+    expected.control_state_count = 1;
+    expected.queue_count = 1;
+    expected.messages[0] = 1;
+    expected.message_sum = 1;
+    expected.transition_count = 2;
+    expected.transitions[0] = Transition { kind: Kind::Send, length: 1, ..Transition::default() };
+    expected.transitions[1] = Transition { machine: 1, kind: Kind::Receive, length: 1, ..Transition::default() };
+    expected.pool_state_count = 1;
+    expected.finals[0] = true;
+    expected.arcs[0] = 1;
+    expected.roots[0] = 1;
+    assert_eq!(tables(R), expected);
+}
+
+#[test]
+fn file_s() {
+    let mut expected = Tables::empty();
+    expected.machine_count = 1;
+    expected.states[0] = 1;
+    expected.control_state_count = 1;
+    expected.queue_count = 2;
+    expected.messages[..2].copy_from_slice(&[1, 1]);
+    expected.message_sum = 2;
+    expected.transition_count = 1;
+    expected.transitions[0] = Transition { kind: Kind::Send, length: 1, ..Transition::default() };
+    expected.pool_state_count = 2;
+    expected.finals[..2].copy_from_slice(&[true, true]);
+    // State 0 reads 0 and stays, reads 1 and leads to state 1, which reads 1 only.
+    expected.arcs[0] = 1;
+    expected.arcs[1] = 2;
+    expected.arcs[MESSAGES + 1] = 2;
+    expected.roots[0] = 1;
+    assert_eq!(tables(S), expected);
+}
+
+/// Worked outside of this crate from the order of the entries.
+#[test]
+fn digests() {
+    assert_eq!(digest(&Tables::empty()), 1_188_824);
+    assert_eq!(digest(&tables(R)), 2_913_485);
+    assert_eq!(digest(&tables(S)), 4_705_313);
+    assert_eq!(reading_line(&read(&hex(S))), "read 1 1 2 2 1 2 0 4705313");
+    assert_eq!(reading_line(&read(&[])), "refused 3 at 0 1188824");
+}
+
+#[test]
+fn every_table_has_its_place() {
+    // Machines of 2 and 3 states starting in 1 and 2; queues of 1 and 2 messages; machine 1 receives 2 1 from queue 1;
+    // a pool of two states; roots for control states 0 and 5 of 6; a bad entry for control state 5 with root 1.
+    let read = tables(
+        "02 02 03 01 02  02 01 02  01 01 02 01 02 01 02 02 01  02 00 00 01 01 02 01  01 00 00 00 00 02  01 05 01",
+    );
+    assert_eq!(read.starts, [1, 2, 0, 0]);
+    assert_eq!(read.control_state_count, 6);
+    assert_eq!(read.messages, [1, 2, 0, 0]);
+    let receive =
+        Transition { machine: 1, from: 2, to: 1, kind: Kind::Receive, queue: 1, length: 2, messages: [2, 1, 0, 0] };
+    assert_eq!(read.transitions[0], receive);
+    assert_eq!(read.finals[..2], [false, true]);
+    assert_eq!(read.arcs[MESSAGES + 2], 2);
+    assert_eq!(read.arcs.iter().filter(|&&arc| arc > 0).count(), 1);
+    assert_eq!(read.roots[..6], [1, 0, 0, 0, 0, 2]);
+    assert_eq!(read.bad[0], BadEntry { control_state: 5, root: 1 });
+}
+
+#[test]
+fn lettered_cases_are_read_or_refused_as_their_line_says() {
+    for case in cases() {
+        let reply = read(&case.bytes);
+        if case.line.starts_with("refused") {
+            assert_eq!(reply.unwrap_err().to_string(), case.line, "case {}", case.name);
+        } else {
+            assert!(reply.is_ok(), "case {}", case.name);
+        }
+    }
+}
+
+#[test]
+fn numbers() {
+    assert_eq!(refusal("80"), (3, 1));
+    assert_eq!(refusal("80 00"), (4, 0));
+    assert_eq!(refusal("81 80"), (4, 0));
+    assert_eq!(refusal("ff ff"), (4, 0));
+    assert_eq!(refusal("ff 7f"), (5, 0));
+    assert_eq!(refusal("80 01"), (5, 0));
+    assert_eq!(refusal("01 01 00 01 01 80"), (3, 6));
+    // 128 transitions, none of which follows; 129 transitions.
+    assert_eq!(refusal("01 01 00 01 01 80 01"), (3, 7));
+    assert_eq!(refusal("01 01 00 01 01 81 01"), (5, 5));
+}
+
+#[test]
+fn length() {
+    assert_eq!(read(&[0; 16_384]).unwrap_err(), Refusal { number: 5, place: 0 });
+    assert_eq!(read(&[0; 16_385]).unwrap_err(), Refusal { number: 1, place: 16_384 });
+    assert_eq!(read(&[0; 40_000]).unwrap_err(), Refusal { number: 1, place: 16_384 });
+}
+
+#[test]
+fn machines() {
+    assert_eq!(refusal("00"), (5, 0));
+    assert_eq!(refusal("01 00"), (5, 1));
+    assert_eq!(refusal("01 11"), (5, 1));
+    assert_eq!(refusal("02 10 10"), (3, 3));
+    assert_eq!(refusal("02 10 11"), (5, 2));
+    assert_eq!(refusal("03 10 10 02"), (6, 3));
+    assert_eq!(refusal("03 10 10 11"), (5, 3));
+    assert_eq!(refusal("03 10 10 82 00"), (4, 3));
+    assert_eq!(refusal("01 02 02"), (5, 2));
+    assert_eq!(refusal("02 02 03 01 03"), (5, 4));
+}
+
+#[test]
+fn queues() {
+    assert_eq!(refusal("01 01 00 00"), (5, 3));
+    assert_eq!(refusal("01 01 00 05"), (5, 3));
+    assert_eq!(refusal("01 01 00 01 00"), (5, 4));
+    assert_eq!(refusal("01 01 00 01 20"), (3, 5));
+    assert_eq!(refusal("01 01 00 01 21"), (5, 4));
+    assert_eq!(refusal("01 01 00 02 1f 01"), (3, 6));
+    assert_eq!(refusal("01 01 00 02 1f 02"), (6, 5));
+    assert_eq!(refusal("01 01 00 02 1f 21"), (5, 5));
+}
+
+#[test]
+fn transitions() {
+    // One machine of two states, queues of one and two messages, one transition.
+    let to = |rest: &str| format!("01 02 00 02 01 02 01 {rest}");
+    assert_eq!(refusal(&to("01")), (5, 7));
+    assert_eq!(refusal(&to("00 02")), (5, 8));
+    assert_eq!(refusal(&to("00 01 02")), (5, 9));
+    assert_eq!(refusal(&to("00 01 01 03")), (5, 10));
+    assert_eq!(refusal(&to("00 01 01 02 02")), (5, 11));
+    assert_eq!(refusal(&to("00 01 01 02 01 05")), (5, 12));
+    assert_eq!(refusal(&to("00 01 01 02 01 04 01 02 01 02")), (3, 17));
+    assert_eq!(refusal(&to("00 01 01 02 01 01 03")), (5, 13));
+    assert_eq!(refusal(&to("00 01 01 02 01 01 00")), (7, 13));
+    assert_eq!(refusal(&to("00 01 01 01 00 02 00 01")), (7, 14));
+}
+
+#[test]
+fn pool() {
+    // Queues of one and two messages, no transitions.
+    let to = |rest: &str| format!("01 01 00 02 01 02 00 {rest}");
+    assert_eq!(refusal(&to("00")), (5, 7));
+    assert_eq!(refusal(&to("7f")), (3, 8));
+    assert_eq!(refusal(&to("80 01")), (5, 7));
+    assert_eq!(refusal(&to("01 02")), (5, 8));
+    assert_eq!(refusal(&to("01 01 03")), (3, 10));
+    assert_eq!(refusal(&to("01 01 04")), (5, 9));
+    assert_eq!(refusal(&to("01 01 01 03")), (5, 10));
+    assert_eq!(refusal(&to("01 01 01 02 01")), (5, 11));
+    assert_eq!(refusal(&to("01 01 02 01 00 01")), (8, 12));
+    assert_eq!(refusal(&to("01 01 02 02 00 01 7f")), (8, 12));
+    assert_eq!(refusal(&to("01 01 02 02 00 03")), (5, 12));
+    // Messages begin anew in each state.
+    assert_eq!(refusal(&to("02 01 01 01 01 00 01 01 00")), (3, 16));
+}
+
+#[test]
+fn queue_order() {
+    let to = |rest: &str| format!("01 01 00 02 01 02 00 {rest}");
+    // State 1 is entered by message 1 of queue 1 and left by message 0 of queue 0.
+    assert_eq!(refusal(&to("02 01 01 01 01 01 01 00 00")), (9, 16));
+    assert_eq!(refusal(&to("02 01 01 01 01 01 01 00 00 ff ff")), (9, 16));
+    // Left by message 2 of the same queue instead.
+    assert_eq!(refusal(&to("02 01 01 01 01 01 01 02 01")), (3, 16));
+    // The order of field 4 itself comes first.
+    assert_eq!(refusal(&to("03 01 01 01 01 01 01 00 00 00 02 01 01 01 01")), (8, 20));
+}
+
+#[test]
+fn map_and_bad_entries() {
+    // Two control states, one queue of one message, a pool of one state.
+    let to = |rest: &str| format!("01 02 00 01 01 00 01 01 00 {rest}");
+    assert_eq!(refusal(&to("01")), (3, 10));
+    assert_eq!(refusal(&to("02")), (5, 9));
+    assert_eq!(refusal(&to("01 00")), (3, 11));
+    assert_eq!(refusal(&to("01 00 40")), (3, 12));
+    assert_eq!(refusal(&to("01 00 41")), (5, 11));
+    assert_eq!(refusal(&to("01 00 01 02 00")), (5, 12));
+    assert_eq!(refusal(&to("01 00 01 01 01")), (5, 13));
+    assert_eq!(tables(&to("01 00 01 01 00")).bad_count, 1);
+    assert_eq!(refusal(&to("01 00 01 01 00 00")), (10, 14));
+}
+
+#[test]
+fn generated_files_are_refused_as_they_were_made() {
+    let coverage = reading_coverage(&reading_cases(7));
+    assert!(coverage.complaints.is_empty(), "{}", coverage.complaints.join("\n"));
+}

@@ -1,0 +1,178 @@
+//! Verdicts, against the document's cases, files of protocols and files worked by hand, by every way of deciding.
+
+use reference_checker::coverage::verdict_coverage;
+use reference_checker::decide::{confirm, decide};
+use reference_checker::generate::document::{cases, hex, samples};
+use reference_checker::generate::large;
+use reference_checker::generate::plan::Direction;
+use reference_checker::generate::verdicts::verdict_cases;
+use reference_checker::random::Random;
+use reference_checker::read::read;
+use reference_checker::selftest::selftest;
+use reference_checker::traps::{verdict_with, Trap};
+use reference_checker::verdict::{line, Verdict};
+use reference_checker::walk::{check, Scratch};
+
+/// Control state 1 holds 0 1, and message 1 is received from queue 1. Control state 2 has no root.
+const RECEIVE_BEHIND_ANOTHER_QUEUE: &str =
+    "01 03 00  02 01 01  01 00 01 02 02 01 01 01  03 00 01 00 01 00 01 01 02 01 00  03 01 00  00";
+
+/// Asserts the line of a file by words, by walking and by plain search, and that walking clears its tables.
+fn assert_line(name: &str, bytes: &[u8], expected: &str) {
+    let by_words = decide(bytes).unwrap_or_else(|_| panic!("{name} is too large"));
+    assert_eq!(line(&by_words), expected, "{name} by words");
+    let mut scratch = Scratch::default();
+    assert_eq!(line(&check(bytes, &mut scratch)), expected, "{name} by walking");
+    assert!(scratch.is_clear(), "{name} leaves the tables marked");
+    let plain = read(bytes).map(|tables| verdict_with(&tables, None));
+    assert_eq!(line(&plain), expected, "{name} by plain search");
+}
+
+#[test]
+fn lettered_cases() {
+    for case in cases() {
+        assert_line(case.name, &case.bytes, case.line);
+    }
+}
+
+#[test]
+fn protocols() {
+    for sample in samples() {
+        assert_line(sample.name, &sample.bytes, sample.line);
+    }
+}
+
+#[test]
+fn empty_words_have_pairs_on_both_sides() {
+    let to = |transition: &str| hex(&format!("01 01 00  01 01  01 {transition}  01 01 01 00 00  01  00"));
+    assert_line("local", &to("00 00 00 00"), "closed 1");
+    assert_line("send of nothing", &to("00 00 00 01 00 00"), "closed 2");
+    assert_line("receive of nothing", &to("00 00 00 02 00 00"), "closed 2");
+}
+
+#[test]
+fn pairs_go_by_reading() {
+    // The source cannot follow the word, so there is a pair before the step and none after it.
+    let stuck = "01 01 00  01 01  01 00 00 00 02 00 01 00  01 01 00  01  00";
+    assert_line("stuck receive", &hex(stuck), "closed 1");
+    // Control state 1 accepts nothing and control state 2 has no root.
+    let rootless = "01 03 00  01 01  01 00 01 02 01 00 01 00  02 01 00 00 01 00 01  01 02 00  00";
+    assert_line("target without a root", &hex(rootless), "closed 2");
+    // The step's own control state has no root, and so counts nothing.
+    let unrooted = "01 02 00  01 01  01 00 01 00 01 00 01 00  01 01 01 00 00  01 00  00";
+    assert_line("source without a root", &hex(unrooted), "closed 0");
+}
+
+#[test]
+fn bad_entries() {
+    let to = |bad: &str| hex(&format!("01 02 00  01 01  00  02 01 01 00 01 00 01 00 00  01 00  {bad}"));
+    // State 0 accepts the words of even length, state 1 those of odd length.
+    assert_line("the other state", &to("01 00 01"), "closed 2");
+    assert_line("control state without a root", &to("01 01 00"), "closed 0");
+    assert_line("the second entry", &to("02 00 01 00 00"), "bad 1 0:");
+    let later = hex("01 01 00  01 02  00  02 01 01 01 01 01 01 01 00  01  02 00 01 00 00");
+    assert_line("the first of two", &later, "bad 0 0:");
+}
+
+#[test]
+fn lowest_contents_are_shown() {
+    // Control state 1 holds 0 (queue 0) or 1 (queue 1); control state 2 has no root.
+    let competing = "01 03 00  02 01 01  01 00 01 02 01 00 00  02 00 02 00 01 01 01 01 00  02 01 00  00";
+    assert_line("send of nothing", &hex(competing), "leaves 1 0 1: 0");
+}
+
+#[test]
+fn contents_of_a_receive_have_its_word() {
+    assert_line("receive", &hex(RECEIVE_BEHIND_ANOTHER_QUEUE), "leaves 1 0 2: 0 1");
+}
+
+#[test]
+fn machine_0_is_most_significant() {
+    // Machines of 2 and 3 states; only control states 0 and 5 have a root.
+    let file = "02 02 03 00 00  01 01  01 00 01 00 00  01 01 00  01 00 00 00 00 01  00";
+    assert_line("control state 5", &hex(file), "leaves 5 0 0:");
+}
+
+#[test]
+fn words_that_lead_alike_may_fare_differently() {
+    // 0 3 and 1 0 lead from each state to the same one, but what is sent to queue 0 goes before the 3 and behind the 0.
+    let file = "02 02 01 00 00  03 02 01 01  02 00 00 01 01 00 01 00 00 01 00 01 01 01 02 \
+                03 01 01 03 00 01 03 00 00 01 01 03 00 01 04 00 02 01 01 02 00 03 00  03 03  03 01 00 01 01 00 02";
+    assert_line("alike", &hex(file), "leaves 0 0 2: 1 0");
+}
+
+#[test]
+fn long_contents() {
+    let lengths = [(large::long_local_leaves(), 4_031), (large::long_send_leaves(), 1_983)];
+    for (plan, expected) in lengths {
+        let reply = check(&plan.bytes(), &mut Scratch::default());
+        let Ok(Verdict::Leaves { control_state: 1, transition: 0, contents }) = &reply else { panic!("{reply:?}") };
+        assert_eq!(contents.len(), expected);
+        let tables = read(&plan.bytes()).expect("the plan is valid");
+        assert!(confirm(&tables, reply.as_ref().expect("it leaves"), 3));
+    }
+}
+
+#[test]
+fn full_tables() {
+    let mut scratch = Scratch::default();
+    let dense = large::dense(&mut Random::new(1), Some(Direction::Send));
+    // Every pair of 127 states before the step and after it.
+    assert_eq!(line(&check(&dense.bytes(), &mut scratch)), "closed 32258");
+    assert!(scratch.is_clear());
+}
+
+#[test]
+fn the_last_items_of_all() {
+    assert_line("last step", &large::last_step_leaves().bytes(), "leaves 255 127 0:");
+    assert_line("last entry", &large::last_entry_is_bad().bytes(), "bad 63 2: 0 0");
+}
+
+#[test]
+fn the_longest_file_is_read() {
+    let longest = large::maximal_closed(&mut Random::new(1)).bytes();
+    assert_eq!(longest.len(), 10_125);
+    assert!(read(&longest).is_ok());
+}
+
+#[test]
+fn all_ways_agree_on_random_files() {
+    let agreement = selftest(11, 3_000);
+    assert!(agreement.disagreements.is_empty(), "{}", agreement.disagreements.join("\n"));
+    for verdict in ["closed", "outside", "leaves", "bad"] {
+        assert!(agreement.verdicts.get(verdict).is_some_and(|&files| files > 100), "few are {verdict}");
+    }
+}
+
+#[test]
+fn confirming_can_fail() {
+    let case = |name: &str| cases().into_iter().find(|case| case.name == name).expect("a lettered case");
+    let tables = read(&case("c").bytes).expect("case c is read");
+    let leaves = |contents: &[u8]| Verdict::Leaves { control_state: 0, transition: 0, contents: contents.to_vec() };
+    assert!(confirm(&tables, &leaves(&[0]), 3));
+    assert!(!confirm(&tables, &leaves(&[]), 3));
+    assert!(!confirm(&tables, &leaves(&[0, 0, 0, 0]), 3));
+    assert!(!confirm(&tables, &Verdict::Closed { pairs: 4 }, 3));
+    assert!(!confirm(&tables, &Verdict::Outside, 3));
+}
+
+#[test]
+fn traps_of_the_document_change_lines() {
+    let changes = |bytes: &[u8], trap: Trap| {
+        let tables = read(bytes).expect("the file is read");
+        verdict_with(&tables, Some(trap)) != verdict_with(&tables, None)
+    };
+    let case = |name: &str| cases().into_iter().find(|case| case.name == name).expect("a lettered case").bytes;
+    assert!(changes(&case("f"), Trap::AppendAtTheVeryEnd));
+    assert!(changes(&case("b"), Trap::DropLostTarget));
+    assert!(changes(&case("f"), Trap::OneSide));
+    // Case g has 3 pairs with this mistake too, so it takes a file whose contents begin with another queue.
+    assert!(!changes(&case("g"), Trap::ReceiveFromTheVeryFront));
+    assert!(changes(&hex(RECEIVE_BEHIND_ANOTHER_QUEUE), Trap::ReceiveFromTheVeryFront));
+}
+
+#[test]
+fn generated_files_hit_everything() {
+    let coverage = verdict_coverage(&verdict_cases(5));
+    assert!(coverage.complaints.is_empty(), "{}", coverage.complaints.join("\n"));
+}
