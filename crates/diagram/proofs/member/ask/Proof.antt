@@ -1,0 +1,45 @@
+use mathlib.Core.Path.{sym, _∙_}
+use native.Mathlib.Omega.{arith}
+use denote.Ref.{now}
+use Rattle.diagram.specs.Laws.Tables.{made-is}
+use Rattle.diagram.specs.Laws.Asking.{ask-unknown, ask-judged}
+use borrow.Author.Needs.{needs}
+use Rattle.diagram.proofs.member.ask.Statement.{statement}
+use Rattle.diagram.proofs.member.ask.Tie as tie
+use Rattle.diagram.proofs.member.ask.Reads as reads
+use Rattle.diagram.proofs.member.ask.Lts as lts
+use Rattle.diagram.proofs.follow.begin.Reads as begin-reads
+use Rattle.diagram.proofs.member.judge.Reads as judge-reads
+use Rattle.session.proofs.kinds.ControlState.new.Reads as new-reads
+
+-- src/member.rt:82:9
+returns : tie.Need-returns
+returns c = sym (ask-unknown (c .before .before .before .before .pre) (c .before .before .before .before .args .control) (now (c .before .before .before .before .args .contents)) (c .if1 .taken))
+
+-- src/member.rt:86:23
+slice-aggregate-begin : tie.Need-slice-aggregate-begin
+slice-aggregate-begin c = search needs
+
+-- src/member.rt:86:31
+new-requires : tie.Need-new-requires
+new-requires c κs = search needs
+
+-- src/member.rt:86:9
+begin-requires : tie.Need-begin-requires
+begin-requires c κs = search needs
+
+-- src/member.rt:89:5
+judge-requires : tie.Need-judge-requires
+judge-requires c κs = search needs
+
+-- src/member.rt:76:1
+returns-2 : tie.Need-returns-2
+returns-2 c =
+    let e = made-is 256 (c .before .before .before .before .before .before .before .before .before .before .before .before .args .control) (omega (arith, c .before .before .before .before .before .before .before .before .before .before .before .before .pre .machines .productMost)) (c .before .before .before .before .new .ensures) in
+    let root = rw e at (c .before .before .before .begin .ensures) in
+    c .judge .ensures ∙ sym (ask-judged (c .before .before .before .before .before .before .before .before .before .before .before .before .pre) (c .before .before .before .before .before .before .before .before .before .before .before .before .args .control) (now (c .before .before .before .before .before .before .before .before .before .before .before .before .args .contents)) (c .before .before .before .before .before .before .before .before .if1 .left) root)
+
+pub ask-spec : {M : Type 1} → statement M
+ask-spec =
+    tie.close
+    (tie.spec returns slice-aggregate-begin new-requires begin-requires judge-requires returns-2)

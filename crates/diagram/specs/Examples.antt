@@ -1,0 +1,48 @@
+-- Membership in file S of document 01, by computing with the definition.
+use Prim.Native.Nat.{ℕ}
+use mathlib.Core.Path.{_≡_, refl}
+use mathlib.Core.List.{List, [], _∷_}
+use Rattle.session.specs.Number.{readNumber, readWithin, readBelow, readTwo}
+use Rattle.session.specs.Machines.{readFactor, readSizes, readStarts, countedMachines, readMachines}
+use Rattle.session.specs.Queues.{readTerm, readCounts, readQueues, firstOf}
+use Rattle.session.specs.Transitions.{readMessage, readWord, readAction, readTransition, readRows, readTransitions}
+use Rattle.session.specs.Pool.{readAscending, readArc, readArcs, readState, readStates, readPool}
+use Rattle.session.specs.Order.{lowest, lowests, arcsOrdered, statesOrdered, queuesOrdered, ordered, inQueueOrder}
+use Rattle.session.specs.Map.{readRoots, readMap}
+use Rattle.session.specs.Bad.{readEntries, readBad}
+use Rattle.session.specs.File.{fromBad, fromMap, fromPool, fromTransitions, fromQueues, fromMachines, readFile}
+use Rattle.meaning.specs.Cases.{hex}
+use Rattle.diagram.specs.Member.{Reply, yes, no, refusal, judge, ask, memberOf}
+
+-- one machine of one state, so control state 0 alone; message 0 is of queue 0 and message 1 of queue 1; the set is any 0s, then any 1s
+abbrev pub S : List ℕ
+S = hex "01 01 00 02 01 01 01 00 00 00 01 00 01 00 02 01 02 00 00 01 01 01 01 01 01 01 00"
+
+-- S with a pool in which no arc is for message 1, and S with no root
+abbrev pub Stuck : List ℕ
+Stuck = hex "01 01 00 02 01 01 01 00 00 00 01 00 01 00 01 01 01 00 00 01 00"
+
+abbrev pub Rootless : List ℕ
+Rootless = hex "01 01 00 02 01 01 01 00 00 00 01 00 01 00 02 01 02 00 00 01 01 01 01 01 01 00 00"
+
+-- Contents 0 1 belong, and contents 1 0 are refused. So are another control state and another message, and the order of queues is asked also
+-- where the diagram has nowhere to go.
+pub replies :
+    (memberOf S 0 (0 ∷ 1 ∷ []) ≡ yes)
+    × (memberOf S 0 (1 ∷ 0 ∷ []) ≡ refusal 13 1)
+    × (memberOf S 1 (0 ∷ 1 ∷ []) ≡ refusal 11 0)
+    × (memberOf S 0 (1 ∷ 2 ∷ 0 ∷ []) ≡ refusal 12 1)
+    × (memberOf Stuck 0 (0 ∷ 1 ∷ []) ≡ no)
+    × (memberOf Stuck 0 (1 ∷ 0 ∷ []) ≡ refusal 13 1)
+    × (memberOf Rootless 0 [] ≡ no)
+    × (memberOf Rootless 0 (1 ∷ 0 ∷ []) ≡ refusal 13 1)
+unfolding
+    memberOf ask judge readFile fromMachines fromQueues fromTransitions fromPool fromMap fromBad
+    readNumber readWithin readBelow readTwo
+    readFactor readSizes readStarts countedMachines readMachines
+    readTerm readCounts readQueues firstOf
+    readMessage readWord readAction readTransition readRows readTransitions
+    readAscending readArc readArcs readState readStates readPool
+    lowest lowests arcsOrdered statesOrdered queuesOrdered ordered inQueueOrder
+    readRoots readMap readEntries readBad
+replies = (refl, refl, refl, refl, refl, refl, refl, refl)

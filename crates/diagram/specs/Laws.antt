@@ -1,0 +1,7 @@
+-- The laws of membership, each proved once from the definition.
+pub mod Tables
+pub mod Queues
+pub mod Judging
+pub mod Asking
+pub mod Order
+pub mod Meaning

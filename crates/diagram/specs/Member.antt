@@ -1,0 +1,48 @@
+-- MEMBERSHIP (document 01, "Diagrams" and the refusals 11 to 13): whether contents belong to a control state of a file, for every input.
+use Prim.Native.Nat.{ℕ, _+_}
+use mathlib.Core.Bool.{Bool, true, false}
+use mathlib.Core.Option.{Option}
+use mathlib.Core.List.{List, [], _∷_}
+use lib.Dec.{ltb, leb}
+use Rattle.session.specs.Part.{Part, got, refused}
+use Rattle.session.specs.File.{readFile}
+use Rattle.session.specs.declared.tables.Tables.{Tables}
+use Rattle.model.specs.Model.{Model, total, queueOf, controls}
+use Rattle.model.specs.Diagram.{Pool, along, isFinal}
+use Rattle.model.specs.Session.{Session}
+use Rattle.meaning.specs.Tables.{sessionOf}
+
+-- yes, no, or a refusal: its number in document 01 and its place
+pub data Reply : Type 0 where
+  yes : Reply
+  no : Reply
+  refusal : ℕ → ℕ → Reply
+
+abbrev pub answer : Bool → Reply
+answer true = yes
+answer false = no
+
+-- the contents from a place on: the message before them is of this queue, and has led to s. Each message is held to its number and
+-- then to its queue, wherever the diagram stands
+unfoldable pub judge : List ℕ → Pool → ℕ → ℕ → Option ℕ → List ℕ → Reply
+judge ns P place queue s [] = answer (isFinal P s)
+judge ns P place queue s (m ∷ u) =
+    elim (ltb m (total ns)) [
+      | false ↦ refusal 12 place
+      | true ↦ elim (leb queue (queueOf ns m)) [
+        | false ↦ refusal 13 place
+        | true ↦ judge ns P (place + 1) (queueOf ns m) (along P s m) u
+      ]
+    ]
+
+-- the question put to a session
+unfoldable pub ask : Session → ℕ → List ℕ → Reply
+ask S c contents =
+    elim (ltb c (controls (S .model))) [
+      | false ↦ refusal 11 0
+      | true ↦ judge (S .model .queues) (S .pool) 0 0 (S .root c) contents
+    ]
+
+-- and to a file, which is read first
+unfoldable pub memberOf : List ℕ → ℕ → List ℕ → Reply
+memberOf file c contents = elim (readFile file) [ refused k p ↦ refusal k p | got T next ↦ ask (sessionOf T) c contents ]

@@ -1,0 +1,105 @@
+// Membership: whether contents belong to a control state of a session file.
+use crate::follow::Reached;
+use crate::follow::along;
+use crate::follow::begin;
+use crate::follow::is_final;
+use crate::reply::Member;
+use session::kinds::ControlState;
+use session::kinds::Message;
+use session::number::entry;
+use session::number::wide;
+use session::reading::Answer;
+use session::reading::read;
+use session::tables::Pool;
+use session::tables::Queues;
+use session::tables::Tables;
+ghost use mathlib.Core.Path.{_≡_};
+ghost use lib.ListN.{take};
+ghost use Rattle.session.specs.Laws.Queues.{QueuesValid};
+ghost use Rattle.session.specs.Laws.Valid.{Valid};
+ghost use Rattle.model.specs.Model.{queueOf};
+ghost use Rattle.meaning.specs.Tables.{poolOf, sessionOf};
+ghost use Rattle.diagram.specs.Said.{saidReached, saidMember};
+ghost use Rattle.diagram.specs.Member.{judge, ask, memberOf};
+
+// The queue that a message belongs to.
+fn queue_of(q: Queues, m: Message) -> u8
+    requires { ⌜ QueuesValid q ⌝ }
+    ensures { λ r. ⌜ r ≡ queueOf (take (q .count) (q .messages)) (m .0) ⌝ }
+{
+    let counts = q.messages;
+    let mut rest = m.0;
+    let mut i: u8 = 0;
+    while i < q.count {
+        let own = entry(&counts, i as usize);
+        if rest < own {
+            return i;
+        }
+        rest -= own;
+        i += 1;
+    }
+    i
+}
+
+// Every message is held to its number and its queue, also where the diagram has nowhere to go.
+fn judge(q: Queues, pool: Pool, start: Reached, contents: &[u8]) -> Member
+    requires { ⌜ QueuesValid q ⌝ }
+    ensures { λ r. ⌜ saidMember r ≡ judge (take (q .count) (q .messages)) (poolOf pool) 0 0 (saidReached start) (now (contents .entry)) ⌝ }
+{
+    let arcs = pool.arcs;
+    let finals = pool.finals;
+    let mut at = start;
+    let mut queue: u8 = 0;
+    let mut i: usize = 0;
+    while i < contents.len() {
+        let raw = contents[i];
+        if q.sum <= raw {
+            return Member::NoMessage(i);
+        }
+        let m = Message::new(wide(raw));
+        let own = queue_of(q, m);
+        if own < queue {
+            return Member::EarlierQueue(i);
+        }
+        at = along(&arcs, at, m);
+        queue = own;
+        i += 1;
+    }
+    if is_final(&finals, at) {
+        Member::Yes
+    } else {
+        Member::No
+    }
+}
+
+// The question put to the tables of a file that was read.
+fn ask(t: Tables, control: usize, contents: &[u8]) -> Member
+    requires { ⌜ Valid t ⌝ }
+    ensures { λ r. ⌜ saidMember r ≡ ask (sessionOf t) control (now (contents .entry)) ⌝ }
+{
+    let machines = t.machines;
+    if machines.product <= control {
+        return Member::NoControl;
+    }
+    let map = t.map;
+    let roots = map.roots;
+    let start = begin(&roots, ControlState::new(control));
+    let queues = t.queues;
+    let pool = t.pool;
+    judge(queues, pool, start, contents)
+}
+
+// Do these contents belong to this control state of the file?
+pub fn member(file: &[u8], control: usize, contents: &[u8]) -> Member
+    ensures { λ r. ⌜ saidMember r ≡ memberOf (now (file .entry)) control (now (contents .entry)) ⌝ }
+{
+    let reading = read(file);
+    let answer = reading.answer;
+    match answer {
+        Answer::Refused(why) => Member::Unread(why),
+        Answer::Read => {
+            let tables = reading.tables;
+            ask(tables, control, contents)
+        }
+    }
+}

@@ -1,0 +1,15 @@
+// What membership answers.
+use session::refusal::Refusal;
+
+pub enum Member {
+    Yes,
+    No,
+    // the file is refused
+    Unread(Refusal),
+    // no control state has this number
+    NoControl,
+    // no message has the number at this place of the contents
+    NoMessage(usize),
+    // the message at this place is of an earlier queue than the one before it
+    EarlierQueue(usize),
+}

@@ -1,0 +1,30 @@
+-- What the search answers.
+use mathlib.Core.Path.{_≡_}
+use mathlib.Core.List.{List}
+use Prim.Native.Nat.{ℕ, _<_}
+use Rattle.explore.specs.Search as Search
+use Rattle.model.specs.Verdict.{Pair}
+use Rattle.walk.specs.declared.search.Outcome.{Outcome}
+use Rattle.walk.specs.declared.search.Outcome.the-variants.{Found, Finished}
+use Rattle.walk.specs.Marks.{Tables, view}
+
+-- how many pairs were found
+abbrev pub tailOf : Outcome → ℕ
+tailOf (Found k tail) = tail
+tailOf (Finished tail) = tail
+
+-- the answer over the tables that the search left
+abbrev pub said : Outcome → List ℕ → List ℕ → Search.Outcome Pair
+said (Found k tail) seen queue = Search.found k (view seen queue tail)
+said (Finished tail) seen queue = Search.finished (view seen queue tail)
+
+-- a failing pair was found
+abbrev pub Within : Outcome → Type 0
+Within (Found k tail) = k < tail
+Within (Finished tail) = Unit {0}
+
+-- the answer is that of the definition, and the tables show the list that it speaks of
+pub record Answered (seen queue : List ℕ) (r : Outcome) (o : Search.Outcome Pair) : Type 0 where
+  pub is : said r seen queue ≡ o
+  pub tables : Tables seen queue (tailOf r)
+  pub within : Within r

@@ -1,0 +1,62 @@
+// A walk, and its pairs as numbers: the side, the source state, and the target state or nowhere.
+use session::number::wide;
+ghost use mathlib.Core.Path.{_≡_};
+ghost use Prim.Native.Nat.{_<_};
+ghost use Rattle.walk.specs.Pairs.{mostPairs, NodeOf, NodeFits, Coded};
+
+// What a walk needs of its step or bad entry. Before it only messages below the cut are read, after it only those from the cut on.
+pub struct Walk {
+    pub cut: u8,
+    // The number of all messages.
+    pub sum: u8,
+    // The word's first entry in the table of transitions, and how many messages of it are taken out and put in.
+    pub word: usize,
+    pub out: usize,
+    pub into: usize,
+    // Of a bad entry the target must not be nowhere.
+    pub entry: bool,
+}
+
+pub struct Node {
+    pub side: usize,
+    pub source: u8,
+    pub target: u8,
+}
+
+// The target that has nowhere to go; no state has this number.
+pub const NOWHERE: u8 = 127;
+
+// A fixed stride keeps every bound linear.
+pub const STRIDE: usize = 128;
+
+// The first code of the after side.
+pub const AFTER: usize = 16256;
+
+// The codes of both sides, and so the entries of a table that is lent.
+pub const CODES: usize = 32512;
+
+pub fn code_of(x: Node) -> usize
+    requires { ⌜ NodeFits x ⌝ }
+    ensures { λ r. ⌜ Coded x r ⌝ }
+{
+    x.side + wide(x.source) * STRIDE + wide(x.target)
+}
+
+pub fn node_of(code: usize) -> Node
+    requires { ⌜ code < mostPairs ⌝ }
+    ensures { λ r. ⌜ NodeOf code r ⌝ }
+{
+    if code < AFTER {
+        return Node {
+            side: 0,
+            source: (code / STRIDE) as u8,
+            target: (code % STRIDE) as u8,
+        };
+    }
+    let rest = code - AFTER;
+    Node {
+        side: AFTER,
+        source: (rest / STRIDE) as u8,
+        target: (rest % STRIDE) as u8,
+    }
+}
