@@ -1,11 +1,10 @@
--- The pairs of a walk as numbers, what the lent tables show, and the search over the tables of a session.
+-- The walk over lent tables: pairs as numbers, what the tables show, the search and its answer, the contents shown, and the judgement. The laws are
+-- proved from these.
 pub mod Pairs
-pub mod PairLaws
 pub mod Marks
-pub mod MarkLaws
 pub mod Over
-pub mod MoveLaws
-pub mod SweepLaws
+pub mod Leads
 pub mod Answers
-pub mod ClearLaws
-pub mod ExploreLaws
+pub mod Shown
+pub mod Judged
+pub mod Laws

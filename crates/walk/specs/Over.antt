@@ -8,6 +8,8 @@ use lib.Dec.{ltb, eqb}
 use lib.ListN.{length, getD, take, drop}
 use Rattle.meaning.specs.Tables.{arcOf}
 use Rattle.explore.specs.Search.{Outcome, searchFrom}
+use Rattle.model.specs.Model.{messages}
+use Rattle.model.specs.Session.{Session}
 use Rattle.model.specs.Diagram.{Pool, along, follow}
 use Rattle.model.specs.Verdict.{Pair, before, after}
 use Rattle.model.specs.Judge as Judge
@@ -73,6 +75,12 @@ wrongOver finals entry (after s t) =
 abbrev pub searchOver : List ℕ → List ℕ → List ℕ → Walk → Pair → Outcome Pair
 searchOver arcs finals rows w root =
     searchFrom (suc (w .sum)) (goOver arcs rows w) same (wrongOver finals (w .entry)) root mostPairs
+
+-- a session of these arcs, final states and messages
+pub record Over (arcs finals : List ℕ) (sum : ℕ) (S : Session) : Type 0 where
+  pub arc : S .pool .arc ≡ arcOf arcs
+  pub final : S .pool .final ≡ (λ s. eqb (getD finals s 0) 1)
+  pub letters : messages (S .model) ≡ sum
 
 -- WHAT IS ASKED OF THE TABLES: every file that was read has it
 -- an arc leads to a state below 127, so that 127 can stand for nowhere

@@ -1,5 +1,4 @@
 // Where a pair leads: by a message that both its places read, and by the step itself.
-use crate::marks::mark;
 use crate::pairs::AFTER;
 use crate::pairs::NOWHERE;
 use crate::pairs::Node;
@@ -9,13 +8,18 @@ use session::kinds::DiagramState;
 use session::kinds::Message;
 use session::pool::Arc;
 use session::pool::arc_of;
-ghost use mathlib.Core.Path.{_≡_};
 ghost use mathlib.Core.Option.{some};
 ghost use Prim.Native.Nat.{_<_, _≤_};
 ghost use Rattle.model.specs.Judge.{pair};
 ghost use Rattle.walk.specs.Pairs.{place, sideOf, NodeFits};
-ghost use Rattle.walk.specs.Marks.{Tables, Pushed};
-ghost use Rattle.walk.specs.Over.{readOver, jumpOver, ArcsSmall, WordWithin, Reads, Follows};
+ghost use Rattle.walk.specs.Over.{readOver, jumpOver, ArcsSmall, WordWithin, Lent, Reads, Follows};
+ghost use Rattle.walk.specs.Leads.{LeadsTo};
+
+// Where a letter leads: to the pair with this code, or nowhere.
+pub enum Next {
+    Pair(usize),
+    Nowhere,
+}
 
 // Where a place is after a message. A missing arc has nowhere to go, and nowhere stays nowhere.
 pub fn along(arcs: &[u8], t: u8, m: u8) -> u8
@@ -48,51 +52,31 @@ pub fn follow(arcs: &[u8], rows: &[u8], at: usize, n: usize, t: u8) -> u8
     s
 }
 
-// The pair that a letter leads to is marked. For a bad entry it is dropped where the target is nowhere; for a step that is the
-// pair that fails.
-fn reach(
-    entry: bool,
-    y: Node,
-    from: usize,
-    seen: &mut [u16],
-    queue: &mut [u16],
-    tail: usize,
-) -> usize
+// The pair that a letter leads to. For a bad entry it is dropped where the target is nowhere; for a step that is the pair that
+// fails.
+fn pair_to(entry: bool, y: Node) -> Next
     requires { ⌜ NodeFits y ⌝ }
-    requires { ⌜ Tables (now seen) (now queue) tail ⌝ }
-    requires { ⌜ from < tail ⌝ }
-    ensures { λ r. ⌜ Pushed (now (seen .entry)) (now (queue .entry)) tail from (pair entry (sideOf (y .side)) (some (y .source)) (place (y .target))) (now (seen .exit)) (now (queue .exit)) r ⌝ }
+    ensures { λ r. ⌜ LeadsTo r (pair entry (sideOf (y .side)) (some (y .source)) (place (y .target))) ⌝ }
 {
     let code = code_of(y);
     if entry {
         if y.target == NOWHERE {
-            return tail;
+            return Next::Nowhere;
         }
-        return mark(seen, queue, tail, from, code);
+        return Next::Pair(code);
     }
-    mark(seen, queue, tail, from, code)
+    Next::Pair(code)
 }
 
 // Both places read a message. The pair is dropped where the source has nowhere to go.
-pub fn try_message(
-    arcs: &[u8],
-    entry: bool,
-    x: Node,
-    m: u8,
-    from: usize,
-    seen: &mut [u16],
-    queue: &mut [u16],
-    tail: usize,
-) -> usize
+pub fn read(arcs: &[u8], entry: bool, x: Node, m: u8) -> Next
     requires { ⌜ ArcsSmall (now arcs) ⌝ }
     requires { ⌜ NodeFits x ⌝ }
     requires { ⌜ m < 32 ⌝ }
-    requires { ⌜ Tables (now seen) (now queue) tail ⌝ }
-    requires { ⌜ from < tail ⌝ }
-    ensures { λ r. ⌜ Pushed (now (seen .entry)) (now (queue .entry)) tail from (readOver (now (arcs .entry)) entry (x .side) (x .source) (place (x .target)) m) (now (seen .exit)) (now (queue .exit)) r ⌝ }
+    ensures { λ r. ⌜ LeadsTo r (readOver (now (arcs .entry)) entry (x .side) (x .source) (place (x .target)) m) ⌝ }
 {
     let Arc::Target(source) = arc_of(arcs, DiagramState(x.source), Message(m)) else {
-        return tail;
+        return Next::Nowhere;
     };
     let target = along(arcs, x.target, m);
     let y = Node {
@@ -100,31 +84,18 @@ pub fn try_message(
         source: source.0,
         target,
     };
-    reach(entry, y, from, seen, queue, tail)
+    pair_to(entry, y)
 }
 
 // The step: the source reads what is taken out, the target what is put in.
-pub fn try_step(
-    arcs: &[u8],
-    rows: &[u8],
-    w: Walk,
-    x: Node,
-    from: usize,
-    seen: &mut [u16],
-    queue: &mut [u16],
-    tail: usize,
-) -> usize
-    requires { ⌜ ArcsSmall (now arcs) ⌝ }
-    requires { ⌜ WordWithin (now rows) (w .word) (w .out) ⌝ }
-    requires { ⌜ WordWithin (now rows) (w .word) (w .into) ⌝ }
+pub fn step(arcs: &[u8], rows: &[u8], w: Walk, x: Node) -> Next
+    requires { ⌜ Lent (now arcs) (now rows) w ⌝ }
     requires { ⌜ NodeFits x ⌝ }
-    requires { ⌜ Tables (now seen) (now queue) tail ⌝ }
-    requires { ⌜ from < tail ⌝ }
-    ensures { λ r. ⌜ Pushed (now (seen .entry)) (now (queue .entry)) tail from (jumpOver (now (arcs .entry)) (now (rows .entry)) w (x .source) (place (x .target))) (now (seen .exit)) (now (queue .exit)) r ⌝ }
+    ensures { λ r. ⌜ LeadsTo r (jumpOver (now (arcs .entry)) (now (rows .entry)) w (x .source) (place (x .target))) ⌝ }
 {
     let source = follow(arcs, rows, w.word, w.out, x.source);
     if source == NOWHERE {
-        return tail;
+        return Next::Nowhere;
     }
     let target = follow(arcs, rows, w.word, w.into, x.target);
     let y = Node {
@@ -132,5 +103,5 @@ pub fn try_step(
         source,
         target,
     };
-    reach(w.entry, y, from, seen, queue, tail)
+    pair_to(w.entry, y)
 }

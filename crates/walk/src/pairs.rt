@@ -1,6 +1,5 @@
 // A walk, and its pairs as numbers: the side, the source state, and the target state or nowhere.
 use session::number::wide;
-ghost use mathlib.Core.Path.{_≡_};
 ghost use Prim.Native.Nat.{_<_};
 ghost use Rattle.walk.specs.Pairs.{mostPairs, NodeOf, NodeFits, Coded};
 

@@ -1,8 +1,9 @@
 // The search over the pairs of a walk, breadth first in lent tables.
 use crate::marks::mark;
 use crate::marks::wide;
-use crate::moves::try_message;
-use crate::moves::try_step;
+use crate::moves::Next;
+use crate::moves::read;
+use crate::moves::step;
 use crate::pairs::NOWHERE;
 use crate::pairs::Node;
 use crate::pairs::Walk;
@@ -14,8 +15,9 @@ ghost use lib.ListN.{length};
 ghost use Rattle.explore.specs.Search.{search as searched};
 ghost use Rattle.model.specs.Judge.{same};
 ghost use Rattle.walk.specs.Pairs.{mostPairs, place, pairOf, NodeFits};
-ghost use Rattle.walk.specs.Marks.{view, Tables, Swept, Blank};
+ghost use Rattle.walk.specs.Marks.{view, Tables, Pushed, Swept, Blank};
 ghost use Rattle.walk.specs.Over.{goOver, finalOver, wrongOver, searchOver, readFrom, ArcsSmall, Lent};
+ghost use Rattle.walk.specs.Leads.{saidNext, Small};
 ghost use Rattle.walk.specs.Answers.{Answered};
 
 // What a search finds: the first failing pair's place in the queue and how many pairs were found by then, or that none fails
@@ -23,6 +25,19 @@ ghost use Rattle.walk.specs.Answers.{Answered};
 pub enum Outcome {
     Found(usize, usize),
     Finished(usize),
+}
+
+// The pair that a letter leads to, if there is one, is marked.
+fn mark_next(next: Next, from: usize, seen: &mut [u16], queue: &mut [u16], tail: usize) -> usize
+    requires { ⌜ Small next ⌝ }
+    requires { ⌜ Tables (now seen) (now queue) tail ⌝ }
+    requires { ⌜ from < tail ⌝ }
+    ensures { λ r. ⌜ Pushed (now (seen .entry)) (now (queue .entry)) tail from (saidNext next) (now (seen .exit)) (now (queue .exit)) r ⌝ }
+{
+    let Next::Pair(code) = next else {
+        return tail;
+    };
+    mark(seen, queue, tail, from, code)
 }
 
 // Where the messages from first on and below end lead, lowest first.
@@ -48,7 +63,8 @@ fn sweep(
     let mut tail = found;
     let mut m = first;
     while m < end {
-        tail = try_message(arcs, entry, x, m, from, seen, queue, tail);
+        let next = read(arcs, entry, x, m);
+        tail = mark_next(next, from, seen, queue, tail);
         m += 1;
     }
     tail
@@ -74,7 +90,8 @@ fn visit(
 {
     if x.side == 0 {
         let found = sweep(arcs, w.entry, x, 0, w.cut, from, seen, queue, tail);
-        return try_step(arcs, rows, w, x, from, seen, queue, found);
+        let next = step(arcs, rows, w, x);
+        return mark_next(next, from, seen, queue, found);
     }
     sweep(arcs, w.entry, x, w.cut, w.sum, from, seen, queue, tail)
 }

@@ -2,14 +2,14 @@
 use Prim.Native.Nat.{ℕ, _≤_, _<_}
 use mathlib.Core.Path.{_≡_, refl, sym, ap, subst, _∙_}
 use mathlib.Core.Logic.{_↔_, ⊎-elim}
-use mathlib.Core.Bool.{Bool, true, false, _&&_, and-false}
+use mathlib.Core.Bool.{Bool, true, false, _&&_, and-false, false≢true}
 use mathlib.Core.List.{List}
 use lib.ListN.{length}
 use lib.Dec.{leb}
 use borrow.Author.Tests.{leb-true, leb-false, le-leb, lt-leb}
 use native.Mathlib.Omega.{arith}
 use Rattle.session.specs.Limits.{mostBytes}
-use Rattle.session.specs.Part.{Part, provided}
+use Rattle.session.specs.Part.{Part, got, provided}
 use Rattle.session.specs.Part as Part
 use Rattle.session.specs.PartLaws.{not-refused}
 use Rattle.session.specs.File.{fromMachines, readFile}
@@ -20,6 +20,11 @@ use Rattle.model.specs.Laws.Basics.{byTest, and-is}
 use Rattle.meaning.specs.Reply.{FileReply, refused, replyTo, replyOf}
 use Rattle.meaning.specs.Checking.{tableLeast, contentsLeast, enough, readLent, tableAfter, contentsAfter, checkOf, Checks, CheckMeans, CheckTwoRuns}
 use Rattle.meaning.specs.Laws.Claims.{Sound, meant-one, reply-meant, two-runs-to}
+
+-- a reply that refuses was given to a refusal
+reply-refused : (x : Part Tables) {k p : ℕ} → replyTo x ≡ refused k p → x ≡ Part.refused k p
+reply-refused (Part.refused j q) e = cc
+reply-refused (got T next) e = absurd (let z : _≡_ {A = ℕ} 0 1 = cc in omega arith)
 
 module _ (file seen queue contents : List ℕ) where
   -- 1: MORE THAN 16,384 BYTES
@@ -52,7 +57,8 @@ module _ (file seen queue contents : List ℕ) where
         leb-true contentsLeast (length contents) c,
       )
 
-  pub long-enough : tableLeast ≤ length seen → tableLeast ≤ length queue → contentsLeast ≤ length contents → enough seen queue contents ≡ true
+  pub long-enough : tableLeast ≤ length seen → tableLeast ≤ length queue → contentsLeast ≤ length contents
+      → enough seen queue contents ≡ true
   long-enough a b c = rw (le-leb tableLeast (length seen) a, le-leb tableLeast (length queue) b, le-leb contentsLeast (length contents) c)
 
   pub little-seen : length seen < tableLeast → enough seen queue contents ≡ false
@@ -67,12 +73,12 @@ module _ (file seen queue contents : List ℕ) where
       (ap (λ b. leb tableLeast (length seen) && b) (and-false (leb tableLeast (length queue))) ∙ and-false (leb tableLeast (length seen)))
 
   -- THE THREE WAYS: the file is too long, too little is lent, the file is read
-  data Ways (x : Part Tables) : Type 0 where
+  pub data Ways (x : Part Tables) : Type 0 where
     long : x ≡ Part.refused 1 mostBytes → Ways x
     little : length file ≤ mostBytes → enough seen queue contents ≡ false → x ≡ Part.refused 2 0 → Ways x
     whole : enough seen queue contents ≡ true → x ≡ readFile file → Ways x
 
-  ways : Ways (readLent file seen queue contents)
+  pub ways : Ways (readLent file seen queue contents)
   ways =
       byTest (leb (length file) mostBytes)
       (λ t.
@@ -89,7 +95,8 @@ module _ (file seen queue contents : List ℕ) where
       go (whole h p) = valid file (sym p ∙ e)
 
   -- 2 in its case and no other
-  pub refused-two : (p : ℕ) → (readLent file seen queue contents ≡ Part.refused 2 p) ↔ ((p ≡ 0) × (length file ≤ mostBytes) × (enough seen queue contents ≡ false))
+  pub refused-two : (p : ℕ) → (readLent file seen queue contents ≡ Part.refused 2 p)
+      ↔ ((p ≡ 0) × (length file ≤ mostBytes) × (enough seen queue contents ≡ false))
   refused-two p = (λ e. go e ways, λ (z, h, l). lent-little h l ∙ ap (Part.refused 2) (sym z))
     where
       go : readLent file seen queue contents ≡ Part.refused 2 p → Ways (readLent file seen queue contents)
@@ -97,12 +104,24 @@ module _ (file seen queue contents : List ℕ) where
       go e (long q) = let n : _≡_ {A = ℕ} 1 2 = cc in absurd (omega arith)
       go e (little h l q) = let n : 0 ≡ p = cc in (sym n, h, l)
       go e (whole h q) =
-          absurd (⊎-elim (λ (n : _≡_ {A = ℕ} 2 1). omega arith) (λ (n : (3 ≤ 2) × (2 ≤ 10)). omega (arith, n .0)) (refusal-number file 2 p (sym q ∙ e)))
+          absurd
+          (⊎-elim (λ (n : _≡_ {A = ℕ} 2 1). omega arith) (λ (n : (3 ≤ 2) × (2 ≤ 10)). omega (arith, n .0))
+          (refusal-number file 2 p (sym q ∙ e)))
 
   -- with enough lent, the reply is that to the file alone
   pub check-reply : enough seen queue contents ≡ true → checkOf file seen queue contents .reply ≡ replyOf file
   unfolding replyOf
   check-reply e = ap replyTo (lent-enough e)
+
+  -- scratch of 32,511 gives 2 and 32,512 does not
+  pub scratch-under : length file ≤ mostBytes → length seen ≡ 32511 → checkOf file seen queue contents .reply ≡ refused 2 0
+  scratch-under h e = ap replyTo (lent-little h (little-seen (omega arith)))
+
+  pub scratch-enough : length seen ≡ 32512 → length queue ≡ 32512 → contentsLeast ≤ length contents
+      → (p : ℕ) → checkOf file seen queue contents .reply ≡ refused 2 p → ⊥
+  scratch-enough a b c p e =
+      let long = long-enough (omega arith) (omega arith) c in
+      false≢true (sym (refused-two p .0 (reply-refused (readLent file seen queue contents) e) .2) ∙ long)
 
   -- FROM THE REPLY AND THREE FACTS to the promise
   pub checks-made : {r : FileReply} {seen₁ queue₁ contents₁ : List ℕ} → r ≡ replyTo (readLent file seen queue contents)

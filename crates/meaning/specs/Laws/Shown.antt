@@ -3,6 +3,7 @@ use Prim.Native.Nat.{ℕ, zero, suc, _+_, _*_, _≤_, zero-le}
 use mathlib.Core.Path.{_≡_, refl, sym, subst}
 use mathlib.Core.List.{List, [], _∷_}
 use lib.ListN.{length, drop, take, getD, length-append, length-drop, length-take}
+use lib.Seq.{take-append-seam}
 use native.Mathlib.Omega.{arith}
 use native.Mathlib.Nat.{mul-le-mul}
 use Rattle.session.specs.Part as Part
@@ -23,11 +24,12 @@ use Rattle.model.specs.Laws.Lengths.{taken, shown-bound}
 use Rattle.model.specs.Laws.Verdicts.{verdict-means}
 use Rattle.meaning.specs.Tables.{actionOf, sessionOf}
 use Rattle.meaning.specs.Reply.{FileReply, refused, verdict, replyTo, shownOf}
-use Rattle.meaning.specs.Checking.{contentsAfter}
+use Rattle.meaning.specs.Checking.{readLent, contentsAfter, checkOf}
 use Rattle.meaning.specs.Laws.Rows.{transition-row}
 use Rattle.meaning.specs.Laws.Order.{messages-are}
 use Rattle.meaning.specs.Laws.Sessions.{well-formed}
 use Rattle.meaning.specs.Laws.Claims.{Sound}
+use Rattle.meaning.specs.Laws.Checking.{Ways, long, little, whole, ways, enough-long, lent-sound}
 
 -- a failing item shows no more than w
 reply-shows : (i : Item) (w : List ℕ) (b : ℕ) → length w ≤ b → length (shownOf (verdict (reply i w))) ≤ b
@@ -83,8 +85,27 @@ pub shown-fits : (x : Part.Part Tables) → Sound x → length (shownOf (replyTo
 shown-fits (Part.refused k p) ok = zero-le
 shown-fits (Part.got T next) ok = session-fits T (ok T next refl)
 
-pub contents-length : (r : FileReply) (contents : List ℕ) → length (shownOf r) ≤ length contents → length (contentsAfter r contents) ≡ length contents
-contents-length r contents h = omega (arith, length-append (shownOf r) (drop (length (shownOf r)) contents), length-drop (length (shownOf r)) contents)
+module _ (file seen queue contents : List ℕ) where
+  -- what checking shows is no longer than the buffer lent
+  pub shown-within : length (shownOf (checkOf file seen queue contents .reply)) ≤ length contents
+  shown-within = go (ways file seen queue contents)
+    where
+      go : Ways file seen queue contents (readLent file seen queue contents) → length (shownOf (checkOf file seen queue contents .reply)) ≤ length contents
+      go (long e) = subst (λ x. length (shownOf (replyTo x)) ≤ length contents) (sym e) zero-le
+      go (little h l e) = subst (λ x. length (shownOf (replyTo x)) ≤ length contents) (sym e) zero-le
+      go (whole h e) =
+          let fits = shown-fits (readLent file seen queue contents) (lent-sound file seen queue contents) in
+          omega (arith, enough-long file seen queue contents h .2)
+
+  -- the buffer keeps its length
+  pub contents-kept : length (checkOf file seen queue contents .contents) ≡ length contents
+  contents-kept =
+      let shown = shownOf (checkOf file seen queue contents .reply) in
+      omega (arith, shown-within, length-append shown (drop (length shown) contents), length-drop (length shown) contents)
+
+-- what is shown stands at the front
+pub shown-front : (r : FileReply) (contents : List ℕ) → take (length (shownOf r)) (contentsAfter r contents) ≡ shownOf r
+shown-front r contents = take-append-seam (shownOf r) (drop (length (shownOf r)) contents)
 
 -- EACH MESSAGE SHOWN is below the sum of the messages, and so a byte
 module _ (T : Tables) (ok : Valid T) where

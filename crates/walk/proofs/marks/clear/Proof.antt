@@ -1,9 +1,8 @@
 use borrow.Author.Needs.{needs}
 use native.Mathlib.Omega.{arith}
-use Prim.Native.Nat.{_≤_, _-_}
-use mathlib.Core.Path.{sym, ap, subst, _∙_}
-use lib.ListN.{set, getD}
-use Rattle.walk.specs.ClearLaws.{Clearing, clearing-begin, clearing-next, clearing-end}
+use Prim.Native.Nat.{_-_}
+use mathlib.Core.Path.{sym, _∙_}
+use Rattle.walk.specs.Laws.Clearing.{Clearing, clearing-begin, clearing-next, clearing-end}
 use Rattle.walk.proofs.marks.clear.Statement.{statement}
 use Rattle.walk.proofs.marks.clear.Tie as tie
 use Rattle.walk.proofs.marks.clear.Reads as reads

@@ -1,5 +1,5 @@
 use native.Mathlib.Omega.{arith}
-use Rattle.walk.specs.MarkLaws.{tables-most, tables-room, pushed-old, pushed-new}
+use Rattle.walk.specs.Laws.Marks.{tables-most, tables-room, pushed-old, pushed-new}
 use borrow.Author.Needs.{needs}
 use Rattle.walk.proofs.marks.mark.Statement.{statement}
 use Rattle.walk.proofs.marks.mark.Tie as tie

@@ -1,7 +1,6 @@
 use mathlib.Core.Path.{sym, ap, _∙_}
 use Rattle.session.specs.Said.{saidArc}
-use Rattle.session.proofs.Arcs.{nowhere-told}
-use Rattle.walk.specs.MoveLaws.{along-nowhere, along-missing, along-arc}
+use Rattle.walk.specs.Laws.Moves.{along-nowhere, along-missing, along-arc}
 use borrow.Author.Needs.{needs}
 use Rattle.walk.proofs.moves.along.Statement.{statement}
 use Rattle.walk.proofs.moves.along.Tie as tie
@@ -27,7 +26,7 @@ enum-told c = search needs
 
 -- src/moves.rt:32:9
 returns-2 : tie.Need-returns-2
-returns-2 c = along-missing (c .before .before .before .if1 .left) (c .before .before .before .before .before .pre .1) (sym (c .before .before .arc-of .ensures) ∙ nowhere-told (c .before .before .arc-of .result) (c .before .match .keys2))
+returns-2 c = along-missing (c .before .before .before .if1 .left) (c .before .before .before .before .before .pre .1) (sym (c .before .before .arc-of .ensures) ∙ ap saidArc (c .enum-told .given .1))
 
 -- src/moves.rt:23:1
 returns-3 : tie.Need-returns-3

@@ -1,7 +1,7 @@
-use Rattle.walk.specs.MoveLaws.{Following, follow-begin, follow-next, follow-end}
+use Rattle.walk.specs.Laws.Moves.{Following, follow-begin, follow-next, follow-end}
 use borrow.Author.Needs.{needs}
 use native.Mathlib.Omega.{arith}
-use Prim.Native.Nat.{_≤_, _+_, _-_}
+use Prim.Native.Nat.{_≤_, _-_}
 use Rattle.walk.proofs.moves.follow.Statement.{statement}
 use Rattle.walk.proofs.moves.follow.Tie as tie
 use Rattle.walk.proofs.moves.follow.Reads as reads

@@ -1,5 +1,5 @@
 use native.Mathlib.Omega.{arith}
-use Rattle.walk.specs.PairLaws.{side-most, node-coded}
+use Rattle.walk.specs.Laws.Pairs.{side-most, node-coded}
 use borrow.Author.Needs.{needs}
 use Rattle.walk.proofs.pairs.code_of.Statement.{statement}
 use Rattle.walk.proofs.pairs.code_of.Tie as tie

@@ -1,4 +1,4 @@
-use Rattle.walk.specs.PairLaws.{node-low, node-high}
+use Rattle.walk.specs.Laws.Pairs.{node-low, node-high}
 use borrow.Author.Needs.{needs}
 use Rattle.walk.proofs.pairs.node_of.Statement.{statement}
 use Rattle.walk.proofs.pairs.node_of.Tie as tie

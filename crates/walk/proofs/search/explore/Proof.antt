@@ -6,10 +6,10 @@ use Rattle.explore.specs.Search.{search as searched}
 use Rattle.model.specs.Judge.{same}
 use Rattle.walk.specs.Pairs.{mostPairs, decode}
 use Rattle.walk.specs.Marks.{view}
-use Rattle.walk.specs.MarkLaws.{tables-most}
+use Rattle.walk.specs.Laws.Marks.{tables-most}
 use Rattle.walk.specs.Over.{goOver, wrongOver}
-use Rattle.walk.specs.SweepLaws.{swept-as}
-use Rattle.walk.specs.ExploreLaws.{Exploring, exploring-begin, exploring-found, exploring-next, exploring-end}
+use Rattle.walk.specs.Laws.Sweeps.{swept-as}
+use Rattle.walk.specs.Laws.Exploring.{Exploring, exploring-begin, exploring-found, exploring-next, exploring-end}
 use Rattle.walk.proofs.search.explore.Statement.{statement}
 use Rattle.walk.proofs.search.explore.Tie as tie
 use Rattle.walk.proofs.search.explore.Reads as reads

@@ -1,7 +1,7 @@
 use mathlib.Core.Path.{sym, ap, _∙_}
 use mathlib.Core.Bool.{not}
 use borrow.Author.Tests.{not-true, not-false}
-use Rattle.walk.specs.ExploreLaws.{fails-before, fails-source, fails-entry, fails-step}
+use Rattle.walk.specs.Laws.Exploring.{fails-before, fails-source, fails-entry, fails-step}
 use borrow.Author.Needs.{needs}
 use Rattle.walk.proofs.search.fails.Statement.{statement}
 use Rattle.walk.proofs.search.fails.Tie as tie

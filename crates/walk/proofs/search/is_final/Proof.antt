@@ -1,7 +1,7 @@
 use mathlib.Core.Path.{sym, ap}
 use denote.Ref.{now}
 use Rattle.walk.specs.Over.{finalOver}
-use Rattle.walk.specs.PairLaws.{place-nowhere, place-state}
+use Rattle.walk.specs.Laws.Pairs.{place-nowhere, place-state}
 use borrow.Author.Needs.{needs}
 use Rattle.walk.proofs.search.is_final.Statement.{statement}
 use Rattle.walk.proofs.search.is_final.Tie as tie

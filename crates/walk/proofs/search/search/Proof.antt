@@ -2,8 +2,8 @@ use mathlib.Core.Path.{ap}
 use Rattle.explore.specs.Search.{search as searched}
 use Rattle.model.specs.Judge.{same}
 use native.Mathlib.Omega.{arith}
-use Rattle.walk.specs.ClearLaws.{tables-blank}
-use Rattle.walk.specs.ExploreLaws.{begins, answered-as}
+use Rattle.walk.specs.Laws.Clearing.{tables-blank}
+use Rattle.walk.specs.Laws.Exploring.{begins, answered-as}
 use borrow.Author.Needs.{needs}
 use Rattle.walk.proofs.search.search.Statement.{statement}
 use Rattle.walk.proofs.search.search.Tie as tie

@@ -15,7 +15,7 @@ use Rattle.explore.specs.Search.{Found, push, sweep}
 use Rattle.model.specs.Verdict.{Pair}
 use Rattle.model.specs.Judge.{same}
 use Rattle.walk.specs.Pairs.{mostPairs, decode}
-use Rattle.walk.specs.PairLaws.{same-codes}
+use Rattle.walk.specs.Laws.Pairs.{same-codes}
 use Rattle.walk.specs.Marks.{foundAt, view, mem, count, Tables, Shows, Pushed, Swept}
 
 -- ROOM: where an entry is 0 not all are counted

@@ -9,10 +9,10 @@ use native.Mathlib.Decide.{decLt}
 use lib.Dec.{eqb}
 use lib.ListN.{length, getD, set, take, replicate, length-set, length-replicate, getD-replicate}
 use lib.Seq.{getD-set-same, getD-set-other, ext-getD}
-use borrow.Author.Tests.{eqb-true, eqb-false, ne-eqb}
+use borrow.Author.Tests.{eqb-true, eqb-false}
 use Rattle.walk.specs.Pairs.{mostPairs}
 use Rattle.walk.specs.Marks.{mem, Tables, Blank, count}
-use Rattle.walk.specs.MarkLaws.{tables-most}
+use Rattle.walk.specs.Laws.Marks.{tables-most}
 
 -- the entries of the queue before k are cleared
 pub record Clearing (seen queue : List ℕ) (tail k : ℕ) : Type 0 where

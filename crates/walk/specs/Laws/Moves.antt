@@ -6,7 +6,6 @@ use mathlib.Core.List.{List, [], _∷_}
 use Prim.Native.Nat.{ℕ, suc, _+_, _-_, _*_, _≤_, _<_}
 use native.Mathlib.Omega.{arith}
 use native.Mathlib.Nat.{sub-zero, add-zero, sub-eq-zero-of-le}
-use native.Mathlib.Numerals.{add-one}
 use lib.ListN.{length, getD, take, drop}
 use lib.Seq.{drop-cons}
 use borrow.Author.Tests.{lt-ltb}
@@ -19,9 +18,12 @@ use Rattle.model.specs.Verdict.{Pair, after}
 use Rattle.model.specs.Judge.{pair}
 use Rattle.walk.specs.declared.pairs.Node.{Node}
 use Rattle.walk.specs.declared.pairs.Walk.{Walk}
-use Rattle.walk.specs.Pairs.{nowhere, afterSide, place, sideOf, pairOf}
-use Rattle.walk.specs.PairLaws.{place-nowhere, place-state, place-small}
+use Rattle.walk.specs.declared.moves.Next.{Next}
+use Rattle.walk.specs.declared.moves.Next.the-variants as Answer
+use Rattle.walk.specs.Pairs.{nowhere, afterSide, place, sideOf, pairOf, Coded}
+use Rattle.walk.specs.Laws.Pairs.{place-nowhere, place-state, place-small}
 use Rattle.walk.specs.Over.{poolOver, wordOver, readOver, jumpOver, ArcsSmall, WordWithin, Reads, Follows}
+use Rattle.walk.specs.Leads.{LeadsTo}
 
 pub arc-is : (arcs : List ℕ) (s m : ℕ) → m < 32 → arcOf arcs s m ≡ arcAt arcs s m
 arc-is arcs s m h = rw (lt-ltb m 32 h, arcOf)
@@ -98,6 +100,16 @@ pub pair-state : (entry : Bool) (y : Node) → (y .target ≡ nowhere → ⊥)
     → some (pairOf y) ≡ pair entry (sideOf (y .side)) (some (y .source)) (place (y .target))
 pair-state entry y n =
     ap (λ o. some (sideOf (y .side) (y .source) o)) (place-state n) ∙ sym (ap (pair entry (sideOf (y .side)) (some (y .source))) (place-state n))
+
+-- what the code answers then
+pub leads-nowhere : {o : Option Pair} → o ≡ none → LeadsTo Answer.Nowhere o
+leads-nowhere e = record { is = sym e; small = tt }
+
+pub leads-pair : {y : Node} {c : ℕ} {o : Option Pair} → Coded y c → some (pairOf y) ≡ o → LeadsTo (Answer.Pair c) o
+leads-pair k e = record { is = ap some (k .is) ∙ e; small = k .small }
+
+pub leads-as : {r : Next} {o o′ : Option Pair} → o ≡ o′ → LeadsTo r o → LeadsTo r o′
+leads-as e l = record { is = l .is ∙ e; small = l .small }
 
 -- where both read a message
 pub read-missing : (arcs : List ℕ) (entry : Bool) (k s : ℕ) (t : Option ℕ) (m : ℕ) → m < 32 → arcAt arcs s m ≡ none → readOver arcs entry k s t m ≡ none

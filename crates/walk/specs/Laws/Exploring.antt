@@ -1,31 +1,31 @@
 -- The search in the code: the pairs before place k were taken, and what the definition says from there on is its answer.
 use mathlib.Core.Path.{_≡_, refl, sym, ap, ap₂, subst, _∙_}
 use mathlib.Core.Bool.{Bool, true, false, not, _&&_}
-use mathlib.Core.Option.{Option, none, some}
-use mathlib.Core.List.{List, [], _∷_, map}
+use mathlib.Core.Option.{Option, some}
+use mathlib.Core.List.{List, [], _∷_}
 use Prim.Native.Nat.{ℕ, zero, suc, _+_, _-_, _≤_, _<_}
 use native.Mathlib.Omega.{arith}
 use native.Mathlib.Nat.{sub-zero}
 use native.Mathlib.Numerals.{add-one}
-use lib.ListN.{length, getD, take, getElem?}
+use lib.ListN.{length, getD, getElem?}
 use Rattle.explore.specs.Search as Search
 use Rattle.explore.specs.Search.{Found, search, sweep}
 use Rattle.explore.specs.SearchLaws.{search-end, search-found, search-on}
 use Rattle.session.specs.PartLaws.{one-more}
-use Rattle.model.specs.Verdict.{Pair, before, after}
+use Rattle.model.specs.Verdict.{Pair}
 use Rattle.model.specs.Judge.{same}
 use Rattle.walk.specs.declared.pairs.Node.{Node}
 use Rattle.walk.specs.declared.search.Outcome.{Outcome}
 use Rattle.walk.specs.declared.search.Outcome.the-variants as Answer
 use Rattle.walk.specs.Pairs.{mostPairs, place, sideOf, decode, pairOf, NodeFits}
-use Rattle.walk.specs.PairLaws.{place-small, after-side}
+use Rattle.walk.specs.Laws.Pairs.{place-small, after-side}
 use Rattle.walk.specs.Marks.{foundAt, view, Tables, Pushed, Swept}
-use Rattle.walk.specs.MarkLaws.{tables-most, view-length, swept-more}
+use Rattle.walk.specs.Laws.Marks.{tables-most, view-length, swept-more}
 use Rattle.walk.specs.Over.{finalOver, wrongOver}
 use Rattle.walk.specs.Answers.{Answered}
 
 -- the pair at a place of the queue
-view-place : (seen queue : List ℕ) (tail k : ℕ) → k < tail → k < length queue → getElem? (view seen queue tail) k ≡ some (foundAt seen (getD queue k 0))
+pub view-place : (seen queue : List ℕ) (tail k : ℕ) → k < tail → k < length queue → getElem? (view seen queue tail) k ≡ some (foundAt seen (getD queue k 0))
 view-place seen [] tail k h g = absurd (omega arith)
 view-place seen (c ∷ queue) zero k h g = absurd (omega arith)
 view-place seen (c ∷ queue) (suc tail) zero h g = refl
@@ -121,3 +121,6 @@ begins p e = p .shows .is ∙ ap (λ x. record { at = x; parent = 0 } ∷ []) e
 
 pub answered-as : {seen queue : List ℕ} {r : Outcome} {o o′ : Search.Outcome Pair} → o ≡ o′ → Answered seen queue r o → Answered seen queue r o′
 answered-as {seen} {queue} {r} e a = subst (Answered seen queue r) e a
+
+pub answered-at : {seen queue : List ℕ} {r r′ : Outcome} {o : Search.Outcome Pair} → r ≡ r′ → Answered seen queue r o → Answered seen queue r′ o
+answered-at {seen} {queue} {o = o} e a = subst (λ r. Answered seen queue r o) e a

@@ -1,0 +1,57 @@
+-- The judgement of an item's walk is the model's judgement of the item, and its contents are not too long to be shown.
+use mathlib.Core.Path.{_≡_, sym, ap, subst, _∙_}
+use mathlib.Core.Option.{some, Option·none-ne-some}
+use mathlib.Core.List.{List}
+use Prim.Native.Nat.{ℕ, _+_, _*_, _≤_}
+use native.Mathlib.Omega.{arith}
+use native.Mathlib.Nat.{mul-le-mul}
+use lib.ListN.{length}
+use Rattle.model.specs.Session.{Session, WellFormed}
+use Rattle.model.specs.Verdict as Verdict
+use Rattle.model.specs.Verdict.{Item, start, step, entry, Pair}
+use Rattle.model.specs.Judge.{Begun, judge, walkOf}
+use Rattle.model.specs.Searched.{searchWalk, judgeBySearch}
+use Rattle.model.specs.Laws.Items.{IsItem}
+use Rattle.model.specs.Laws.Judging.{JudgedMeans}
+use Rattle.model.specs.Laws.Verdicts.{judge-means}
+use Rattle.model.specs.Laws.Searches.{search-is}
+use Rattle.model.specs.Laws.Lengths.{taken, shown-bound}
+use Rattle.walk.specs.declared.pairs.Walk.{Walk}
+use Rattle.walk.specs.declared.judge.Judged.{Judged}
+use Rattle.walk.specs.Pairs.{mostPairs}
+use Rattle.walk.specs.Over.{walkOver, Over}
+use Rattle.walk.specs.Judged.{judgedOver, ShownFits, saidJudged, Judges}
+use Rattle.walk.specs.Laws.Judged.{judged-is}
+
+-- 127 states have no more pairs than there are numbers
+pairs-fit : (n : ℕ) → n ≤ 127 → Verdict.mostPairs n ≤ mostPairs
+pairs-fit n h =
+    let g : n + 1 ≤ 128 = omega arith in
+    let z : n * (n + 1) ≤ 127 * 128 = mul-le-mul h g in
+    omega arith
+
+-- an item that has a walk is judged by it
+walk-judges : (S : Session) (i : Item) (B : Begun) → walkOf S i ≡ some B → searchWalk S mostPairs (some B) ≡ judgeBySearch S mostPairs i
+unfolding judgeBySearch
+walk-judges S start B e = absurd (Option·none-ne-some B e)
+walk-judges S (step c t τ) B e = ap (searchWalk S mostPairs) (sym e)
+walk-judges S (entry b d) B e = ap (searchWalk S mostPairs) (sym e)
+
+module _ (arcs finals rows : List ℕ) (w : Walk) (root : Pair) (S : Session) (o : Over arcs finals (w .sum) S) (wf : WellFormed S)
+    (few : S .pool .states ≤ 127) (i : Item) (item : IsItem S i) (at : walkOf S i ≡ some (record { walk = walkOver rows w; root = root })) where
+  pub judged-item : judgedOver arcs finals rows w root ≡ judge S i
+  judged-item =
+      judged-is arcs finals rows w S o root
+      ∙ walk-judges S i (record { walk = walkOver rows w; root = root }) at
+      ∙ search-is S wf mostPairs (pairs-fit (S .pool .states) few) i item
+
+  pub item-fits : length (taken i) ≤ 256 → ShownFits arcs finals rows w root
+  item-fits short =
+      record {
+        most = λ u e. omega (arith, shown-bound S wf i item u (sym judged-item ∙ e), pairs-fit (S .pool .states) few);
+      }
+
+  -- WHAT THE CODE'S ANSWER MEANS: it counts the different pairs of the item, or shows the least contents that speak against it
+  pub answer-means : {contents seen′ queue′ contents′ : List ℕ} {r : Judged} → Judges arcs finals rows w root contents seen′ queue′ contents′ r
+      → JudgedMeans S i (saidJudged r contents′)
+  answer-means j = subst (JudgedMeans S i) (sym (j .reply ∙ judged-item)) (judge-means S wf i item)

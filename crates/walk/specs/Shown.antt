@@ -1,0 +1,69 @@
+-- THE CONTENTS SHOWN for a pair that was found: read back along the parents in the lent tables, an edge by its lowest letter, and the step
+-- as the messages that it takes out.
+use mathlib.Core.Path.{_≡_}
+use mathlib.Core.Bool.{true, false}
+use mathlib.Core.List.{List, [], _∷_, _++_}
+use Prim.Native.Nat.{ℕ, zero, suc, _+_, _-_, _<_}
+use lib.Dec.{eqb}
+use lib.ListN.{length, getD, drop}
+use Rattle.explore.specs.Search.{lowest}
+use Rattle.model.specs.Judge.{same}
+use Rattle.walk.specs.declared.pairs.Walk.{Walk}
+use Rattle.walk.specs.declared.edges.Edge.{Edge}
+use Rattle.walk.specs.Pairs.{decode}
+use Rattle.walk.specs.Marks.{Tables}
+use Rattle.walk.specs.Over.{wordOver, goOver}
+
+-- the most messages that are shown: every contents buffer that is lent has room for them
+abbrev pub mostShown : ℕ
+mostShown = 32768
+
+-- the place of the parent of the pair at place k
+abbrev pub parentOf : List ℕ → List ℕ → ℕ → ℕ
+parentOf seen queue k = getD seen (getD queue k 0) 0 - 1
+
+-- what a letter stands for
+abbrev pub partOver : List ℕ → Walk → ℕ → List ℕ
+partOver rows w m = elim (eqb m (w .sum)) [ true ↦ wordOver rows (w .word) (w .out) | false ↦ m ∷ [] ]
+
+module _ (arcs rows : List ℕ) (w : Walk) where
+  -- the lowest letter that leads from the pair of one number to that of another
+  abbrev pub letterOver : ℕ → ℕ → ℕ
+  letterOver c d = lowest (suc (w .sum)) (goOver arcs rows w) same (decode c) (decode d)
+
+  module _ (seen queue : List ℕ) where
+    abbrev pub edgeLetter : ℕ → ℕ
+    edgeLetter k = letterOver (getD queue (parentOf seen queue k) 0) (getD queue k 0)
+
+    -- what is shown for the pair at place k, where at most so many parents are followed
+    unfoldable pub shownFrom : ℕ → ℕ → List ℕ
+    shownFrom zero k = []
+    shownFrom (suc n) zero = []
+    shownFrom (suc n) (suc k) = shownFrom n (parentOf seen queue (suc k)) ++ partOver rows w (edgeLetter (suc k))
+
+    -- parents stand earlier, so a place has no more edges than its number
+    abbrev pub shownOver : ℕ → List ℕ
+    shownOver k = shownFrom k k
+
+-- place k of the queue has a pair
+pub record Placed (seen queue : List ℕ) (k : ℕ) : Type 0 where
+  pub tail : ℕ
+  pub tables : Tables seen queue tail
+  pub within : k < tail
+
+-- the edge to the pair at place k
+pub record EdgeOf (arcs rows : List ℕ) (w : Walk) (seen queue : List ℕ) (k : ℕ) (e : Edge) : Type 0 where
+  pub parent : e .parent ≡ parentOf seen queue k
+  pub earlier : e .parent < k
+  pub letter : e .letter ≡ edgeLetter arcs rows w seen queue k
+
+-- u was put before the place end of the contents, and stands from r on
+pub record Put (u : List ℕ) (end : ℕ) (contents contents′ : List ℕ) (r : ℕ) : Type 0 where
+  pub from : r + length u ≡ end
+  pub long : length contents′ ≡ length contents
+  pub is : drop r contents′ ≡ u ++ drop end contents
+
+-- u fills the front of the contents, and the rest keeps its bytes
+pub record Shown (u contents contents′ : List ℕ) (r : ℕ) : Type 0 where
+  pub number : r ≡ length u
+  pub is : contents′ ≡ u ++ drop r contents

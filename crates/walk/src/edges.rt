@@ -1,0 +1,90 @@
+// The edges of a search, read back: the parent of a pair, and the lowest letter that leads from it to the pair.
+use crate::marks::wide;
+use crate::moves::Next;
+use crate::moves::read;
+use crate::moves::step;
+use crate::pairs::Node;
+use crate::pairs::Walk;
+use crate::pairs::node_of;
+ghost use mathlib.Core.Path.{_≡_};
+ghost use Prim.Native.Nat.{_<_, _≤_};
+ghost use Rattle.explore.specs.Search.{leadsTo};
+ghost use Rattle.model.specs.Judge.{same};
+ghost use Rattle.walk.specs.Pairs.{mostPairs, pairOf, decode, NodeFits};
+ghost use Rattle.walk.specs.Over.{goOver, Lent};
+ghost use Rattle.walk.specs.Leads.{saidNext};
+ghost use Rattle.walk.specs.Shown.{letterOver, Placed, EdgeOf};
+
+// The parent's place in the queue, and the letter.
+pub struct Edge {
+    pub parent: usize,
+    pub letter: u8,
+}
+
+// Is it the pair of this code that a letter leads to?
+fn meets(next: Next, code: usize) -> bool
+    ensures { λ r. ⌜ r ≡ leadsTo same (saidNext next) (decode code) ⌝ }
+{
+    let Next::Pair(own) = next else {
+        return false;
+    };
+    own == code
+}
+
+// Does this letter lead from one pair to the other?
+fn leads(arcs: &[u8], rows: &[u8], w: Walk, x: Node, m: u8, code: usize) -> bool
+    requires { ⌜ Lent (now arcs) (now rows) w ⌝ }
+    requires { ⌜ NodeFits x ⌝ }
+    requires { ⌜ m ≤ w .sum ⌝ }
+    ensures { λ r. ⌜ r ≡ leadsTo same (goOver (now (arcs .entry)) (now (rows .entry)) w (pairOf x) m) (decode code) ⌝ }
+{
+    if x.side == 0 {
+        if m < w.cut {
+            return meets(read(arcs, w.entry, x, m), code);
+        }
+        if m < w.sum {
+            return false;
+        }
+        return meets(step(arcs, rows, w, x), code);
+    }
+    if m < w.cut {
+        return false;
+    }
+    if m < w.sum {
+        return meets(read(arcs, w.entry, x, m), code);
+    }
+    false
+}
+
+// The lowest letter that leads from one pair to the other.
+fn letter_of(arcs: &[u8], rows: &[u8], w: Walk, from: usize, code: usize) -> u8
+    requires { ⌜ Lent (now arcs) (now rows) w ⌝ }
+    requires { ⌜ from < mostPairs ⌝ }
+    ensures { λ r. ⌜ r ≡ letterOver (now (arcs .entry)) (now (rows .entry)) w from code ⌝ }
+{
+    let x = node_of(from);
+    let mut m: u8 = 0;
+    while m <= w.sum {
+        if leads(arcs, rows, w, x, m, code) {
+            return m;
+        }
+        m += 1;
+    }
+    m
+}
+
+// The edge that a pair was found along; the first pair has none.
+pub fn edge_to(arcs: &[u8], rows: &[u8], w: Walk, seen: &[u16], queue: &[u16], k: usize) -> Edge
+    requires { ⌜ Lent (now arcs) (now rows) w ⌝ }
+    requires { ⌜ Placed (now seen) (now queue) k ⌝ }
+    requires { ⌜ 0 < k ⌝ }
+    ensures { λ r. ⌜ EdgeOf (now (arcs .entry)) (now (rows .entry)) w (now (seen .entry)) (now (queue .entry)) k r ⌝ }
+{
+    let code = wide(queue[k]);
+    let parent = wide(seen[code]) - 1;
+    let from = wide(queue[parent]);
+    Edge {
+        parent,
+        letter: letter_of(arcs, rows, w, from, code),
+    }
+}

@@ -1,0 +1,54 @@
+// The judgement of one walk: searched, the contents shown, and the tables cleared.
+use crate::contents::show;
+use crate::marks::clear;
+use crate::pairs::Node;
+use crate::pairs::Walk;
+use crate::search::Outcome;
+use crate::search::search;
+ghost use mathlib.Core.Path.{_≡_};
+ghost use Prim.Native.Nat.{_≤_};
+ghost use lib.ListN.{length};
+ghost use Rattle.walk.specs.Pairs.{mostPairs, pairOf, NodeFits};
+ghost use Rattle.walk.specs.Marks.{Blank};
+ghost use Rattle.walk.specs.Over.{Lent};
+ghost use Rattle.walk.specs.Shown.{mostShown};
+ghost use Rattle.walk.specs.Judged.{ShownFits, Judges};
+
+// No pair fails, and so many there are; or so many messages are shown.
+pub enum Judged {
+    Passes(usize),
+    Fails(usize),
+}
+
+pub fn judge(
+    arcs: &[u8],
+    finals: &[u8],
+    rows: &[u8],
+    w: Walk,
+    root: Node,
+    seen: &mut [u16],
+    queue: &mut [u16],
+    contents: &mut [u8],
+) -> Judged
+    requires { ⌜ Lent (now arcs) (now rows) w ⌝ }
+    requires { ⌜ length (now finals) ≡ 127 ⌝ }
+    requires { ⌜ NodeFits root ⌝ }
+    requires { ⌜ Blank (now seen) (now queue) ⌝ }
+    requires { ⌜ length (now seen) ≡ mostPairs ⌝ }
+    requires { ⌜ length (now queue) ≡ mostPairs ⌝ }
+    requires { ⌜ ShownFits (now arcs) (now finals) (now rows) w (pairOf root) ⌝ }
+    requires { ⌜ mostShown ≤ length (now contents) ⌝ }
+    ensures { λ r. ⌜ Judges (now (arcs .entry)) (now (finals .entry)) (now (rows .entry)) w (pairOf root) (now (contents .entry)) (now (seen .exit)) (now (queue .exit)) (now (contents .exit)) r ⌝ }
+{
+    match search(arcs, finals, rows, w, root, seen, queue) {
+        Outcome::Finished(tail) => {
+            clear(seen, queue, tail);
+            Judged::Passes(tail)
+        }
+        Outcome::Found(k, tail) => {
+            let n = show(arcs, rows, w, seen, queue, k, contents);
+            clear(seen, queue, tail);
+            Judged::Fails(n)
+        }
+    }
+}
