@@ -12,7 +12,7 @@ use Rattle.session.specs.Map.{readRoots, readMap}
 use Rattle.session.specs.Bad.{readEntries, readBad}
 use Rattle.session.specs.File.{fromBad, fromMap, fromPool, fromTransitions, fromQueues, fromMachines, readFile}
 use Rattle.meaning.specs.Cases.{hex}
-use Rattle.diagram.specs.Member.{Reply, yes, no, refusal, judge, ask, memberOf}
+use Rattle.diagram.specs.Member.{yes, no, refusal, judge, ask, memberOf}
 
 -- one machine of one state, so control state 0 alone; message 0 is of queue 0 and message 1 of queue 1; the set is any 0s, then any 1s
 abbrev pub S : List ℕ

@@ -5,3 +5,4 @@ pub mod Judging
 pub mod Asking
 pub mod Order
 pub mod Meaning
+pub mod Refused

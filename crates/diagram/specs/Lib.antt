@@ -1,7 +1,8 @@
--- Membership: what is to be believed stands in Follow, Member and Said; the laws are proved from them.
+-- Membership: what is to be believed stands in Follow, Member, Said, Meaning and Refused; the laws are proved from them.
 pub mod Follow
 pub mod Member
 pub mod Said
 pub mod Meaning
+pub mod Refused
 pub mod Examples
 pub mod Laws

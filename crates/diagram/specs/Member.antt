@@ -4,10 +4,9 @@ use mathlib.Core.Bool.{Bool, true, false}
 use mathlib.Core.Option.{Option}
 use mathlib.Core.List.{List, [], _∷_}
 use lib.Dec.{ltb, leb}
-use Rattle.session.specs.Part.{Part, got, refused}
+use Rattle.session.specs.Part.{got, refused}
 use Rattle.session.specs.File.{readFile}
-use Rattle.session.specs.declared.tables.Tables.{Tables}
-use Rattle.model.specs.Model.{Model, total, queueOf, controls}
+use Rattle.model.specs.Model.{total, queueOf, controls}
 use Rattle.model.specs.Diagram.{Pool, along, isFinal}
 use Rattle.model.specs.Session.{Session}
 use Rattle.meaning.specs.Tables.{sessionOf}

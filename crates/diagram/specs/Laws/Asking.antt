@@ -1,6 +1,6 @@
 -- The question, by what reading the file answered and by the tables that it handed back.
 use Prim.Native.Nat.{ℕ, _≤_, _<_}
-use mathlib.Core.Path.{_≡_, refl, sym, ap, _∙_}
+use mathlib.Core.Path.{_≡_, sym, ap}
 use mathlib.Core.Option.{Option}
 use mathlib.Core.List.{List}
 use lib.ListN.{take}
@@ -14,7 +14,7 @@ use Rattle.session.specs.Laws.Valid.{Valid, valid}
 use Rattle.session.specs.declared.tables.Tables.{Tables}
 use Rattle.model.specs.Model.{controls}
 use Rattle.meaning.specs.Tables.{poolOf, rootOf, sessionOf}
-use Rattle.diagram.specs.Member.{Reply, refusal, judge, ask, memberOf}
+use Rattle.diagram.specs.Member.{refusal, judge, ask, memberOf}
 use Rattle.diagram.specs.Laws.Tables.{controls-are}
 
 module _ {T : Tables} (v : Valid T) (c : ℕ) (contents : List ℕ) where

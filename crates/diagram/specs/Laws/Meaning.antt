@@ -1,6 +1,6 @@
 -- MEMBERSHIP IS RIGHT: what an answer means, and that contents as queues are always answered.
 use Prim.Native.Nat.{ℕ, _+_, _≤_, _<_}
-use mathlib.Core.Path.{_≡_, refl, sym, ap, subst, _∙_}
+use mathlib.Core.Path.{_≡_, refl, sym, ap, _∙_}
 use mathlib.Core.Bool.{Bool, true, false}
 use mathlib.Core.Option.{Option}
 use mathlib.Core.List.{List, [], _∷_}
@@ -14,14 +14,14 @@ use Rattle.model.specs.Model.{total, queueOf, controls, Contents}
 use Rattle.model.specs.Diagram.{Pool, along, accepts, word}
 use Rattle.model.specs.Session.{Session, inside}
 use Rattle.meaning.specs.Tables.{sessionOf}
-use Rattle.diagram.specs.Member.{Reply, yes, no, refusal, answer, judge, ask, memberOf}
+use Rattle.diagram.specs.Member.{yes, no, refusal, answer, judge, ask, memberOf}
 use Rattle.diagram.specs.Meaning.{Answered}
 use Rattle.diagram.specs.Laws.Judging.{judge-unknown, judge-earlier, judge-on}
 use Rattle.diagram.specs.Laws.Order.{Rises, at-last, further, contents-rise, split}
 use Rattle.diagram.specs.Laws.Asking.{member-unread, member-asked}
 
 -- a refusal is no answer, and one answer is not the other
-refusal-no-answer : {k p : ℕ} (b : Bool) → refusal k p ≡ answer b → ⊥
+pub refusal-no-answer : {k p : ℕ} (b : Bool) → refusal k p ≡ answer b → ⊥
 refusal-no-answer true e = let z : _≡_ {A = ℕ} 0 1 = cc in omega arith
 refusal-no-answer false e = let z : _≡_ {A = ℕ} 0 1 = cc in omega arith
 
@@ -34,7 +34,8 @@ one-answer false true e = let z : _≡_ {A = ℕ} 0 1 = cc in absurd (omega arit
 -- THE WALK
 module _ (ns : List ℕ) (P : Pool) where
   -- contents in order are answered
-  judge-rising : (place : ℕ) {p : ℕ} (s : Option ℕ) {u : List ℕ} → Rises (queueOf ns) (total ns) p u → judge ns P place p s u ≡ answer (accepts P s u)
+  judge-rising : (place : ℕ) {p : ℕ} (s : Option ℕ) {u : List ℕ} → Rises (queueOf ns) (total ns) p u
+      → judge ns P place p s u ≡ answer (accepts P s u)
   unfolding judge
   judge-rising place s at-last = refl
   judge-rising place {p} s (further {m = m} {u = u} h l r) =
@@ -65,12 +66,12 @@ module _ (ns : List ℕ) (P : Pool) where
 
 -- THE QUESTION
 module _ (S : Session) (c : ℕ) where
-  ask-on : (contents : List ℕ) → c < controls (S .model)
+  pub ask-on : (contents : List ℕ) → c < controls (S .model)
       → ask S c contents ≡ judge (S .model .queues) (S .pool) 0 0 (S .root c) contents
   unfolding ask
   ask-on contents h = rw (lt-ltb c (controls (S .model)) h, ask)
 
-  ask-off : (contents : List ℕ) → controls (S .model) ≤ c → ask S c contents ≡ refusal 11 0
+  pub ask-off : (contents : List ℕ) → controls (S .model) ≤ c → ask S c contents ≡ refusal 11 0
   unfolding ask
   ask-off contents h = rw (le-ltb c (controls (S .model)) h, ask)
 

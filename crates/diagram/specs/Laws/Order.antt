@@ -1,6 +1,6 @@
 -- Contents whose messages are of no earlier queue than the one before are the word of some queues, and the other way round.
 use Prim.Native.Nat.{ℕ, zero, suc, _+_, _-_, _≤_, _<_, zero-le}
-use mathlib.Core.Path.{_≡_, refl, sym, ap, subst, _∙_}
+use mathlib.Core.Path.{_≡_, sym, ap, subst, _∙_}
 use mathlib.Core.Bool.{true, false}
 use mathlib.Core.List.{List, [], _∷_, _++_, map}
 use lib.ListN.{length, getD, set}
@@ -109,7 +109,9 @@ split-more {ns} {p} {m} {u} h l S =
     let whole : u ≡ front ++ rest = sym (S .words) ∙ A .whole in
     let low : Between 0 (firstOf ns r) front = between-wide (omega arith) (omega arith) (A .low) in
     let gone : front ≡ [] = between-none front low (between-front front rest (subst (Between (firstOf ns r) (total ns)) whole (S .late))) in
-    let place : Between (0 + firstOf ns r) (0 + firstOf ns (suc r)) (m ∷ getD (S .queues) r []) = message {m = m} (omega (arith, I .from)) (omega (arith, I .below)) (A .own) in
+    let place : Between (0 + firstOf ns r) (0 + firstOf ns (suc r)) (m ∷ getD (S .queues) r []) =
+    message {m = m} (omega (arith, I .from)) (omega (arith, I .below)) (A .own)
+    in
     record {
       queues = set (S .queues) r (m ∷ getD (S .queues) r []);
       own = A .owns (m ∷ getD (S .queues) r []) place;

@@ -1,7 +1,6 @@
+use Rattle.diagram.specs.Laws.Tables.{control-made}
 use mathlib.Core.Path.{sym, _∙_}
-use native.Mathlib.Omega.{arith}
 use denote.Ref.{now}
-use Rattle.diagram.specs.Laws.Tables.{made-is}
 use Rattle.diagram.specs.Laws.Asking.{ask-unknown, ask-judged}
 use borrow.Author.Needs.{needs}
 use Rattle.diagram.proofs.member.ask.Statement.{statement}
@@ -14,7 +13,9 @@ use Rattle.session.proofs.kinds.ControlState.new.Reads as new-reads
 
 -- src/member.rt:82:9
 returns : tie.Need-returns
-returns c = sym (ask-unknown (c .before .before .before .before .pre) (c .before .before .before .before .args .control) (now (c .before .before .before .before .args .contents)) (c .if1 .taken))
+returns c =
+    let a = c .before .before .before .before .args in
+    sym (ask-unknown (c .before .before .before .before .pre) (a .control) (now (a .contents)) (c .if1 .taken))
 
 -- src/member.rt:86:23
 slice-aggregate-begin : tie.Need-slice-aggregate-begin
@@ -35,9 +36,10 @@ judge-requires c κs = search needs
 -- src/member.rt:76:1
 returns-2 : tie.Need-returns-2
 returns-2 c =
-    let e = made-is 256 (c .before .before .before .before .before .before .before .before .before .before .before .before .args .control) (omega (arith, c .before .before .before .before .before .before .before .before .before .before .before .before .pre .machines .productMost)) (c .before .before .before .before .new .ensures) in
-    let root = rw e at (c .before .before .before .begin .ensures) in
-    c .judge .ensures ∙ sym (ask-judged (c .before .before .before .before .before .before .before .before .before .before .before .before .pre) (c .before .before .before .before .before .before .before .before .before .before .before .before .args .control) (now (c .before .before .before .before .before .before .before .before .before .before .before .before .args .contents)) (c .before .before .before .before .before .before .before .before .if1 .left) root)
+    let a = c .before .before .before .before .before .before .before .before .before .before .before .before .args in
+    let made = control-made (c .before .before .before .before .before .before .before .before .before .before .before .before .pre .machines) (a .control) (c .before .before .before .before .before .before .before .before .if1 .left) (c .before .before .before .before .new .ensures) in
+    let root = rw made at (c .before .before .before .begin .ensures) in
+    c .judge .ensures ∙ sym (ask-judged (c .before .before .before .before .before .before .before .before .before .before .before .before .pre) (a .control) (now (a .contents)) (c .before .before .before .before .before .before .before .before .if1 .left) root)
 
 pub ask-spec : {M : Type 1} → statement M
 ask-spec =

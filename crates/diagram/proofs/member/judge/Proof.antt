@@ -1,16 +1,11 @@
 use borrow.Author.Needs.{needs}
-use Prim.Native.Nat.{ℕ, _-_, _≤_}
-use mathlib.Core.Path.{_≡_, refl, sym, ap, _∙_}
-use mathlib.Core.List.{List}
-use lib.ListN.{length, take, drop}
-use native.Mathlib.Omega.{arith}
+use Prim.Native.Nat.{_-_}
+use mathlib.Core.Path.{refl, sym, _∙_}
+use lib.ListN.{length}
 use denote.Ref.{now}
-use Rattle.session.specs.declared.tables.Pool.{Pool}
-use Rattle.meaning.specs.Tables.{poolOf}
 use Rattle.diagram.specs.Said.{saidReached}
-use Rattle.diagram.specs.Member.{answer, judge}
-use Rattle.diagram.specs.Laws.Tables.{made-is}
-use Rattle.diagram.specs.Laws.Judging.{at-unknown, at-earlier, at-on, at-end}
+use Rattle.diagram.specs.Laws.Tables.{message-made}
+use Rattle.diagram.specs.Laws.Judging.{Judging, judging-begin, judging-unknown, judging-earlier, judging-on, judging-end}
 use Rattle.diagram.proofs.member.judge.Statement.{statement}
 use Rattle.diagram.proofs.member.judge.Tie as tie
 use Rattle.diagram.proofs.member.judge.Reads as reads
@@ -21,19 +16,17 @@ use Rattle.diagram.proofs.member.queue_of.Reads as queue-of-reads
 use Rattle.session.proofs.kinds.Message.new.Reads as new-reads
 use Rattle.session.proofs.number.wide.Reads as wide-reads
 
--- the pool of these tables, whatever the number of its states: the walk does not ask for it
-abbrev tables : ℕ → List ℕ → List ℕ → Pool
-tables n finals arcs = record { count = n; finals = finals; arcs = arcs }
-
 abbrev Inv-loop : tie.InvT-loop
-Inv-loop q contents arcs finals at₀ queue₀ i₀ at queue i = ((n : ℕ) → judge (take (q .count) (q .messages)) (poolOf (tables n finals arcs)) i queue (saidReached at) (drop i contents) ≡ judge (take (q .count) (q .messages)) (poolOf (tables n finals arcs)) 0 0 (saidReached at₀) contents) × (i ≤ length contents)
+Inv-loop q contents arcs finals at₀ queue₀ i₀ at queue i = Judging q finals arcs contents (saidReached at₀) i queue (saidReached at)
 
 abbrev μ-loop : tie.MeasureT-loop
 μ-loop q contents arcs finals at₀ queue₀ i₀ at queue i = length contents - i
 
 -- src/member.rt:54:5
 loop-holds : tie.Need-loop-holds Inv-loop μ-loop
-loop-holds c = (λ n. refl, omega arith)
+loop-holds c =
+    let a = c .before .before .before .args in
+    judging-begin (a .q) (a .pool .finals) (a .pool .arcs) (now (a .contents)) (saidReached (a .start))
 
 -- src/member.rt:55:19
 shared-slice-read-raw : tie.Need-shared-slice-read-raw Inv-loop μ-loop
@@ -41,7 +34,7 @@ shared-slice-read-raw c = search needs
 
 -- src/member.rt:57:13
 returns : tie.Need-returns Inv-loop μ-loop
-returns c = sym (at-unknown (c .before .before .before .before .before .before .before .before .pre) (c .before .before .before .before .before .before .before .before .args .pool) (now (c .before .before .before .before .before .before .before .before .args .contents)) (c .before .before .before .before .loop .i) (c .before .before .before .before .loop .queue) (saidReached (c .before .before .before .before .loop .at)) (c .before .before .before .loop-test .taken) refl (c .if1 .taken)) ∙ c .before .before .before .before .loop .inv .0 (c .before .before .before .before .before .before .before .before .args .pool .count)
+returns c = judging-unknown (c .before .before .before .before .before .before .before .before .pre) (c .before .before .before .before .loop .inv) (c .before .before .before .loop-test .taken) refl (c .if1 .taken) (c .before .before .before .before .before .before .before .before .args .pool .count)
 
 -- src/member.rt:59:30
 wide-requires : tie.Need-wide-requires Inv-loop μ-loop
@@ -58,9 +51,8 @@ queue-of-requires c κs = search needs
 -- src/member.rt:62:13
 returns-2 : tie.Need-returns-2 Inv-loop μ-loop
 returns-2 c =
-    let m = made-is 32 (c .before .before .before .wide .result) (omega (arith, c .before .before .before .before .before .before .before .before .before .before .before .before .pre .sumMost)) (c .before .before .new .ensures) ∙ c .before .before .before .wide .ensures .same in
-    let own = rw m at (c .before .queue-of .ensures) in
-    sym (at-earlier (c .before .before .before .before .before .before .before .before .before .before .before .before .pre) (c .before .before .before .before .before .before .before .before .before .before .before .before .args .pool) (now (c .before .before .before .before .before .before .before .before .before .before .before .before .args .contents)) (c .before .before .before .before .before .before .before .before .loop .i) (c .before .before .before .before .before .before .before .before .loop .queue) (saidReached (c .before .before .before .before .before .before .before .before .loop .at)) (c .before .before .before .before .before .before .before .loop-test .taken) refl (c .before .before .before .before .if1 .left) own (c .if2 .taken)) ∙ c .before .before .before .before .before .before .before .before .loop .inv .0 (c .before .before .before .before .before .before .before .before .before .before .before .before .args .pool .count)
+    let made = message-made (c .before .before .before .before .before .before .before .before .before .before .before .before .pre) (c .before .before .before .before .if1 .left) (c .before .before .before .wide .ensures .same) (c .before .before .new .ensures) in
+    judging-earlier (c .before .before .before .before .before .before .before .before .before .before .before .before .pre) (c .before .before .before .before .before .before .before .before .loop .inv) (c .before .before .before .before .before .before .before .loop-test .taken) refl (c .before .before .before .before .if1 .left) made (c .before .queue-of .ensures) (c .if2 .taken) (c .before .before .before .before .before .before .before .before .before .before .before .before .args .pool .count)
 
 -- src/member.rt:64:20
 slice-aggregate-along : tie.Need-slice-aggregate-along Inv-loop μ-loop
@@ -81,10 +73,8 @@ loop-less c = search needs
 -- src/member.rt:54:5
 loop-again : tie.Need-loop-again Inv-loop μ-loop
 loop-again c =
-    let m = made-is 32 (c .before .before .before .before .before .wide .result) (omega (arith, c .before .before .before .before .before .before .before .before .before .before .before .before .before .before .pre .sumMost)) (c .before .before .before .before .new .ensures) ∙ c .before .before .before .before .before .wide .ensures .same in
-    let own = rw m at (c .before .before .before .queue-of .ensures) in
-    let led = rw m at (c .along .ensures) in
-    (λ n. sym (at-on (c .before .before .before .before .before .before .before .before .before .before .before .before .before .before .pre) (tables n (c .before .before .before .before .before .before .before .before .before .before .before .before .before .before .args .pool .finals) (c .before .before .before .before .before .before .before .before .before .before .before .before .before .before .args .pool .arcs)) (now (c .before .before .before .before .before .before .before .before .before .before .before .before .before .before .args .contents)) (c .before .before .before .before .before .before .before .before .before .before .loop .i) (c .before .before .before .before .before .before .before .before .before .before .loop .queue) (saidReached (c .before .before .before .before .before .before .before .before .before .before .loop .at)) (c .before .before .before .before .before .before .before .before .before .loop-test .taken) refl (c .before .before .before .before .before .before .if1 .left) own (c .before .before .if2 .left) led) ∙ c .before .before .before .before .before .before .before .before .before .before .loop .inv .0 n, omega arith)
+    let made = message-made (c .before .before .before .before .before .before .before .before .before .before .before .before .before .before .pre) (c .before .before .before .before .before .before .if1 .left) (c .before .before .before .before .before .wide .ensures .same) (c .before .before .before .before .new .ensures) in
+    judging-on (c .before .before .before .before .before .before .before .before .before .before .before .before .before .before .pre) (c .before .before .before .before .before .before .before .before .before .before .loop .inv) (c .before .before .before .before .before .before .before .before .before .loop-test .taken) refl (c .before .before .before .before .before .before .if1 .left) made (c .before .before .before .queue-of .ensures) (c .before .before .if2 .left) (c .along .ensures)
 
 -- src/member.rt:68:17
 slice-aggregate-is-final : tie.Need-slice-aggregate-is-final Inv-loop μ-loop
@@ -96,11 +86,11 @@ is-final-requires c κs = search needs
 
 -- src/member.rt:45:1
 returns-3 : tie.Need-returns-3 Inv-loop μ-loop
-returns-3 c = sym (at-end (c .before .before .before .before .before .before .before .before .pre) (c .before .before .before .before .before .before .before .before .args .pool) (now (c .before .before .before .before .before .before .before .before .args .contents)) (c .before .before .before .before .loop .i) (c .before .before .before .before .loop .queue) (saidReached (c .before .before .before .before .loop .at)) (c .before .before .before .loop-test .left) (c .before .before .before .before .loop .inv .1) ∙ ap answer (sym (c .before .is-final .ensures) ∙ c .if3 .taken)) ∙ c .before .before .before .before .loop .inv .0 (c .before .before .before .before .before .before .before .before .args .pool .count)
+returns-3 c = judging-end (c .before .before .before .before .before .before .before .before .pre) (c .before .before .before .before .loop .inv) (c .before .before .before .loop-test .left) (sym (c .if3 .taken) ∙ c .before .is-final .ensures) (c .before .before .before .before .before .before .before .before .args .pool .count)
 
 -- src/member.rt:45:1
 returns-4 : tie.Need-returns-4 Inv-loop μ-loop
-returns-4 c = sym (at-end (c .before .before .before .before .before .before .before .before .pre) (c .before .before .before .before .before .before .before .before .args .pool) (now (c .before .before .before .before .before .before .before .before .args .contents)) (c .before .before .before .before .loop .i) (c .before .before .before .before .loop .queue) (saidReached (c .before .before .before .before .loop .at)) (c .before .before .before .loop-test .left) (c .before .before .before .before .loop .inv .1) ∙ ap answer (sym (c .before .is-final .ensures) ∙ c .if3 .left)) ∙ c .before .before .before .before .loop .inv .0 (c .before .before .before .before .before .before .before .before .args .pool .count)
+returns-4 c = judging-end (c .before .before .before .before .before .before .before .before .pre) (c .before .before .before .before .loop .inv) (c .before .before .before .loop-test .left) (sym (c .if3 .left) ∙ c .before .is-final .ensures) (c .before .before .before .before .before .before .before .before .args .pool .count)
 
 pub judge-spec : {M : Type 1} → statement M
 judge-spec =

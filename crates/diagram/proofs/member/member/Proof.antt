@@ -24,15 +24,23 @@ enum-told c = search needs
 
 -- src/member.rt:102:13
 ask-requires : tie.Need-ask-requires
-ask-requires c κs = read-valid (now (c .before .before .before .before .before .before .args .file)) (sym (ap saidAnswer (c .before .enum-told .given .1)) ∙ c .before .before .before .read .ensures .reply) (c .before .before .before .read .ensures .tables)
+ask-requires c κs =
+    let answered = sym (ap saidAnswer (c .before .enum-told .given .1)) ∙ c .before .before .before .read .ensures .reply in
+    read-valid (now (c .before .before .before .before .before .before .args .file)) answered (c .before .before .before .read .ensures .tables)
 
 -- src/member.rt:93:1
 returns : tie.Need-returns
-returns c = sym (reply-unread (now (c .before .before .before .before .before .before .args .file)) (c .before .before .before .before .before .before .args .control) (now (c .before .before .before .before .before .before .args .contents)) (sym (ap saidAnswer (c .before .answer .given .1)) ∙ c .before .before .before .read .ensures .reply))
+returns c =
+    let a = c .before .before .before .before .before .before .args in
+    let answered = sym (ap saidAnswer (c .before .answer .given .1)) ∙ c .before .before .before .read .ensures .reply in
+    sym (reply-unread (now (a .file)) (a .control) (now (a .contents)) answered)
 
 -- src/member.rt:93:1
 returns-2 : tie.Need-returns-2
-returns-2 c = c .ask .ensures ∙ sym (reply-asked (now (c .before .before .before .before .before .before .before .args .file)) (c .before .before .before .before .before .before .before .args .control) (now (c .before .before .before .before .before .before .before .args .contents)) (sym (ap saidAnswer (c .before .before .enum-told .given .1)) ∙ c .before .before .before .before .read .ensures .reply) (c .before .before .before .before .read .ensures .tables))
+returns-2 c =
+    let a = c .before .before .before .before .before .before .before .args in
+    let answered = sym (ap saidAnswer (c .before .before .enum-told .given .1)) ∙ c .before .before .before .before .read .ensures .reply in
+    c .ask .ensures ∙ sym (reply-asked (now (a .file)) (a .control) (now (a .contents)) answered (c .before .before .before .before .read .ensures .tables))
 
 pub member-spec : {M : Type 1} → statement M
 member-spec =
