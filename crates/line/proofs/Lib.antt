@@ -1,0 +1,2 @@
+-- What taking an enum apart tells the proofs.
+pub mod Told

@@ -1,0 +1,3 @@
+// The line that the program prints, written into a buffer.
+mod put;
+pub mod verdict;
