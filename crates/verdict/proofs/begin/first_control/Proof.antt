@@ -1,0 +1,23 @@
+use Rattle.verdict.specs.Laws.Begin.{read-numberable}
+use borrow.Author.Needs.{needs}
+use Rattle.verdict.proofs.begin.first_control.Statement.{statement}
+use Rattle.verdict.proofs.begin.first_control.Tie as tie
+use Rattle.verdict.proofs.begin.first_control.Reads as reads
+use Rattle.verdict.proofs.begin.first_control.Lts as lts
+use Rattle.session.proofs.number.wide.Reads as wide-reads
+use Rattle.verdict.proofs.begin.number_of.Reads as number-of-reads
+
+-- src/begin.rt:37:31
+wide-requires : tie.Need-wide-requires
+wide-requires c κs = search needs
+
+-- src/begin.rt:37:5
+number-of-requires : tie.Need-number-of-requires
+number-of-requires c κs = rw (c .wide .ensures .same) (read-numberable (c .before .before .before .args .m) (c .before .before .before .pre))
+
+-- src/begin.rt:31:1
+returns : tie.Need-returns
+returns c = rw (c .before .wide .ensures .same) at (c .number-of .ensures)
+
+pub first-control-spec : {M : Type 1} → statement M
+first-control-spec = tie.close (tie.spec wide-requires number-of-requires returns)

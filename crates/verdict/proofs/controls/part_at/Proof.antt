@@ -1,0 +1,27 @@
+use Rattle.verdict.specs.Laws.Controls.{read-partable}
+use borrow.Author.Needs.{needs}
+use Rattle.verdict.proofs.controls.part_at.Statement.{statement}
+use Rattle.verdict.proofs.controls.part_at.Tie as tie
+use Rattle.verdict.proofs.controls.part_at.Reads as reads
+use Rattle.verdict.proofs.controls.part_at.Lts as lts
+use Rattle.session.proofs.number.wide.Reads as wide-reads
+use Rattle.verdict.proofs.controls.part.Reads as part-reads
+
+-- src/controls.rt:62:18
+wide-requires : tie.Need-wide-requires
+wide-requires c κs = search needs
+
+-- src/controls.rt:62:36
+wide-requires-2 : tie.Need-wide-requires-2
+wide-requires-2 c κs = search needs
+
+-- src/controls.rt:62:5
+part-requires : tie.Need-part-requires
+part-requires c κs = rw (c .before .wide .ensures .same, c .wide2 .ensures .same) (read-partable (c .before .before .before .args .m) (c .before .before .before .pre .0) (c .before .before .before .args .c) (c .before .before .before .args .machine) (c .before .before .before .pre .1 .0) (c .before .before .before .pre .1 .1))
+
+-- src/controls.rt:55:1
+returns : tie.Need-returns
+returns c = rw (c .before .before .wide .ensures .same, c .before .wide2 .ensures .same) at (c .part .ensures)
+
+pub part-at-spec : {M : Type 1} → statement M
+part-at-spec = tie.close (tie.spec wide-requires wide-requires-2 part-requires returns)

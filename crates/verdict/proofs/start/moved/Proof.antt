@@ -1,0 +1,66 @@
+use mathlib.Core.Path.{sym, ap, _∙_}
+use Prim.Native.Nat.{ℕ, _+_, _*_, _%_}
+use native.Mathlib.Omega.{arith}
+use native.Mathlib.Nat.{mul-le-mul, le-of-lt, mod-lt}
+use borrow.Author.Needs.{needs}
+use Rattle.verdict.proofs.start.moved.Statement.{statement}
+use Rattle.verdict.proofs.start.moved.Tie as tie
+use Rattle.verdict.proofs.start.moved.Reads as reads
+use Rattle.verdict.proofs.start.moved.Lts as lts
+use Rattle.session.proofs.number.wide.Reads as wide-reads
+use Rattle.verdict.proofs.controls.part_at.Reads as part-at-reads
+
+-- src/start.rt:97:27
+shared-slice-read-part-at : tie.Need-shared-slice-read-part-at
+shared-slice-read-part-at c = search needs
+
+-- src/start.rt:97:9
+part-at-requires : tie.Need-part-at-requires
+part-at-requires c κs = search needs
+
+-- src/start.rt:98:25
+add-wide : tie.Need-add-wide
+add-wide c = search needs
+
+-- src/start.rt:98:20
+shared-slice-read-wide : tie.Need-shared-slice-read-wide
+shared-slice-read-wide c = search needs
+
+-- src/start.rt:98:15
+wide-requires : tie.Need-wide-requires
+wide-requires c κs = search needs
+
+-- src/start.rt:98:15
+mul-result : tie.Need-mul-result
+mul-result c = omega (arith, mul-le-mul (le-of-lt (c .before .wide .ensures .small)) (c .before .before .before .part-at .ensures .small .2))
+
+-- src/start.rt:98:48
+rem-result : tie.Need-rem-result
+rem-result c = search needs
+
+-- src/start.rt:98:15
+add-result : tie.Need-add-result
+add-result c = omega (arith, mul-le-mul (le-of-lt (c .before .before .wide .ensures .small)) (c .before .before .before .before .part-at .ensures .small .2), mod-lt (c .before .before .before .before .part-at .result .rest) (c .before .before .before .before .part-at .ensures .positive), c .before .before .before .before .part-at .ensures .small)
+
+-- src/start.rt:98:5
+add-result-2 : tie.Need-add-result-2
+add-result-2 c = omega (arith, mul-le-mul (le-of-lt (c .before .before .before .wide .ensures .small)) (c .before .before .before .before .before .part-at .ensures .small .2), mod-lt (c .before .before .before .before .before .part-at .result .rest) (c .before .before .before .before .before .part-at .ensures .positive), c .before .before .before .before .before .part-at .ensures .small)
+
+-- src/start.rt:90:1
+returns : tie.Need-returns
+returns c = rw (c .before .before .before .wide .ensures .same) (c .before .before .before .before .before .part-at .ensures .moved _)
+
+pub moved-spec : {M : Type 1} → statement M
+moved-spec =
+    tie.close
+    (tie.spec
+    shared-slice-read-part-at
+    part-at-requires
+    add-wide
+    shared-slice-read-wide
+    wide-requires
+    mul-result
+    rem-result
+    add-result
+    add-result-2
+    returns)

@@ -1,0 +1,55 @@
+-- What checking says: for each case of its answer the reply of document 01, and what holds of the memory that was lent.
+use Prim.Native.Nat.{ℕ, _≤_}
+use mathlib.Core.Path.{_≡_}
+use mathlib.Core.List.{List}
+use lib.ListN.{length, take, replicate}
+use Rattle.session.specs.Said.{numberOf, placeOf}
+use Rattle.session.specs.declared.tables.Tables.{Tables}
+use Rattle.model.specs.Verdict.{closed, outside, leaves, bad}
+use Rattle.model.specs.Judge as Model
+use Rattle.meaning.specs.Tables.{sessionOf}
+use Rattle.meaning.specs.Reply.{FileReply, refused, verdict}
+use Rattle.verdict.specs.Judging.{Kept}
+use Rattle.verdict.specs.declared.judged.Progress.{Progress}
+use Rattle.verdict.specs.declared.judged.Progress.the-variants as Progress
+use Rattle.verdict.specs.declared.check.Verdict.{Verdict}
+use Rattle.verdict.specs.declared.check.Verdict.the-variants.{Closed, Outside, Leaves, Bad, Refused, ShortMemory}
+
+-- the contents shown stand at the front of the buffer at exit
+abbrev pub saidVerdict : Verdict → List ℕ → FileReply
+saidVerdict (Closed pairs) contents = verdict (closed pairs)
+saidVerdict Outside contents = verdict outside
+saidVerdict (Leaves control transition shown) contents = verdict (leaves control transition (take shown contents))
+saidVerdict (Bad number shown) contents = verdict (bad number (take shown contents))
+saidVerdict (Refused why) contents = refused (numberOf why) (placeOf why)
+saidVerdict ShortMemory contents = refused 2 0
+
+abbrev pub shownIn : Verdict → ℕ
+shownIn (Closed pairs) = 0
+shownIn Outside = 0
+shownIn (Leaves control transition shown) = shown
+shownIn (Bad number shown) = shown
+shownIn (Refused why) = 0
+shownIn ShortMemory = 0
+
+-- the items have been judged
+abbrev pub concluded : Progress → Verdict
+concluded (Progress.Passed pairs) = Closed pairs
+concluded (Progress.Leaves control transition shown) = Leaves control transition shown
+concluded (Progress.Meets number shown) = Bad number shown
+
+-- memory enough is lent, and the scratch tables are 0
+pub record Room (n : ℕ) (seen queue contents : List ℕ) : Type 0 where
+  pub front : n ≡ 32512
+  pub seenLong : n ≤ length seen
+  pub queueLong : n ≤ length queue
+  pub contentsLong : 32768 ≤ length contents
+  pub seenBlank : seen ≡ replicate (length seen) 0
+  pub queueBlank : queue ≡ replicate (length queue) 0
+
+-- THE VERDICT for all tables with what was lent of them; the scratch tables are as before, and so is the rest of the buffer
+pub record Concludes (P : Tables → Type 0) (seen₀ queue₀ contents₀ : List ℕ) (r : Verdict) (seen₁ queue₁ contents₁ : List ℕ) : Type 0 where
+  pub is : (T : Tables) → P T → saidVerdict r contents₁ ≡ verdict (Model.verdict (sessionOf T))
+  pub seen : seen₁ ≡ seen₀
+  pub queue : queue₁ ≡ queue₀
+  pub kept : Kept (shownIn r) contents₀ contents₁

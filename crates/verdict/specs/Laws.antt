@@ -1,0 +1,13 @@
+-- What the proofs of checking rest on.
+pub mod Controls
+pub mod Start
+pub mod Turns
+pub mod Judged
+pub mod Sequence
+pub mod Entries
+pub mod Item
+pub mod Walked
+pub mod Begin
+pub mod Whole
+pub mod Check
+pub mod Reply

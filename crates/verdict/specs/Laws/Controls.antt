@@ -1,0 +1,196 @@
+-- Parting a control state machine by machine.
+use Prim.Native.Nat.{ℕ, zero, suc, _+_, _-_, _*_, _/_, _%_, _≤_, _<_}
+use mathlib.Core.Path.{_≡_, refl, sym, ap, subst, _∙_}
+use mathlib.Core.List.{List, [], _∷_}
+use native.Mathlib.Omega.{arith}
+use native.Mathlib.Numerals.{add-one}
+use native.Mathlib.Nat.{mod-lt, div-add-mod', mul-le-mul, one-mul, zero-add, add-assoc, le-refl}
+use lib.ListN.{length, getD, set, take, drop, length-take, drop-of-length-le}
+use lib.Seq.{drop-cons, getD-take}
+use Rattle.session.specs.Laws.Machines.{MachinesValid}
+use Rattle.session.specs.declared.tables.Machines.{Machines}
+use Rattle.model.specs.Model.{product, number, places}
+use Rattle.model.specs.Laws.Controls.{number-places}
+use Rattle.meaning.specs.Laws.Counts.{product-is}
+use Rattle.verdict.specs.Controls.{sizesOf, Located}
+use Rattle.verdict.specs.declared.controls.Parted.{Parted}
+
+-- every machine has a state
+abbrev pub Positive : List ℕ → Type 0
+Positive ks = (i : ℕ) → i < length ks → 1 ≤ getD ks i 0
+
+positive-tail : (k : ℕ) (ks : List ℕ) → Positive (k ∷ ks) → Positive ks
+positive-tail k ks h i l = h (suc i) (omega arith)
+
+pub product-positive : (ks : List ℕ) → Positive ks → 1 ≤ product ks
+product-positive [] h = omega arith
+product-positive (k ∷ ks) h = mul-le-mul (h 0 (omega arith)) (product-positive ks (positive-tail k ks h))
+
+-- a part of the machines has no more joint states than all
+pub product-drop : (ks : List ℕ) → Positive ks → (j : ℕ) → (1 ≤ product (drop j ks)) × (product (drop j ks) ≤ product ks)
+product-drop ks h zero = (product-positive ks h, le-refl (product ks))
+product-drop [] h (suc j) = (omega arith, omega arith)
+product-drop (k ∷ ks) h (suc j) =
+    let r = product-drop ks (positive-tail k ks h) j in
+    let g : 1 * product ks ≤ k * product ks = mul-le-mul (h 0 (omega arith)) (le-refl (product ks)) in
+    (r .0, omega (arith, one-mul (product ks)))
+
+-- the product from a machine on: of none it is 1, with one machine more it is multiplied, and it stays small
+pub record Stepped (states : List ℕ) (count : ℕ) : Type 0 where
+  pub most : count ≤ 4
+  pub end : product (drop count (take count states)) ≡ 1
+  pub before : (j : ℕ) → j < count
+      → getD states j 0 * product (drop (j + 1) (take count states)) ≡ product (drop j (take count states))
+  pub small : (j : ℕ) → (1 ≤ product (drop j (take count states))) × (product (drop j (take count states)) ≤ 256)
+
+-- one machine back
+pub stepped-back : (states : List ℕ) (count i j p x : ℕ) → Stepped states count → i < j → j ≤ count
+    → p ≡ product (drop j (take count states)) → x ≡ getD states (j - 1) 0 → x * p ≡ product (drop (j - 1) (take count states))
+stepped-back states count i j p x S h l e f =
+    ap (λ n. n * p) f
+    ∙ ap (λ n. getD states (j - 1) 0 * n) (e ∙ ap (λ n. product (drop n (take count states))) one)
+    ∙ S .before (j - 1) (omega arith)
+  where
+    one : j ≡ j - 1 + 1
+    one = omega arith
+
+-- the sizes of machines that were read
+module _ (m : Machines) (v : MachinesValid m) where
+  pub sizes-length : length (sizesOf m) ≡ m .count
+  sizes-length = length-take (m .count) (m .states) ∙ omega (arith, v .statesLong, v .most)
+
+  pub size-at : (i : ℕ) → i < m .count → getD (sizesOf m) i 0 ≡ getD (m .states) i 0
+  size-at i h = getD-take (m .count) (m .states) i 0 h
+
+  pub sizes-positive : Positive (sizesOf m)
+  sizes-positive i h =
+      let l : i < m .count = omega (arith, sizes-length) in
+      subst (λ n. 1 ≤ n) (sym (size-at i l)) (v .states i l .0)
+
+  pub sizes-product : product (sizesOf m) ≡ m .product
+  sizes-product = product-is (m .states) (m .count) (omega (arith, v .statesLong, v .most)) ∙ sym (v .product)
+
+  pub sizes-small : (j : ℕ) → (1 ≤ product (drop j (sizesOf m))) × (product (drop j (sizesOf m)) ≤ 256)
+  sizes-small j =
+      let r = product-drop (sizesOf m) sizes-positive j in
+      (r .0, omega (arith, r .1, sizes-product, v .productMost))
+
+  pub sizes-stepped : Stepped (m .states) (m .count)
+  sizes-stepped =
+      record {
+        most = v .most;
+        end = ap product (drop-of-length-le (sizesOf m) {i = m .count} (omega (arith, sizes-length)));
+        before = λ j h.
+            ap (λ n. n * product (drop (j + 1) (sizesOf m))) (sym (size-at j h))
+            ∙ ap (λ n. getD (sizesOf m) j 0 * product (drop n (sizesOf m))) (add-one j)
+            ∙ ap product (sym (drop-cons (sizesOf m) j 0 (omega (arith, sizes-length))));
+        small = λ j. sizes-small j;
+      }
+
+-- THE MACHINES BEFORE NUMBER i are parted off: base is what they give, rest what is left
+pub record Front (ks : List ℕ) (c machine i base rest : ℕ) : Type 0 where
+  pub within : rest < product (drop i ks)
+  pub state : getD (places (drop i ks) rest) (machine - i) 0 ≡ getD (places ks c) machine 0
+  pub moved : (to : ℕ) → base + number (drop i ks) (set (places (drop i ks) rest) (machine - i) to)
+      ≡ number ks (set (places ks c) machine to)
+  pub few : base + rest ≤ c
+
+module _ (ks : List ℕ) (c machine : ℕ) where
+  pub front-begin : c < product ks → Front ks c machine 0 0 c
+  front-begin h =
+      record { within = h; state = ap (λ n. getD (places ks c) n 0) z; moved = λ to. zero-add _ ∙ ap (λ n. number ks (set (places ks c) n to)) z; few = omega arith }
+    where
+      z : machine - 0 ≡ machine
+      z = omega arith
+
+  module _ (i base rest : ℕ) (F : Front ks c machine i base rest) (h : i < machine) (l : machine < length ks)
+      (P : ℕ) (p : P ≡ product (drop (i + 1) ks)) (pos : 1 ≤ P) where
+    cut : drop i ks ≡ getD ks i 0 ∷ drop (i + 1) ks
+    cut = drop-cons ks i 0 (omega arith) ∙ ap (λ n. getD ks i 0 ∷ drop n ks) (sym (add-one i))
+
+    one : machine - i ≡ suc (machine - (i + 1))
+    one = omega arith
+
+    pub front-step : Front ks c machine (i + 1) (base + rest / P * P) (rest % P)
+    front-step =
+        record {
+          within = subst (λ n. rest % P < n) p (mod-lt rest pos);
+          state = state-step;
+          moved = λ to. moved-step to;
+          few = omega (arith, div-add-mod' rest P, F .few);
+        }
+      where
+        state-step : getD (places (drop (i + 1) ks) (rest % P)) (machine - (i + 1)) 0 ≡ getD (places ks c) machine 0
+        state-step =
+            ap (λ n. getD (places (drop (i + 1) ks) (rest % n)) (machine - (i + 1)) 0) p
+            ∙ sym (ap (λ n. getD (places (getD ks i 0 ∷ drop (i + 1) ks) rest) n 0) one)
+            ∙ ap (λ js. getD (places js rest) (machine - i) 0) (sym cut)
+            ∙ F .state
+
+        moved-step : (to : ℕ) → base + rest / P * P + number (drop (i + 1) ks) (set (places (drop (i + 1) ks) (rest % P)) (machine - (i + 1)) to)
+            ≡ number ks (set (places ks c) machine to)
+        moved-step to =
+            add-assoc base (rest / P * P) _
+            ∙ ap (λ n. base + (rest / n * n + number (drop (i + 1) ks) (set (places (drop (i + 1) ks) (rest % n)) (machine - (i + 1)) to))) p
+            ∙ sym (ap (λ n. base + number (getD ks i 0 ∷ drop (i + 1) ks) (set (places (getD ks i 0 ∷ drop (i + 1) ks) rest) n to)) one)
+            ∙ ap (λ js. base + number js (set (places js rest) (machine - i) to)) (sym cut)
+            ∙ F .moved to
+
+  module _ (base rest : ℕ) (F : Front ks c machine machine base rest) (l : machine < length ks) (most : c ≤ 256)
+      (P : ℕ) (p : P ≡ product (drop (machine + 1) ks)) (pos : 1 ≤ P) (small : P ≤ 256) where
+    end-cut : drop machine ks ≡ getD ks machine 0 ∷ drop (machine + 1) ks
+    end-cut = drop-cons ks machine 0 l ∙ ap (λ n. getD ks machine 0 ∷ drop n ks) (sym (add-one machine))
+
+    none : machine - machine ≡ 0
+    none = omega arith
+
+    pub front-end : Located ks c machine (record { base = base; rest = rest; stride = P })
+    front-end =
+        record {
+          positive = pos;
+          state = state-end;
+          moved = λ to. moved-end to;
+          small = (omega (arith, F .few), omega (arith, F .few), small);
+        }
+      where
+        state-end : rest / P ≡ getD (places ks c) machine 0
+        state-end =
+            ap (λ n. rest / n) p
+            ∙ sym (ap (λ n. getD (places (getD ks machine 0 ∷ drop (machine + 1) ks) rest) n 0) none)
+            ∙ ap (λ js. getD (places js rest) (machine - machine) 0) (sym end-cut)
+            ∙ F .state
+
+        below : rest % product (drop (machine + 1) ks) < product (drop (machine + 1) ks)
+        below = subst (λ n. rest % n < n) p (mod-lt rest pos)
+
+        moved-end : (to : ℕ) → base + (to * P + rest % P) ≡ number ks (set (places ks c) machine to)
+        moved-end to =
+            ap (λ n. base + (to * n + rest % n)) p
+            ∙ ap (λ n. base + (to * product (drop (machine + 1) ks) + n)) (sym (number-places (drop (machine + 1) ks) (rest % product (drop (machine + 1) ks)) below))
+            ∙ sym (ap (λ n. base + number (getD ks machine 0 ∷ drop (machine + 1) ks) (set (places (getD ks machine 0 ∷ drop (machine + 1) ks) rest) n to)) none)
+            ∙ ap (λ js. base + number js (set (places js rest) (machine - machine) to)) (sym end-cut)
+            ∙ F .moved to
+
+-- WHAT IS ASKED to part a control state at a machine
+pub record Partable (states : List ℕ) (count c machine : ℕ) : Type 0 where
+  pub stepped : Stepped states count
+  pub long : count ≤ length states
+  pub below : c < product (take count states)
+  pub within : machine < count
+
+module _ {states : List ℕ} {count c machine : ℕ} (A : Partable states count c machine) where
+  pub machine-there : machine < length (take count states)
+  machine-there = omega (arith, length-take count states, A .long, A .within)
+
+  pub control-small : c ≤ 256
+  control-small = omega (arith, A .below, A .stepped .small 0)
+
+pub read-partable : (m : Machines) (v : MachinesValid m) (c machine : ℕ) → c < m .product → machine < m .count
+    → Partable (m .states) (m .count) c machine
+read-partable m v c machine h l =
+    record {
+      stepped = sizes-stepped m v;
+      long = omega (arith, v .statesLong, v .most);
+      below = omega (arith, sizes-product m v);
+      within = l;
+    }

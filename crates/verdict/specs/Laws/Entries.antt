@@ -1,0 +1,81 @@
+-- One bad entry, judged, and what that does to the verdict.
+use Prim.Native.Nat.{ℕ, zero, suc, _+_, _*_, _≤_, _<_}
+use mathlib.Core.Path.{_≡_, refl, sym, ap, subst, _∙_}
+use mathlib.Core.Option.{some}
+use mathlib.Core.List.{List, [], _∷_}
+use native.Mathlib.Omega.{arith}
+use native.Mathlib.Nat.{zero-add}
+use lib.ListN.{getD, getElem?, take}
+use Rattle.session.specs.declared.tables.Queues.{Queues}
+use Rattle.session.specs.declared.tables.Tables.{Tables}
+use Rattle.model.specs.Verdict.{entry, Reply, closed, bad}
+use Rattle.model.specs.Judge as Model
+use Rattle.model.specs.Judge.{decide}
+use Rattle.model.specs.Searched.{judgeBySearch}
+use Rattle.model.specs.Laws.Deciding.{decide-passes, decide-fails}
+use Rattle.meaning.specs.Tables.{sessionOf, entriesFrom}
+use Rattle.walk.specs.Pairs.{mostPairs}
+use Rattle.verdict.specs.Judging.{Judging, Judges, EntryAsked, EntriesAsked, EntryParts, AllBad}
+use Rattle.verdict.specs.Laws.Turns.{judged-item}
+use Rattle.walk.specs.declared.judge.Judged.{Judged}
+use Rattle.walk.specs.declared.judge.Judged.the-variants.{Passes, Fails}
+use Rattle.verdict.specs.declared.judged.Progress.the-variants.{Passed, Meets}
+
+abbrev pub entryAt : List ℕ → ℕ → ℕ × ℕ
+entryAt entries b = (getD entries (b * 2) 0, getD entries (b * 2 + 1) 0)
+
+pub entry-at : (entries : List ℕ) (left t i : ℕ) → i < left → getElem? (entriesFrom entries left t) i ≡ some (entryAt entries (t + i))
+entry-at entries zero t i h = absurd (omega arith)
+entry-at entries (suc left) t zero h = ap (λ n. some (entryAt entries n)) (omega arith)
+entry-at entries (suc left) t (suc i) h =
+    entry-at entries left (suc t) i (omega arith) ∙ ap (λ n. some (entryAt entries n)) (omega arith)
+
+pub entry-item : (entries : List ℕ) (count b : ℕ) → b < count → (T : Tables) → AllBad entries count T
+    → getElem? (sessionOf T .bad) b ≡ some (entryAt entries b)
+entry-item entries count b h T all =
+    ap (λ es. getElem? es b) all
+    ∙ entry-at entries count 0 b h
+    ∙ ap (λ n. some (entryAt entries n)) (zero-add b)
+
+pub entry-asked : {q : Queues} {rows arcs finals roots entries : List ℕ} {count : ℕ} → EntriesAsked q rows arcs finals roots entries count
+    → (b : ℕ) → b < count → (control : ℕ) → control ≡ getD entries (b * 2) 0
+    → EntryAsked q rows arcs finals roots control (getD entries (b * 2 + 1) 0)
+entry-asked {q} {rows} {arcs} {finals} {roots} {entries} {count} a b h control e =
+    subst (λ n. EntryAsked q rows arcs finals roots n (getD entries (b * 2 + 1) 0)) (sym e)
+    (record { whole = a .whole; number = b; parts = a .parts; item = entry-item entries count b h (a .whole) (a .all) })
+
+module _ (q : Queues) (rows arcs finals roots entries : List ℕ) (count b pairs : ℕ) (h : b < count) (contents contents₁ seen₁ queue₁ : List ℕ) where
+  abbrev Over : Tables → Type 0
+  Over T = EntryParts T q rows arcs finals roots × AllBad entries count T
+
+  abbrev after : Tables → Reply
+  after T = decide (sessionOf T) (entry b (entryAt entries b) ∷ []) pairs
+
+  abbrev Judge : ℕ → Judged → Type 0
+  Judge control r =
+      Judging (λ T. EntryParts T q rows arcs finals roots)
+      (λ T. judgeBySearch (sessionOf T) mostPairs (entry 0 (control, getD entries (b * 2 + 1) 0))) contents r contents₁ seen₁ queue₁
+
+  pub entry-more : (control : ℕ) → control ≡ getD entries (b * 2) 0 → (r : Judged) (more : ℕ) → r ≡ Passes more → Judge control r
+      → Judges Over (pairs + mostPairs) after contents (Passed (pairs + more)) contents₁ seen₁ queue₁
+  unfolding judgeBySearch decide
+  entry-more control e r more z j =
+      let k = subst (Judge (getD entries (b * 2) 0)) z (subst (λ n. Judge n r) e j) in
+      record {
+        is = λ T p. sym (decide-passes (sessionOf T) (entry b (entryAt entries b)) [] pairs more (judged-item T (p .0 .valid) (entry b (entryAt entries b)) (entry-item entries count b h T (p .1)) ∙ sym (k .is T (p .0))));
+        few = omega (arith, k .few);
+        kept = k .kept;
+        scratch = k .scratch;
+      }
+
+  pub entry-shown : (control : ℕ) → control ≡ getD entries (b * 2) 0 → (r : Judged) (shown : ℕ) → r ≡ Fails shown → Judge control r
+      → Judges Over (pairs + mostPairs) after contents (Meets b shown) contents₁ seen₁ queue₁
+  unfolding judgeBySearch decide
+  entry-shown control e r shown z j =
+      let k = subst (Judge (getD entries (b * 2) 0)) z (subst (λ n. Judge n r) e j) in
+      record {
+        is = λ T p. sym (decide-fails (sessionOf T) (entry b (entryAt entries b)) [] pairs (take shown contents₁) (judged-item T (p .0 .valid) (entry b (entryAt entries b)) (entry-item entries count b h T (p .1)) ∙ sym (k .is T (p .0))));
+        few = omega arith;
+        kept = k .kept;
+        scratch = k .scratch;
+      }

@@ -1,0 +1,96 @@
+-- The start of an item's walk: how each kind of action parts the contents, and where a root stands.
+use Prim.Native.Nat.{ℕ, zero, suc, _+_, _-_, _≤_, _<_}
+use mathlib.Core.Path.{_≡_, refl, sym, ap, subst, _∙_}
+use mathlib.Core.Bool.{true, false}
+use mathlib.Core.Option.{Option, none, some}
+use mathlib.Core.Logic.{_⊎_, inl, inr}
+use mathlib.Core.List.{List}
+use native.Mathlib.Omega.{arith}
+use lib.ListN.{length, getD, take, drop}
+use lib.Dec.{eqb}
+use borrow.Author.Tests.{eq-eqb, ne-eqb}
+use Rattle.session.specs.Queues as Table
+use Rattle.session.specs.Laws.Queues.{QueuesValid, first-ascends}
+use Rattle.session.specs.declared.tables.Queues.{Queues}
+use Rattle.model.specs.Model.{Action, local, send, receive, firstOf}
+use Rattle.model.specs.Judge.{out, into, rootPair}
+use Rattle.meaning.specs.Tables.{actionOf, wordAt, rootOf}
+use Rattle.meaning.specs.Laws.Counts.{first-is}
+use Rattle.walk.specs.Pairs.{place, sideOf}
+use Rattle.walk.specs.Over.{wordOver}
+use Rattle.verdict.specs.Start.{actionAt, cutOf, Cuts, PlaceAt}
+use Rattle.verdict.specs.declared.start.Cut.{Cut}
+
+module _ (q : Queues) (rows : List ℕ) (row : ℕ) where
+  abbrev ns : List ℕ
+  ns = take (q .count) (q .messages)
+
+  abbrev queue : ℕ
+  queue = getD rows (row + 4) 0
+
+  abbrev of : ℕ → Action
+  of k = actionOf k queue (wordAt rows row)
+
+  -- a local step reads all after it
+  pub cuts-local : getD rows (row + 3) 0 ≡ 0 → Cuts q rows row (record { side = 16256; cut = 0; out = 0; into = 0 })
+  cuts-local e =
+      record {
+        cut = sym (ap (λ k. cutOf ns (of k)) e);
+        out = sym (ap (λ k. out (of k)) e);
+        into = sym (ap (λ k. into (of k)) e);
+        side = λ s t. sym (ap (λ k. rootPair (of k) s t) e);
+        sides = inr refl;
+        small = (omega arith, omega arith, omega arith);
+      }
+
+  module _ (v : QueuesValid q) (h : queue < q .count) (length : ℕ) (l : length ≡ getD rows (row + 5) 0) where
+    -- the ends of the queue lie within the sum
+    pub queue-within : Table.firstOf (q .messages) (suc queue) ≤ q .sum
+    queue-within = omega (arith, first-ascends (q .messages) (suc queue) (q .count) h, v .sum)
+
+    pub first-within : Table.firstOf (q .messages) queue ≤ q .sum
+    first-within = omega (arith, first-ascends (q .messages) queue (q .count) (omega arith), v .sum)
+
+    word : wordOver rows (row + 6) length ≡ wordAt rows row
+    word = ap (wordOver rows (row + 6)) l
+
+    -- a send puts its word in after the messages of its queue
+    pub cuts-send : getD rows (row + 3) 0 ≡ 1 → (cut : ℕ) → cut ≡ Table.firstOf (q .messages) (suc queue)
+        → Cuts q rows row (record { side = 0; cut = cut; out = 0; into = length })
+    cuts-send e cut c =
+        record {
+          cut = c ∙ sym (first-is (q .messages) (q .count) (suc queue) h) ∙ sym (ap (λ k. cutOf ns (of k)) e);
+          out = sym (ap (λ k. out (of k)) e);
+          into = word ∙ sym (ap (λ k. into (of k)) e);
+          side = λ s t. sym (ap (λ k. rootPair (of k) s t) e);
+          sides = inl refl;
+          small = (omega (arith, queue-within), omega arith, omega arith);
+        }
+
+    -- a receive takes its word out before the messages of its queue
+    pub cuts-receive : (getD rows (row + 3) 0 ≡ 0 → ⊥) → (getD rows (row + 3) 0 ≡ 1 → ⊥) → (cut : ℕ)
+        → cut ≡ Table.firstOf (q .messages) queue → Cuts q rows row (record { side = 0; cut = cut; out = length; into = 0 })
+    cuts-receive x y cut c =
+        record {
+          cut = c ∙ sym (first-is (q .messages) (q .count) queue (omega arith)) ∙ sym (ap (λ k. cutOf ns (of k)) e);
+          out = word ∙ sym (ap (λ k. out (of k)) e);
+          into = sym (ap (λ k. into (of k)) e);
+          side = λ s t. sym (ap (λ k. rootPair (of k) s t) e);
+          sides = inl refl;
+          small = (omega (arith, first-within), omega arith, omega arith);
+        }
+      where
+        e : getD rows (row + 3) 0 ≡ suc (suc (getD rows (row + 3) 0 - 2))
+        e = omega arith
+
+-- a root, or 127 where there is none
+module _ (roots : List ℕ) (c root : ℕ) (e : root ≡ getD roots c 0) where
+  pub place-none : root ≡ 0 → PlaceAt roots c 127
+  place-none z = record { is = sym (rw (sym e ∙ z, rootOf)); most = omega arith }
+
+  pub place-some : (root ≡ 0 → ⊥) → root ≤ 127 → PlaceAt roots c (root - 1)
+  place-some z m =
+      record {
+        is = rw (ne-eqb (root - 1) 127 (λ w. omega arith), place) (sym (rw (ne-eqb (getD roots c 0) 0 (λ w. z (e ∙ w)), rootOf) (ap (λ n. some (n - 1)) (sym e))));
+        most = omega arith;
+      }

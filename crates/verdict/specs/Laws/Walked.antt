@@ -1,0 +1,307 @@
+-- What the walk's answer makes of the promise for one item, over what is lent of tables.
+use Prim.Native.Nat.{ℕ, zero, suc, _+_, _*_, _≤_, _<_}
+use mathlib.Core.Path.{_≡_, refl, sym, ap, subst, _∙_}
+use mathlib.Core.Bool.{true, false}
+use mathlib.Core.List.{List, [], _∷_, _++_}
+use mathlib.Core.Logic.{inr}
+use native.Mathlib.Omega.{arith}
+use native.Mathlib.Nat.{mul-le-mul}
+use lib.ListN.{length, getD, take, drop, length-append, length-drop}
+use lib.Seq.{drop-at}
+use Rattle.session.specs.Transitions.{rowLength}
+use Rattle.session.specs.declared.tables.Machines.{Machines}
+use Rattle.session.specs.declared.tables.Queues.{Queues}
+use Rattle.session.specs.declared.tables.Tables.{Tables}
+use Rattle.model.specs.Session.{Session}
+use Rattle.session.specs.Laws.Valid.{Valid}
+use Rattle.session.specs.Laws.Machines.{MachinesValid}
+use Rattle.session.specs.Laws.Queues.{QueuesValid}
+use Rattle.session.specs.Laws.Transitions.{RowValid}
+use Rattle.model.specs.Verdict.{Item, step, entry, items, Pair, most}
+use Rattle.model.specs.Judge as Model
+use Rattle.model.specs.Judge.{passes, fails, judge}
+use Rattle.model.specs.Searched.{judgeBySearch}
+use Rattle.model.specs.Laws.Items.{IsItem, is-item, at-place}
+use Rattle.model.specs.Laws.Deciding.{judge-bound}
+use Rattle.meaning.specs.Tables.{sessionOf, transitionAt}
+use Rattle.meaning.specs.Laws.Sessions.{well-formed}
+use Rattle.walk.specs.Pairs.{mostPairs, pairOf, NodeFits, afterSide}
+use Rattle.walk.specs.Marks.{Blank}
+use Rattle.walk.specs.Over.{Lent, ArcsSmall, WordWithin}
+use Rattle.walk.specs.Judged.{judgedOver, ShownFits, Judges, shownOf, saidJudged, shownBy as walkShownBy}
+use Rattle.walk.specs.Laws.Valid.{arcs-small}
+use Rattle.walk.specs.declared.pairs.Walk.{Walk}
+use Rattle.walk.specs.declared.pairs.Node.{Node}
+use Rattle.walk.specs.declared.judge.Judged.{Judged}
+use Rattle.walk.specs.declared.judge.Judged.the-variants.{Passes, Fails}
+use Rattle.verdict.specs.Start.{Cuts, PlaceAt, Moved}
+use Rattle.verdict.specs.Judging.{said, shownBy, pairsOf, Kept, Scratch, Judging, Parts, EntryParts, StepAsked, EntryAsked}
+use Rattle.verdict.specs.Laws.Turns.{judged-item, few-pairs}
+use Rattle.verdict.specs.Laws.Item.{step-nothing, step-judged, step-fits, entry-nothing, entry-judged, entry-fits}
+use Rattle.verdict.specs.declared.start.Cut.{Cut}
+
+-- the front of the buffer is written, the rest is kept
+kept-front : (u contents contents′ : List ℕ) (n : ℕ) → n ≡ length u → contents′ ≡ u ++ drop (length u) contents
+    → length contents′ ≡ length contents → Kept n contents contents′
+kept-front u contents contents′ n e is long =
+    record {
+      long = long;
+      within = omega (arith, ap length is, length-append u (drop (length u) contents));
+      rest =
+          ap (drop n) is ∙ drop-at u (drop (length u) contents) n (sym e) ∙ ap (λ k. drop k contents) (sym e);
+    }
+
+-- so many pairs and no more
+few-passed : (T : Tables) (p : Valid T) (i : Item) → IsItem (sessionOf T) i → (r : Judged) (contents : List ℕ)
+    → said r contents ≡ judgeBySearch (sessionOf T) mostPairs i → most (sessionOf T) i ≤ mostPairs → pairsOf r ≤ mostPairs
+few-passed T v i item r contents e m = go r e
+  where
+    go : (r : Judged) → said r contents ≡ judgeBySearch (sessionOf T) mostPairs i → pairsOf r ≤ mostPairs
+    go (Passes n) e = omega (arith, judge-bound (sessionOf T) (well-formed T v) i (is-item (sessionOf T) i item) n (judged-item T v i item ∙ sym e), m)
+    go (Fails n) e = omega arith
+
+entry-few : (T : Tables) → Valid T → T .pool .count * T .pool .count ≤ mostPairs
+entry-few T v =
+    let p : T .pool .count * T .pool .count ≤ 127 * 127 = mul-le-mul (v .pool .most) (v .pool .most) in
+    omega arith
+
+-- the two ways to say an answer are one
+said-same : (r : Judged) (contents : List ℕ) → said r contents ≡ saidJudged r contents
+said-same (Passes n) contents = refl
+said-same (Fails n) contents = refl
+
+shown-same : (r : Judged) → shownBy r ≡ walkShownBy r
+shown-same (Passes n) = refl
+shown-same (Fails n) = refl
+
+-- what holds of all parts of tables holds of what is lent of them
+over-parts : {T : Tables} {m : Machines} {q : Queues} {rows arcs finals roots : List ℕ} {count : ℕ}
+    (F : Machines → Queues → List ℕ → List ℕ → List ℕ → List ℕ → Type 0) → Parts T m q rows arcs finals roots count
+    → F (T .machines) (T .queues) (T .transitions .rows) (T .pool .arcs) (T .pool .finals) (T .map .roots) → F m q rows arcs finals roots
+over-parts {T} {m} {q} {rows} {arcs} {finals} {roots} F p f =
+    subst (λ x. F m q rows arcs finals x) (p .sameRoots)
+    (subst (λ x. F m q rows arcs x (T .map .roots)) (p .sameFinals)
+    (subst (λ x. F m q rows x (T .pool .finals) (T .map .roots)) (p .sameArcs)
+    (subst (λ x. F m q x (T .pool .arcs) (T .pool .finals) (T .map .roots)) (p .sameRows)
+    (subst (λ x. F m x (T .transitions .rows) (T .pool .arcs) (T .pool .finals) (T .map .roots)) (p .sameQueues)
+    (subst (λ x. F x (T .queues) (T .transitions .rows) (T .pool .arcs) (T .pool .finals) (T .map .roots)) (p .sameMachines) f)))))
+
+-- what is asked for a step says of each part
+module _ {m : Machines} {q : Queues} {rows arcs finals roots : List ℕ} {c row : ℕ} (a : StepAsked m q rows arcs finals roots c row) where
+  pub asked-machines : MachinesValid m
+  asked-machines = subst MachinesValid (a .parts .sameMachines) (a .parts .valid .machines)
+
+  pub asked-queues : QueuesValid q
+  asked-queues = subst QueuesValid (a .parts .sameQueues) (a .parts .valid .queues)
+
+  pub asked-long : row + 10 ≤ length rows
+  asked-long =
+      over-parts (λ m q rows arcs finals roots. row + 10 ≤ length rows) (a .parts)
+      (omega (arith, a .place, a .parts .enough, a .parts .valid .transitions .most, a .parts .valid .transitions .long))
+
+  pub asked-row : RowValid m q rows row
+  asked-row =
+      over-parts (λ m q rows arcs finals roots. RowValid m q rows row) (a .parts)
+      (subst (λ n. RowValid (a .whole .machines) (a .whole .queues) (a .whole .transitions .rows) n) (sym (a .place))
+      (a .parts .valid .transitions .row (a .number) (omega (arith, a .parts .enough))))
+
+  pub asked-roots : (i : ℕ) → getD roots i 0 ≤ 127
+  asked-roots i =
+      subst (λ l. getD l i 0 ≤ 127) (a .parts .sameRoots) (omega (arith, a .parts .valid .map .roots i, a .parts .valid .pool .most))
+
+-- THE STEP: its walk and its first pair, as the code makes them
+abbrev pub walkOf : Queues → ℕ → Cut → Walk
+walkOf q row k = record { cut = k .cut; sum = q .sum; word = row + 6; out = k .out; into = k .into; entry = false }
+
+abbrev pub nodeOf : Cut → ℕ → ℕ → Node
+nodeOf k source target = record { side = k .side; source = source; target = target }
+
+-- where source and target stand, and how the action parts the contents
+pub record Begins (m : Machines) (q : Queues) (rows roots : List ℕ) (c row source target : ℕ) (k : Cut) : Type 0 where
+  pub to : ℕ
+  pub here : PlaceAt roots c source
+  pub goes : Moved m rows row c to
+  pub there : PlaceAt roots to target
+  pub cuts : Cuts q rows row k
+
+pub begins : {m : Machines} {q : Queues} {rows roots : List ℕ} {c row source target : ℕ} {k : Cut} (to : ℕ)
+    → PlaceAt roots c source → Moved m rows row c to → PlaceAt roots to target → Cuts q rows row k
+    → Begins m q rows roots c row source target k
+begins to here goes there cuts = record { to = to; here = here; goes = goes; there = there; cuts = cuts }
+
+module _ {m : Machines} {q : Queues} {rows arcs finals roots : List ℕ} {c source : ℕ} (row : ℕ) where
+  pub nothing-is : {T : Tables} {count : ℕ} → Parts T m q rows arcs finals roots count → PlaceAt roots c source → source ≡ 127 → (t : ℕ)
+      → judgeBySearch (sessionOf T) mostPairs (step c t (transitionAt rows row)) ≡ passes 0
+  nothing-is {T} p here e t =
+      over-parts (λ m q rows arcs finals roots. PlaceAt roots c source → judgeBySearch (sessionOf T) mostPairs (step c t (transitionAt rows row)) ≡ passes 0)
+      p (λ here. step-nothing T (p .valid) c row source t here e) here
+
+  pub step-none : (a : StepAsked m q rows arcs finals roots c row) → PlaceAt roots c source → source ≡ 127 → {contents seen queue : List ℕ} → Scratch seen queue
+      → Judging (λ T. Parts T m q rows arcs finals roots 0) (λ T. judgeBySearch (sessionOf T) mostPairs (step c 0 (transitionAt rows row)))
+      contents (Passes 0) contents seen queue
+  step-none a here e s =
+      record {
+        is = λ T p. sym (nothing-is p here e 0);
+        few = omega arith;
+        kept = record { long = refl; within = omega arith; rest = refl };
+        scratch = s;
+      }
+
+  module _ {target : ℕ} {k : Cut} (a : StepAsked m q rows arcs finals roots c row) (b : Begins m q rows roots c row source target k)
+      (e : source ≡ 127 → ⊥) where
+    pub step-is : {T : Tables} {count : ℕ} → Parts T m q rows arcs finals roots count → (t : ℕ)
+        → judgedOver arcs finals rows (walkOf q row k) (pairOf (nodeOf k source target))
+        ≡ judgeBySearch (sessionOf T) mostPairs (step c t (transitionAt rows row))
+    step-is {T} p t =
+        over-parts
+        (λ m q rows arcs finals roots. Begins m q rows roots c row source target k
+        → judgedOver arcs finals rows (walkOf q row k) (pairOf (nodeOf k source target))
+        ≡ judgeBySearch (sessionOf T) mostPairs (step c t (transitionAt rows row)))
+        p (λ b. step-judged T (p .valid) c row source target (b .to) k (b .here) (b .goes) (b .there) (b .cuts) t e) b
+
+    pub step-shown : ShownFits arcs finals rows (walkOf q row k) (pairOf (nodeOf k source target))
+    step-shown =
+        over-parts
+        (λ m q rows arcs finals roots. Begins m q rows roots c row source target k → getD rows (row + 5) 0 ≤ 4
+        → IsItem (sessionOf (a .whole)) (step c (a .number) (transitionAt rows row))
+        → ShownFits arcs finals rows (walkOf q row k) (pairOf (nodeOf k source target)))
+        (a .parts)
+        (λ b l item. step-fits (a .whole) (a .parts .valid) c row source target (b .to) k (b .here) (b .goes) (b .there) (b .cuts) (a .number) e item l)
+        b (asked-row a .action .most) (a .item)
+
+    pub node-fits : NodeFits (nodeOf k source target)
+    node-fits =
+        record { side = b .cuts .sides; source = omega (arith, b .here .most); target = b .there .most }
+
+    pub step-lent : Lent arcs rows (walkOf q row k)
+    step-lent =
+        over-parts
+        (λ m q rows arcs finals roots. Cuts q rows row k → RowValid m q rows row → row + 10 ≤ length rows → Lent arcs rows (walkOf q row k))
+        (a .parts)
+        (λ cuts valid long.
+        record {
+          small = arcs-small (a .parts .valid .pool);
+          sum = a .parts .valid .queues .sumMost;
+          cut = cuts .small .0;
+          out = word-in (k .out) valid long (cuts .small .1);
+          into = word-in (k .into) valid long (cuts .small .2);
+        })
+        (b .cuts) (asked-row a) (asked-long a)
+      where
+        word-in : {rs : List ℕ} (n : ℕ) → RowValid (a .whole .machines) (a .whole .queues) rs row → row + 10 ≤ length rs → n ≤ getD rs (row + 5) 0
+            → WordWithin rs (row + 6) n
+        word-in n valid long l =
+            record {
+              within = omega (arith, valid .action .most);
+              messages = λ i h. omega (arith, valid .action .below i (omega arith), a .parts .valid .queues .sumMost);
+            }
+
+    pub step-finals : length finals ≡ 127
+    step-finals = over-parts (λ m q rows arcs finals roots. length finals ≡ 127) (a .parts) (a .parts .valid .pool .finalsLong)
+
+    -- the walk's answer is the judgement of the step
+    pub step-walked : {contents contents′ seen′ queue′ : List ℕ} {r : Judged}
+        → Judges arcs finals rows (walkOf q row k) (pairOf (nodeOf k source target)) contents seen′ queue′ contents′ r
+        → length seen′ ≡ mostPairs → length queue′ ≡ mostPairs → length contents′ ≡ length contents
+        → Judging (λ T. Parts T m q rows arcs finals roots 0) (λ T. judgeBySearch (sessionOf T) mostPairs (step c 0 (transitionAt rows row)))
+        contents r contents′ seen′ queue′
+    step-walked {contents} {contents′} {seen′} {queue′} {r} j ls lq lc =
+        record {
+          is = λ T p. said-same r contents′ ∙ j .reply ∙ step-is p 0;
+          few =
+              few-passed (a .whole) (a .parts .valid) (step c (a .number) (transitionAt rows row)) (a .item) r contents′
+              (said-same r contents′ ∙ j .reply ∙ step-is (a .parts) (a .number)) (few-pairs (a .whole) (a .parts .valid));
+          kept =
+              kept-front (shownOf (judgedOver arcs finals rows (walkOf q row k) (pairOf (nodeOf k source target)))) contents contents′ (shownBy r)
+              (shown-same r ∙ j .number) (j .shown) lc;
+          scratch = record { seenLong = ls; queueLong = lq; blank = j .blank };
+        }
+
+-- A BAD ENTRY: its walk and its first pair, as the code makes them
+over-entry : {T : Tables} {q : Queues} {rows arcs finals roots : List ℕ}
+    (F : Queues → List ℕ → List ℕ → List ℕ → List ℕ → Type 0) → EntryParts T q rows arcs finals roots
+    → F (T .queues) (T .transitions .rows) (T .pool .arcs) (T .pool .finals) (T .map .roots) → F q rows arcs finals roots
+over-entry {T} {q} {rows} {arcs} {finals} {roots} F p f =
+    subst (λ x. F q rows arcs finals x) (p .sameRoots)
+    (subst (λ x. F q rows arcs x (T .map .roots)) (p .sameFinals)
+    (subst (λ x. F q rows x (T .pool .finals) (T .map .roots)) (p .sameArcs)
+    (subst (λ x. F q x (T .pool .arcs) (T .pool .finals) (T .map .roots)) (p .sameRows)
+    (subst (λ x. F x (T .transitions .rows) (T .pool .arcs) (T .pool .finals) (T .map .roots)) (p .sameQueues) f))))
+
+abbrev pub entryWalkOf : Queues → Walk
+entryWalkOf q = record { cut = 0; sum = q .sum; word = 0; out = 0; into = 0; entry = true }
+
+abbrev pub entryNodeOf : ℕ → ℕ → Node
+entryNodeOf source root = record { side = 16256; source = source; target = root }
+
+module _ {q : Queues} {rows arcs finals roots : List ℕ} {control root : ℕ} (a : EntryAsked q rows arcs finals roots control root) where
+  pub entry-roots : (i : ℕ) → getD roots i 0 ≤ 127
+  entry-roots i =
+      subst (λ l. getD l i 0 ≤ 127) (a .parts .sameRoots) (omega (arith, a .parts .valid .map .roots i, a .parts .valid .pool .most))
+
+  pub entry-root : root < 127
+  entry-root = omega (arith, well-formed (a .whole) (a .parts .valid) .entries control root (at-place (sessionOf (a .whole) .bad) (a .number) (a .item)), a .parts .valid .pool .most)
+
+  module _ {source : ℕ} (here : PlaceAt roots control source) where
+    abbrev Over : Tables → Type 0
+    Over T = EntryParts T q rows arcs finals roots
+
+    abbrev judged : Tables → Model.Judged
+    judged T = judgeBySearch (sessionOf T) mostPairs (entry 0 (control, root))
+
+    pub entry-none : source ≡ 127 → {contents seen queue : List ℕ} → Scratch seen queue → Judging Over judged contents (Passes 0) contents seen queue
+    entry-none e s =
+        record {
+          is = λ T p. sym (entry-nothing T (p .valid) control root source (subst (λ l. PlaceAt l control source) (sym (p .sameRoots)) here) 0 e);
+          few = omega arith;
+          kept = record { long = refl; within = omega arith; rest = refl };
+          scratch = s;
+        }
+
+    module _ (e : source ≡ 127 → ⊥) where
+      pub entry-is : {T : Tables} → EntryParts T q rows arcs finals roots → (b : ℕ)
+          → judgedOver arcs finals rows (entryWalkOf q) (pairOf (entryNodeOf source root)) ≡ judgeBySearch (sessionOf T) mostPairs (entry b (control, root))
+      entry-is {T} p b =
+          over-entry
+          (λ q rows arcs finals roots. PlaceAt roots control source
+          → judgedOver arcs finals rows (entryWalkOf q) (pairOf (entryNodeOf source root)) ≡ judgeBySearch (sessionOf T) mostPairs (entry b (control, root)))
+          p (λ here. entry-judged T (p .valid) control root source here b e entry-root) here
+
+      pub entry-shown : ShownFits arcs finals rows (entryWalkOf q) (pairOf (entryNodeOf source root))
+      entry-shown =
+          over-entry
+          (λ q rows arcs finals roots. PlaceAt roots control source → ShownFits arcs finals rows (entryWalkOf q) (pairOf (entryNodeOf source root)))
+          (a .parts) (λ here. entry-fits (a .whole) (a .parts .valid) control root source here (a .number) e entry-root (a .item)) here
+
+      pub entry-node : NodeFits (entryNodeOf source root)
+      entry-node = record { side = inr refl; source = omega (arith, here .most); target = omega (arith, entry-root) }
+
+      pub entry-lent : Lent arcs rows (entryWalkOf q)
+      entry-lent =
+          over-entry (λ q rows arcs finals roots. Lent arcs rows (entryWalkOf q)) (a .parts)
+          (record {
+            small = arcs-small (a .parts .valid .pool);
+            sum = a .parts .valid .queues .sumMost;
+            cut = omega arith;
+            out = record { within = omega arith; messages = λ i h. absurd (omega arith) };
+            into = record { within = omega arith; messages = λ i h. absurd (omega arith) };
+          })
+
+      pub entry-finals : length finals ≡ 127
+      entry-finals = subst (λ l. length l ≡ 127) (a .parts .sameFinals) (a .parts .valid .pool .finalsLong)
+
+      pub entry-walked : {contents contents′ seen′ queue′ : List ℕ} {r : Judged}
+          → Judges arcs finals rows (entryWalkOf q) (pairOf (entryNodeOf source root)) contents seen′ queue′ contents′ r
+          → length seen′ ≡ mostPairs → length queue′ ≡ mostPairs → length contents′ ≡ length contents
+          → Judging Over judged contents r contents′ seen′ queue′
+      entry-walked {contents} {contents′} {seen′} {queue′} {r} j ls lq lc =
+          record {
+            is = λ T p. said-same r contents′ ∙ j .reply ∙ entry-is p 0;
+            few =
+                few-passed (a .whole) (a .parts .valid) (entry (a .number) (control, root)) (a .item) r contents′
+                (said-same r contents′ ∙ j .reply ∙ entry-is (a .parts) (a .number)) (entry-few (a .whole) (a .parts .valid));
+            kept =
+                kept-front (shownOf (judgedOver arcs finals rows (entryWalkOf q) (pairOf (entryNodeOf source root)))) contents contents′ (shownBy r)
+                (shown-same r ∙ j .number) (j .shown) lc;
+            scratch = record { seenLong = ls; queueLong = lq; blank = j .blank };
+          }

@@ -1,0 +1,6 @@
+pub mod Controls
+pub mod Start
+pub mod Judging
+pub mod Begin
+pub mod Check
+pub mod Laws

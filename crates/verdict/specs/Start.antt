@@ -1,0 +1,48 @@
+-- What the start of an item's walk is, in the model's words.
+use Prim.Native.Nat.{ℕ, suc, _+_, _≤_}
+use mathlib.Core.Path.{_≡_}
+use mathlib.Core.Bool.{Bool}
+use mathlib.Core.Option.{Option}
+use mathlib.Core.Logic.{_⊎_}
+use mathlib.Core.List.{List}
+use lib.ListN.{getD, take, set}
+use lib.Dec.{eqb}
+use Rattle.session.specs.declared.tables.Machines.{Machines}
+use Rattle.session.specs.declared.tables.Queues.{Queues}
+use Rattle.model.specs.Model.{Action, local, send, receive, firstOf, number, places}
+use Rattle.model.specs.Judge.{out, into, rootPair}
+use Rattle.meaning.specs.Tables.{actionOf, wordAt, rootOf}
+use Rattle.walk.specs.Pairs.{place, sideOf}
+use Rattle.walk.specs.Over.{wordOver}
+use Rattle.verdict.specs.Controls.{sizesOf}
+use Rattle.verdict.specs.declared.start.Cut.{Cut}
+
+-- the action of the transition whose row begins here
+abbrev pub actionAt : List ℕ → ℕ → Action
+actionAt rows row = actionOf (getD rows (row + 3) 0) (getD rows (row + 4) 0) (wordAt rows row)
+
+-- the first message that is read after an action, the queues having so many messages each
+abbrev pub cutOf : List ℕ → Action → ℕ
+cutOf ns local = 0
+cutOf ns (send q w) = firstOf ns (suc q)
+cutOf ns (receive q w) = firstOf ns q
+
+-- how an action parts the contents
+pub record Cuts (q : Queues) (rows : List ℕ) (row : ℕ) (r : Cut) : Type 0 where
+  pub cut : r .cut ≡ cutOf (take (q .count) (q .messages)) (actionAt rows row)
+  pub out : wordOver rows (row + 6) (r .out) ≡ out (actionAt rows row)
+  pub into : wordOver rows (row + 6) (r .into) ≡ into (actionAt rows row)
+  pub side : (s : ℕ) (t : Option ℕ) → sideOf (r .side) s t ≡ rootPair (actionAt rows row) s t
+  pub sides : (r .side ≡ 0) ⊎ (r .side ≡ 16256)
+  pub small : (r .cut ≤ q .sum) × (r .out ≤ getD rows (row + 5) 0) × (r .into ≤ getD rows (row + 5) 0)
+
+-- the root of a control state as a place
+pub record PlaceAt (roots : List ℕ) (c r : ℕ) : Type 0 where
+  pub is : place r ≡ rootOf roots c
+  pub most : r ≤ 127
+
+abbrev pub IsAt : Machines → List ℕ → ℕ → ℕ → Bool → Type 0
+IsAt m rows row c r = r ≡ eqb (getD (places (sizesOf m) c) (getD rows row 0) 0) (getD rows (row + 1) 0)
+
+abbrev pub Moved : Machines → List ℕ → ℕ → ℕ → ℕ → Type 0
+Moved m rows row c r = r ≡ number (sizesOf m) (set (places (sizesOf m) c) (getD rows row 0) (getD rows (row + 2) 0))

@@ -1,0 +1,173 @@
+// Checking a session file: the verdict on the whole file, over memory that the caller lends.
+use crate::begin::begins_inside;
+use crate::items::judge_items;
+use crate::judged::Progress;
+use session::number::wide;
+use session::reading::Answer;
+use session::reading::read;
+use session::refusal::Refusal;
+use session::tables::MOST_BYTES;
+use session::tables::Machines;
+use session::tables::Queues;
+use session::tables::Tables;
+ghost use mathlib.Core.Path.{_≡_};
+ghost use mathlib.Core.List.{List};
+ghost use Prim.Native.Nat.{ℕ, _≤_};
+ghost use lib.ListN.{length, replicate};
+ghost use Rattle.session.specs.Laws.Valid.{Valid};
+ghost use Rattle.meaning.specs.Checking.{Checks, CheckMeans, CheckTwoRuns};
+ghost use Rattle.verdict.specs.Judging.{AllAsked, AllParts};
+ghost use Rattle.verdict.specs.Check.{saidVerdict, concluded, Concludes, Room};
+
+// Entries that a scratch table needs, and bytes that a contents buffer needs.
+pub const TABLE_LEAST: usize = 32512;
+
+pub const CONTENTS_LEAST: usize = 32768;
+
+pub enum Verdict {
+    // nothing fails: the pairs visited
+    Closed(usize),
+    // empty queues are not in the set of the starting control state
+    Outside,
+    // a step leads out: control state, transition, messages shown
+    Leaves(usize, usize, usize),
+    // a bad entry's contents are inside: the entry, messages shown
+    Bad(usize, usize),
+    // the file is not read
+    Refused(Refusal),
+    // a scratch table or the contents buffer is too short
+    ShortMemory,
+}
+
+// The whole table is set to 0.
+fn blank(table: &mut [u16])
+    ensures { λ r. ⌜ now (table .exit) ≡ replicate (length (now (table .entry))) 0 ⌝ }
+{
+    let mut i: usize = 0;
+    while i < table.len() {
+        table[i] = 0;
+        i += 1;
+    }
+}
+
+fn verdict_of(p: Progress) -> Verdict
+    ensures { λ r. ⌜ r ≡ concluded p ⌝ }
+{
+    match p {
+        Progress::Passed(pairs) => Verdict::Closed(pairs),
+        Progress::Leaves(control, transition, shown) => Verdict::Leaves(control, transition, shown),
+        Progress::Meets(entry, shown) => Verdict::Bad(entry, shown),
+    }
+}
+
+// The items in order, over the first n entries of tables that are all 0.
+fn judge_lent(
+    m: Machines,
+    q: Queues,
+    rows: &[u8],
+    arcs: &[u8],
+    finals: &[u8],
+    roots: &[u8],
+    entries: &[u8],
+    count: usize,
+    many: usize,
+    n: usize,
+    seen: &mut [u16],
+    queue: &mut [u16],
+    contents: &mut [u8],
+) -> Verdict
+    requires { ⌜ AllAsked m q (now rows) (now arcs) (now finals) (now roots) (now entries) count many ⌝ }
+    requires { ⌜ Room n (now seen) (now queue) (now contents) ⌝ }
+    ensures { λ r. ⌜ Concludes (λ T. AllParts T m q (now (rows .entry)) (now (arcs .entry)) (now (finals .entry)) (now (roots .entry)) (now (entries .entry)) count many) (now (seen .entry)) (now (queue .entry)) (now (contents .entry)) r (now (seen .exit)) (now (queue .exit)) (now (contents .exit)) ⌝ }
+{
+    if !begins_inside(m, roots, finals) {
+        return Verdict::Outside;
+    }
+    let p = judge_items(
+        m,
+        q,
+        rows,
+        arcs,
+        finals,
+        roots,
+        entries,
+        count,
+        many,
+        &mut seen[..n],
+        &mut queue[..n],
+        contents,
+    );
+    verdict_of(p)
+}
+
+// The verdict on tables that were read, over the first n entries of scratch tables that are all 0.
+fn judge_tables(
+    t: Tables,
+    n: usize,
+    seen: &mut [u16],
+    queue: &mut [u16],
+    contents: &mut [u8],
+) -> Verdict
+    requires { ⌜ Valid t ⌝ }
+    requires { ⌜ Room n (now seen) (now queue) (now contents) ⌝ }
+    ensures { λ r. ⌜ Concludes (λ T. T ≡ t) (now (seen .entry)) (now (queue .entry)) (now (contents .entry)) r (now (seen .exit)) (now (queue .exit)) (now (contents .exit)) ⌝ }
+{
+    let m = t.machines;
+    let q = t.queues;
+    let transitions = t.transitions;
+    let rows = transitions.rows;
+    let pool = t.pool;
+    let arcs = pool.arcs;
+    let finals = pool.finals;
+    let map = t.map;
+    let roots = map.roots;
+    let bad = t.bad;
+    let entries = bad.rows;
+    judge_lent(
+        m,
+        q,
+        &rows,
+        &arcs,
+        &finals,
+        &roots,
+        &entries,
+        wide(transitions.count),
+        wide(bad.count),
+        n,
+        seen,
+        queue,
+        contents,
+    )
+}
+
+// Checks a session file with two scratch tables and a contents buffer, of any lengths and with any contents. A refusal leaves
+// all three as they were. A verdict leaves both tables 0; the contents it shows fill the front of the buffer.
+pub fn check(file: &[u8], seen: &mut [u16], queue: &mut [u16], contents: &mut [u8]) -> Verdict
+    ensures { λ r. ⌜ Checks (now (file .entry)) (now (seen .entry)) (now (queue .entry)) (now (contents .entry)) (saidVerdict r (now (contents .exit))) (now (seen .exit)) (now (queue .exit)) (now (contents .exit)) ⌝ }
+    ensures two_runs { λ r. ⌜ ((ts : List ℕ) → CheckTwoRuns (now (file .entry)) (now (seen .entry)) (now (queue .entry)) (now (contents .entry)) (saidVerdict r (now (contents .exit))) ts) ⌝ }
+    ensures means { λ r. ⌜ CheckMeans (now (file .entry)) (now (seen .entry)) (now (queue .entry)) (now (contents .entry)) (saidVerdict r (now (contents .exit))) ⌝ }
+{
+    if MOST_BYTES < file.len() {
+        return Verdict::Refused(Refusal::TooLong);
+    }
+    if seen.len() < TABLE_LEAST {
+        return Verdict::ShortMemory;
+    }
+    if queue.len() < TABLE_LEAST {
+        return Verdict::ShortMemory;
+    }
+    if contents.len() < CONTENTS_LEAST {
+        return Verdict::ShortMemory;
+    }
+    let reading = read(file);
+    let answer = reading.answer;
+    match answer {
+        Answer::Refused(why) => Verdict::Refused(why),
+        Answer::Read => {
+            blank(seen);
+            blank(queue);
+            let t = reading.tables;
+            judge_tables(t, TABLE_LEAST, seen, queue, contents)
+        }
+    }
+}

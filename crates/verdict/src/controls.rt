@@ -1,0 +1,62 @@
+// Control states: the state of one machine, and the control state after that machine has moved.
+use session::number::wide;
+use session::tables::Machines;
+ghost use mathlib.Core.Path.{_≡_};
+ghost use Prim.Native.Nat.{_<_, _≤_};
+ghost use lib.ListN.{take, drop};
+ghost use Rattle.session.specs.Laws.Machines.{MachinesValid};
+ghost use Rattle.model.specs.Model.{product};
+ghost use Rattle.verdict.specs.Controls.{sizesOf, Located};
+ghost use Rattle.verdict.specs.Laws.Controls.{Stepped, Partable};
+
+// A control state parted at a machine: what the machines before it give, what is left, and how many control states one state
+// of the machine takes.
+pub struct Parted {
+    pub base: usize,
+    pub rest: usize,
+    pub stride: usize,
+}
+
+// The product of the states of the machines from number i on.
+pub fn product_from(states: [u8; 4], count: usize, i: usize) -> usize
+    requires { ⌜ Stepped states count ⌝ }
+    requires { ⌜ i ≤ count ⌝ }
+    ensures { λ r. ⌜ r ≡ product (drop i (take count states)) ⌝ }
+{
+    let mut product: usize = 1;
+    let mut j = count;
+    while i < j {
+        j -= 1;
+        product = wide(states[j]) * product;
+    }
+    product
+}
+
+// The control state c parted at a machine.
+fn part(states: [u8; 4], count: usize, c: usize, machine: usize) -> Parted
+    requires { ⌜ Partable states count c machine ⌝ }
+    ensures { λ r. ⌜ Located (take count states) c machine r ⌝ }
+{
+    let mut base: usize = 0;
+    let mut rest = c;
+    let mut i: usize = 0;
+    while i < machine {
+        let stride = product_from(states, count, i + 1);
+        base = base + rest / stride * stride;
+        rest = rest % stride;
+        i += 1;
+    }
+    let stride = product_from(states, count, machine + 1);
+    Parted { base, rest, stride }
+}
+
+// The control state of machines that were read, parted at one of them.
+pub fn part_at(m: Machines, c: usize, machine: u8) -> Parted
+    requires { ⌜ MachinesValid m ⌝ }
+    requires { ⌜ c < m .product ⌝ }
+    requires { ⌜ machine < m .count ⌝ }
+    ensures { λ r. ⌜ Located (sizesOf m) c machine r ⌝ }
+{
+    let states = m.states;
+    part(states, wide(m.count), c, wide(machine))
+}

@@ -1,0 +1,100 @@
+// The bad entries, in their order.
+use crate::item::judge_entry;
+use crate::judged::Progress;
+use session::number::wide;
+use session::tables::Queues;
+use walk::judge::Judged;
+ghost use Prim.Native.Nat.{_+_, _*_, _<_, _≤_};
+ghost use lib.ListN.{length};
+ghost use mathlib.Core.List.{[], _∷_};
+ghost use Rattle.model.specs.Verdict.{entry, entriesFrom};
+ghost use Rattle.model.specs.Judge.{decide};
+ghost use Rattle.meaning.specs.Tables.{sessionOf, entriesFrom as entriesIn};
+ghost use Rattle.walk.specs.Pairs.{mostPairs};
+ghost use Rattle.verdict.specs.Judging.{Scratch, EntryParts, EntriesAsked, AllBad, Judges};
+ghost use Rattle.verdict.specs.Laws.Entries.{entryAt};
+
+// One bad entry, after items with so many pairs.
+fn judge_one(
+    q: Queues,
+    rows: &[u8],
+    arcs: &[u8],
+    finals: &[u8],
+    roots: &[u8],
+    entries: &[u8],
+    count: usize,
+    b: usize,
+    pairs: usize,
+    seen: &mut [u16],
+    queue: &mut [u16],
+    contents: &mut [u8],
+) -> Progress
+    requires { ⌜ EntriesAsked q (now rows) (now arcs) (now finals) (now roots) (now entries) count ⌝ }
+    requires { ⌜ (b < count) × (pairs ≤ 1100000000) ⌝ }
+    requires { ⌜ Scratch (now seen) (now queue) ⌝ }
+    requires { ⌜ 32768 ≤ length (now contents) ⌝ }
+    ensures { λ r. ⌜ Judges (λ T. EntryParts T q (now (rows .entry)) (now (arcs .entry)) (now (finals .entry)) (now (roots .entry)) × AllBad (now (entries .entry)) count T) (pairs + mostPairs) (λ T. decide (sessionOf T) (entry b (entryAt (now (entries .entry)) b) ∷ []) pairs) (now (contents .entry)) r (now (contents .exit)) (now (seen .exit)) (now (queue .exit)) ⌝ }
+{
+    let control = wide(entries[b * 2]);
+    let root = entries[b * 2 + 1];
+    match judge_entry(
+        q,
+        rows,
+        arcs,
+        finals,
+        roots,
+        control,
+        root,
+        seen,
+        queue,
+        contents,
+    ) {
+        Judged::Fails(shown) => Progress::Meets(b, shown),
+        Judged::Passes(more) => Progress::Passed(pairs + more),
+    }
+}
+
+pub fn judge_entries(
+    q: Queues,
+    rows: &[u8],
+    arcs: &[u8],
+    finals: &[u8],
+    roots: &[u8],
+    entries: &[u8],
+    count: usize,
+    pairs: usize,
+    seen: &mut [u16],
+    queue: &mut [u16],
+    contents: &mut [u8],
+) -> Progress
+    requires { ⌜ EntriesAsked q (now rows) (now arcs) (now finals) (now roots) (now entries) count ⌝ }
+    requires { ⌜ pairs ≤ 4161536 * 256 ⌝ }
+    requires { ⌜ Scratch (now seen) (now queue) ⌝ }
+    requires { ⌜ 32768 ≤ length (now contents) ⌝ }
+    ensures { λ r. ⌜ Judges (λ T. EntryParts T q (now (rows .entry)) (now (arcs .entry)) (now (finals .entry)) (now (roots .entry)) × AllBad (now (entries .entry)) count T) 1100000000 (λ T. decide (sessionOf T) (entriesFrom 0 (entriesIn (now (entries .entry)) count 0)) pairs) (now (contents .entry)) r (now (contents .exit)) (now (seen .exit)) (now (queue .exit)) ⌝ }
+{
+    let mut sum = pairs;
+    let mut b: usize = 0;
+    while b < count {
+        let turn = judge_one(
+            q,
+            rows,
+            arcs,
+            finals,
+            roots,
+            entries,
+            count,
+            b,
+            sum,
+            seen,
+            queue,
+            contents,
+        );
+        let Progress::Passed(more) = turn else {
+            return turn;
+        };
+        sum = more;
+        b += 1;
+    }
+    Progress::Passed(sum)
+}

@@ -1,0 +1,99 @@
+// One item, judged by itself.
+use crate::start::cut_of;
+use crate::start::moved;
+use crate::start::place_of;
+use session::tables::Machines;
+use session::tables::Queues;
+use walk::judge::Judged;
+use walk::judge::judge;
+use walk::pairs::AFTER;
+use walk::pairs::NOWHERE;
+use walk::pairs::Node;
+use walk::pairs::Walk;
+ghost use Prim.Native.Nat.{_≤_};
+ghost use lib.ListN.{length};
+ghost use Rattle.model.specs.Verdict.{step, entry};
+ghost use Rattle.model.specs.Searched.{judgeBySearch};
+ghost use Rattle.meaning.specs.Tables.{sessionOf, transitionAt};
+ghost use Rattle.walk.specs.Pairs.{mostPairs};
+ghost use Rattle.verdict.specs.Judging.{Scratch, StepAsked, Parts, EntryAsked, EntryParts, Judging};
+
+// The step of a transition from a control state.
+pub fn judge_step(
+    m: Machines,
+    q: Queues,
+    rows: &[u8],
+    arcs: &[u8],
+    finals: &[u8],
+    roots: &[u8],
+    c: usize,
+    row: usize,
+    seen: &mut [u16],
+    queue: &mut [u16],
+    contents: &mut [u8],
+) -> Judged
+    requires { ⌜ StepAsked m q (now rows) (now arcs) (now finals) (now roots) c row ⌝ }
+    requires { ⌜ Scratch (now seen) (now queue) ⌝ }
+    requires { ⌜ 32768 ≤ length (now contents) ⌝ }
+    ensures { λ r. ⌜ Judging (λ T. Parts T m q (now (rows .entry)) (now (arcs .entry)) (now (finals .entry)) (now (roots .entry)) 0) (λ T. judgeBySearch (sessionOf T) mostPairs (step c 0 (transitionAt (now (rows .entry)) row))) (now (contents .entry)) r (now (contents .exit)) (now (seen .exit)) (now (queue .exit)) ⌝ }
+{
+    let source = place_of(roots, c);
+    if source == NOWHERE {
+        return Judged::Passes(0);
+    }
+    let to = moved(m, rows, row, c);
+    let target = place_of(roots, to);
+    let cut = cut_of(q, rows, row);
+    let w = Walk {
+        cut: cut.cut,
+        sum: q.sum,
+        word: row + 6,
+        out: cut.out,
+        into: cut.into,
+        entry: false,
+    };
+    let root = Node {
+        side: cut.side,
+        source,
+        target,
+    };
+    judge(arcs, finals, rows, w, root, seen, queue, contents)
+}
+
+// A bad entry: contents of its control state that lead from its root to a final state.
+pub fn judge_entry(
+    q: Queues,
+    rows: &[u8],
+    arcs: &[u8],
+    finals: &[u8],
+    roots: &[u8],
+    control: usize,
+    root: u8,
+    seen: &mut [u16],
+    queue: &mut [u16],
+    contents: &mut [u8],
+) -> Judged
+    requires { ⌜ EntryAsked q (now rows) (now arcs) (now finals) (now roots) control root ⌝ }
+    requires { ⌜ Scratch (now seen) (now queue) ⌝ }
+    requires { ⌜ 32768 ≤ length (now contents) ⌝ }
+    ensures { λ r. ⌜ Judging (λ T. EntryParts T q (now (rows .entry)) (now (arcs .entry)) (now (finals .entry)) (now (roots .entry))) (λ T. judgeBySearch (sessionOf T) mostPairs (entry 0 (control, root))) (now (contents .entry)) r (now (contents .exit)) (now (seen .exit)) (now (queue .exit)) ⌝ }
+{
+    let source = place_of(roots, control);
+    if source == NOWHERE {
+        return Judged::Passes(0);
+    }
+    let w = Walk {
+        cut: 0,
+        sum: q.sum,
+        word: 0,
+        out: 0,
+        into: 0,
+        entry: true,
+    };
+    let pair = Node {
+        side: AFTER,
+        source,
+        target: root,
+    };
+    judge(arcs, finals, rows, w, pair, seen, queue, contents)
+}

@@ -1,0 +1,10 @@
+// How judging goes on: the items up to the first that fails.
+
+pub enum Progress {
+    // the pairs of all items till now
+    Passed(usize),
+    // control state, transition, messages shown
+    Leaves(usize, usize, usize),
+    // bad entry, messages shown
+    Meets(usize, usize),
+}

@@ -1,0 +1,98 @@
+// Where the walk of an item starts: how its action parts the contents, and where source and target stand.
+use crate::controls::part_at;
+use session::number::entry;
+use session::number::wide;
+use session::queues::messages_of;
+use session::tables::Machines;
+use session::tables::Queues;
+ghost use mathlib.Core.Path.{_≡_};
+ghost use Prim.Native.Nat.{_+_, _<_, _≤_};
+ghost use lib.ListN.{length, getD};
+ghost use Rattle.session.specs.Laws.Machines.{MachinesValid};
+ghost use Rattle.session.specs.Laws.Queues.{QueuesValid};
+ghost use Rattle.session.specs.Laws.Transitions.{RowValid};
+ghost use Rattle.verdict.specs.Controls.{sizesOf};
+ghost use Rattle.verdict.specs.Start.{Cuts, PlaceAt, IsAt, Moved};
+
+// How an action parts the contents: the side it starts on, the first message that is read after it, and how many messages of
+// its word are taken out and put in.
+pub struct Cut {
+    pub side: usize,
+    pub cut: u8,
+    pub out: usize,
+    pub into: usize,
+}
+
+// The first number of the after side, where a local step starts.
+const AFTER: usize = 16256;
+
+// The action of the transition whose row begins here.
+pub fn cut_of(q: Queues, rows: &[u8], row: usize) -> Cut
+    requires { ⌜ QueuesValid q ⌝ }
+    requires { ⌜ row + 10 ≤ length (now rows) ⌝ }
+    requires { ⌜ getD (now rows) (row + 4) 0 < q .count ⌝ }
+    ensures { λ r. ⌜ Cuts q (now (rows .entry)) row r ⌝ }
+{
+    let kind = rows[row + 3];
+    if kind == 0 {
+        return Cut {
+            side: AFTER,
+            cut: 0,
+            out: 0,
+            into: 0,
+        };
+    }
+    let messages = q.messages;
+    let own = messages_of(messages, rows[row + 4]);
+    let length = wide(rows[row + 5]);
+    if kind == 1 {
+        return Cut {
+            side: 0,
+            cut: own.hi as u8,
+            out: 0,
+            into: length,
+        };
+    }
+    Cut {
+        side: 0,
+        cut: own.lo as u8,
+        out: length,
+        into: 0,
+    }
+}
+
+// The root of a control state as a place: 127, which is no state, where it has none.
+pub fn place_of(roots: &[u8], c: usize) -> u8
+    requires { ⌜ getD (now roots) c 0 ≤ 127 ⌝ }
+    ensures { λ r. ⌜ PlaceAt (now (roots .entry)) c r ⌝ }
+{
+    let root = entry(roots, c);
+    if root == 0 {
+        return 127;
+    }
+    root - 1
+}
+
+// Whether the machine of the transition is in its from-state.
+pub fn is_at(m: Machines, rows: &[u8], row: usize, c: usize) -> bool
+    requires { ⌜ MachinesValid m ⌝ }
+    requires { ⌜ row + 10 ≤ length (now rows) ⌝ }
+    requires { ⌜ getD (now rows) row 0 < m .count ⌝ }
+    requires { ⌜ c < m .product ⌝ }
+    ensures { λ r. ⌜ IsAt m (now (rows .entry)) row c r ⌝ }
+{
+    let p = part_at(m, c, rows[row]);
+    p.rest / p.stride == wide(rows[row + 1])
+}
+
+// The control state that the transition leads to.
+pub fn moved(m: Machines, rows: &[u8], row: usize, c: usize) -> usize
+    requires { ⌜ MachinesValid m ⌝ }
+    requires { ⌜ row + 10 ≤ length (now rows) ⌝ }
+    requires { ⌜ getD (now rows) row 0 < m .count ⌝ }
+    requires { ⌜ c < m .product ⌝ }
+    ensures { λ r. ⌜ Moved m (now (rows .entry)) row c r ⌝ }
+{
+    let p = part_at(m, c, rows[row]);
+    p.base + (wide(rows[row + 2]) * p.stride + p.rest % p.stride)
+}

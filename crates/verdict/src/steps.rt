@@ -1,0 +1,153 @@
+// The steps, by control state and within it by transition number.
+use crate::item::judge_step;
+use crate::judged::Progress;
+use crate::start::is_at;
+use session::tables::Machines;
+use session::tables::Queues;
+use session::tables::ROW;
+use walk::judge::Judged;
+ghost use Prim.Native.Nat.{_+_, _*_, _≤_};
+ghost use lib.ListN.{length};
+ghost use mathlib.Core.List.{[], _∷_};
+ghost use Rattle.session.specs.Transitions.{rowLength};
+ghost use Rattle.model.specs.Verdict.{stepsAt, stepsFrom};
+ghost use Rattle.model.specs.Judge.{decide};
+ghost use Rattle.meaning.specs.Tables.{sessionOf, transitionAt, transitionsFrom};
+ghost use Rattle.walk.specs.Pairs.{mostPairs};
+ghost use Rattle.verdict.specs.Judging.{Scratch, Parts, Judges, StepsAsked};
+ghost use Rattle.verdict.specs.Laws.Sequence.{AllIn};
+
+// One transition at a control state: its step, if the machine is in the from-state.
+fn judge_turn(
+    m: Machines,
+    q: Queues,
+    rows: &[u8],
+    arcs: &[u8],
+    finals: &[u8],
+    roots: &[u8],
+    c: usize,
+    i: usize,
+    pairs: usize,
+    seen: &mut [u16],
+    queue: &mut [u16],
+    contents: &mut [u8],
+) -> Progress
+    requires { ⌜ StepsAsked m q (now rows) (now arcs) (now finals) (now roots) c (i + 1) ⌝ }
+    requires { ⌜ pairs ≤ 1100000000 ⌝ }
+    requires { ⌜ Scratch (now seen) (now queue) ⌝ }
+    requires { ⌜ 32768 ≤ length (now contents) ⌝ }
+    ensures { λ r. ⌜ Judges (λ T. Parts T m q (now (rows .entry)) (now (arcs .entry)) (now (finals .entry)) (now (roots .entry)) (i + 1)) (pairs + mostPairs) (λ T. decide (sessionOf T) (stepsAt (sessionOf T .model) c i (transitionAt (now (rows .entry)) (i * rowLength) ∷ [])) pairs) (now (contents .entry)) r (now (contents .exit)) (now (seen .exit)) (now (queue .exit)) ⌝ }
+{
+    let row = i * ROW;
+    if !is_at(m, rows, row, c) {
+        return Progress::Passed(pairs);
+    }
+    match judge_step(
+        m,
+        q,
+        rows,
+        arcs,
+        finals,
+        roots,
+        c,
+        row,
+        seen,
+        queue,
+        contents,
+    ) {
+        Judged::Fails(shown) => Progress::Leaves(c, i, shown),
+        Judged::Passes(more) => Progress::Passed(pairs + more),
+    }
+}
+
+// The steps of one control state, after items with so many pairs.
+fn judge_control(
+    m: Machines,
+    q: Queues,
+    rows: &[u8],
+    arcs: &[u8],
+    finals: &[u8],
+    roots: &[u8],
+    c: usize,
+    count: usize,
+    pairs: usize,
+    seen: &mut [u16],
+    queue: &mut [u16],
+    contents: &mut [u8],
+) -> Progress
+    requires { ⌜ StepsAsked m q (now rows) (now arcs) (now finals) (now roots) c count ⌝ }
+    requires { ⌜ pairs ≤ 4161536 * c ⌝ }
+    requires { ⌜ Scratch (now seen) (now queue) ⌝ }
+    requires { ⌜ 32768 ≤ length (now contents) ⌝ }
+    ensures { λ r. ⌜ Judges (λ T. Parts T m q (now (rows .entry)) (now (arcs .entry)) (now (finals .entry)) (now (roots .entry)) count) (4161536 * (c + 1)) (λ T. decide (sessionOf T) (stepsAt (sessionOf T .model) c 0 (transitionsFrom (now (rows .entry)) count 0)) pairs) (now (contents .entry)) r (now (contents .exit)) (now (seen .exit)) (now (queue .exit)) ⌝ }
+{
+    let mut sum = pairs;
+    let mut i: usize = 0;
+    while i < count {
+        let turn = judge_turn(
+            m,
+            q,
+            rows,
+            arcs,
+            finals,
+            roots,
+            c,
+            i,
+            sum,
+            seen,
+            queue,
+            contents,
+        );
+        let Progress::Passed(more) = turn else {
+            return turn;
+        };
+        sum = more;
+        i += 1;
+    }
+    Progress::Passed(sum)
+}
+
+// The steps of all control states.
+pub fn judge_steps(
+    m: Machines,
+    q: Queues,
+    rows: &[u8],
+    arcs: &[u8],
+    finals: &[u8],
+    roots: &[u8],
+    count: usize,
+    seen: &mut [u16],
+    queue: &mut [u16],
+    contents: &mut [u8],
+) -> Progress
+    requires { ⌜ StepsAsked m q (now rows) (now arcs) (now finals) (now roots) 0 count ⌝ }
+    requires { ⌜ Scratch (now seen) (now queue) ⌝ }
+    requires { ⌜ 32768 ≤ length (now contents) ⌝ }
+    ensures { λ r. ⌜ Judges (λ T. Parts T m q (now (rows .entry)) (now (arcs .entry)) (now (finals .entry)) (now (roots .entry)) count × AllIn (now (rows .entry)) count T) (4161536 * 256) (λ T. decide (sessionOf T) (stepsFrom (sessionOf T .model) 0 (m .product)) 0) (now (contents .entry)) r (now (contents .exit)) (now (seen .exit)) (now (queue .exit)) ⌝ }
+{
+    let product = m.product;
+    let mut sum: usize = 0;
+    let mut c: usize = 0;
+    while c < product {
+        let turn = judge_control(
+            m,
+            q,
+            rows,
+            arcs,
+            finals,
+            roots,
+            c,
+            count,
+            sum,
+            seen,
+            queue,
+            contents,
+        );
+        let Progress::Passed(more) = turn else {
+            return turn;
+        };
+        sum = more;
+        c += 1;
+    }
+    Progress::Passed(sum)
+}
