@@ -5,6 +5,7 @@ mod report;
 
 use report::report;
 use session::number::wide;
+use streams::fill_front;
 
 // More files than a stream has: every loop has an end.
 const MOST_FILES: usize = 100000;
@@ -36,14 +37,6 @@ fn answer_next(space: &mut [u8]) -> bool {
     }
     report_front(space, length);
     true
-}
-
-// Fills the front of the space from standard input.
-fn fill_front(space: &mut [u8], length: usize) -> bool {
-    if space.len() < length {
-        return false;
-    }
-    length <= io::read_full(0, &mut space[..length])
 }
 
 fn report_front(space: &[u8], length: usize) {

@@ -1,0 +1,28 @@
+// The line of one reply.
+use diagram::reply::Member;
+use session::refusal::number;
+use session::refusal::place;
+
+fn refused(cause: usize, at: usize) {
+    io::write_all(1, b"refused ");
+    io::print_decimal(1, cause as u64);
+    io::write_all(1, b" at ");
+    io::print_decimal(1, at as u64);
+    io::write_all(1, b"\n");
+}
+
+fn said(word: &[u8]) {
+    io::write_all(1, word);
+    io::write_all(1, b"\n");
+}
+
+pub fn report(reply: Member) {
+    match reply {
+        Member::Yes => said(b"yes"),
+        Member::No => said(b"no"),
+        Member::Unread(why) => refused(number(why), place(why)),
+        Member::NoControl => refused(11, 0),
+        Member::NoMessage(at) => refused(12, at),
+        Member::EarlierQueue(at) => refused(13, at),
+    }
+}
