@@ -1,0 +1,32 @@
+-- Answering a file with lent memory: the line of the reply that checking gives, and all that was lent.
+use Prim.Native.Nat.{ℕ, _+_, _*_}
+use mathlib.Core.Path.{_≡_}
+use mathlib.Core.List.{List, _++_}
+use lib.ListN.{length, drop}
+use lib.Dec.{leb}
+use Rattle.meaning.specs.Reply.{FileReply, shownOf, lineOf, replyOf}
+use Rattle.meaning.specs.Checking.{checkOf}
+use Rattle.line.specs.Said.{given}
+
+-- the line of a reply, where so many bytes have room for any line that shows so many messages; else nothing
+abbrev pub lineIn : ℕ → FileReply → List ℕ
+lineIn room r = given (leb (4 * length (shownOf r) + 41) room) (lineOf r)
+
+-- WHAT ANSWERING PROMISES: at entry with ₀, at exit with ₁. The line fills the front of the line's buffer and the rest keeps its bytes;
+-- r is its length
+pub record Answers (file seen₀ queue₀ contents₀ buffer₀ seen₁ queue₁ contents₁ buffer₁ : List ℕ) (r : ℕ) : Type 0 where
+  pub reply : r ≡ length (lineIn (length buffer₀) (checkOf file seen₀ queue₀ contents₀ .reply))
+  pub buffer : buffer₁ ≡ lineIn (length buffer₀) (checkOf file seen₀ queue₀ contents₀ .reply)
+      ++ drop (length (lineIn (length buffer₀) (checkOf file seen₀ queue₀ contents₀ .reply))) buffer₀
+  pub seen : seen₁ ≡ checkOf file seen₀ queue₀ contents₀ .seen
+  pub queue : queue₁ ≡ checkOf file seen₀ queue₀ contents₀ .queue
+  pub contents : contents₁ ≡ checkOf file seen₀ queue₀ contents₀ .contents
+
+-- so many bytes hold any line: 32,768 messages, each a byte with a space before it, and 41 for the rest
+abbrev pub mostLine : ℕ
+mostLine = 131113
+
+-- WHAT THE PROGRAM PRINTS: the line of the reply to the file fills the front of the buffer, and r is its length
+pub record Lines (file buffer₀ buffer₁ : List ℕ) (r : ℕ) : Type 0 where
+  pub reply : r ≡ length (lineOf (replyOf file))
+  pub buffer : buffer₁ ≡ lineOf (replyOf file) ++ drop (length (lineOf (replyOf file))) buffer₀

@@ -1,0 +1,122 @@
+-- The line that is written of a verdict is the line of checking's reply; and with enough lent it is the line of the file's reply.
+use Prim.Native.Nat.{ℕ, _+_, _*_, _≤_, _<_}
+use mathlib.Core.Path.{_≡_, refl, sym, ap, subst, _∙_}
+use mathlib.Core.List.{List, _++_}
+use lib.ListN.{length, take, drop, replicate, length-take, length-replicate}
+use lib.Dec.{leb}
+use borrow.Author.Tests.{le-leb}
+use native.Mathlib.Omega.{arith}
+use Rattle.meaning.specs.Reply.{FileReply, refused, verdict, shownOf, lineOf, replyOf, replyTo}
+use Rattle.meaning.specs.Checking.{checkOf, readLent, Checks, enough, tableLeast, contentsLeast}
+use Rattle.meaning.specs.Laws.Checking.{Ways, long, little, whole, ways, enough-long, long-enough, lent-enough, lent-sound}
+use Rattle.meaning.specs.Laws.Shown.{shown-fits, shown-within, contents-kept}
+use Rattle.line.specs.Said.{said, shownBy, holds, given, Writes}
+use Rattle.line.specs.declared.verdict.Verdict.{Verdict as Line}
+use Rattle.line.specs.declared.verdict.Verdict.the-variants.{Closed, Outside, Leaves, Bad, Refused}
+use Rattle.verdict.specs.Check.{saidVerdict}
+use Rattle.verdict.specs.declared.check.Verdict.{Verdict}
+use Rattle.verdict.specs.declared.check.Verdict.the-variants as Verdict
+use Rattle.answer.specs.Printed.{printedOf}
+use Rattle.answer.specs.Answer.{lineIn, Answers, mostLine, Lines}
+
+-- fewer messages than there are: the front has as many as were asked for
+front-long : (n : ℕ) (contents : List ℕ) → length (take n contents) < length contents → n ≡ length (take n contents)
+front-long n contents h = omega (arith, length-take n contents)
+
+-- how many messages are shown: by a verdict that shows fewer than the contents have, and by a refusal
+shown-of : (p : Line) (contents : List ℕ) → length (shownOf (said p contents)) < length contents → shownBy p ≡ length (shownOf (said p contents))
+shown-of (Closed n) contents h = refl
+shown-of Outside contents h = refl
+shown-of (Leaves c t n) contents h = front-long n contents h
+shown-of (Bad b n) contents h = front-long n contents h
+shown-of (Refused k j) contents h = refl
+
+shown-refused : (p : Line) (contents : List ℕ) {k j : ℕ} → said p contents ≡ refused k j → shownBy p ≡ length (shownOf (said p contents))
+shown-refused (Closed n) contents e = refl
+shown-refused Outside contents e = refl
+shown-refused (Leaves c t n) contents e = absurd (let z : _≡_ {A = ℕ} 0 1 = cc in omega arith)
+shown-refused (Bad b n) contents e = absurd (let z : _≡_ {A = ℕ} 0 1 = cc in omega arith)
+shown-refused (Refused k j) contents e = refl
+
+-- room for a line that shows no more messages than there are, and no more than any verdict shows
+room-for : (room contents shown : ℕ) → shown ≤ contents → shown ≤ 32516 → holds room contents shown ≡ leb (4 * shown + 41) room
+room-for room contents shown h k = rw (le-leb shown contents h, le-leb shown 32768 (omega arith))
+
+module _ {file seen queue contents seen₁ queue₁ contents₁ : List ℕ} (p : Line) (checks : Checks file seen queue contents (said p contents₁) seen₁ queue₁ contents₁) where
+  kept : length contents₁ ≡ length contents
+  kept = ap length (checks .contents) ∙ contents-kept file seen queue contents
+
+  few : length (shownOf (said p contents₁)) ≤ 32516
+  few = subst (λ r. length (shownOf r) ≤ 32516) (sym (checks .reply)) (shown-fits (readLent file seen queue contents) (lent-sound file seen queue contents))
+
+  within : length (shownOf (said p contents₁)) ≤ length contents₁
+  within = let w = subst (λ r. length (shownOf r) ≤ length contents) (sym (checks .reply)) (shown-within file seen queue contents) in omega (arith, w, kept)
+
+  counted : shownBy p ≡ length (shownOf (said p contents₁))
+  counted = go (ways file seen queue contents)
+    where
+      go : Ways file seen queue contents (readLent file seen queue contents) → shownBy p ≡ length (shownOf (said p contents₁))
+      go (long e) = shown-refused p contents₁ (checks .reply ∙ ap replyTo e)
+      go (little h l e) = shown-refused p contents₁ (checks .reply ∙ ap replyTo e)
+      go (whole h e) = shown-of p contents₁ (omega (arith, few, kept, enough-long file seen queue contents h .2))
+
+  room : (n : ℕ) → holds n (length contents₁) (shownBy p) ≡ leb (4 * length (shownOf (said p contents₁)) + 41) n
+  room n = ap (holds n (length contents₁)) counted ∙ room-for n (length contents₁) (length (shownOf (said p contents₁))) within few
+
+  text : (n : ℕ) → given (holds n (length contents₁) (shownBy p)) (lineOf (said p contents₁)) ≡ lineIn n (checkOf file seen queue contents .reply)
+  text n = ap (λ b. given b (lineOf (said p contents₁))) (room n) ∙ ap (lineIn n) (checks .reply)
+
+  -- checked and written: answered
+  answered : {buffer buffer₁ : List ℕ} {r : ℕ} → Writes buffer p contents₁ buffer₁ r
+      → Answers file seen queue contents buffer seen₁ queue₁ contents₁ buffer₁ r
+  answered {buffer} {buffer₁} {r} w = record {
+    reply = w .line .reply ∙ ap length (text (length buffer));
+    buffer = subst (λ (t : List ℕ). buffer₁ ≡ t ++ drop (length t) buffer) (text (length buffer)) (w .line .buffer);
+    seen = checks .seen;
+    queue = checks .queue;
+    contents = checks .contents;
+  }
+
+-- what is printed of a verdict says what the verdict says
+said-printed : (v : Verdict) (contents : List ℕ) → saidVerdict v contents ≡ said (printedOf v) contents
+said-printed (Verdict.Closed n) contents = refl
+said-printed Verdict.Outside contents = refl
+said-printed (Verdict.Leaves c t n) contents = refl
+said-printed (Verdict.Bad b n) contents = refl
+said-printed (Verdict.Refused why) contents = refl
+said-printed Verdict.ShortMemory contents = refl
+
+-- CHECKED, PRINTED AND WRITTEN: ANSWERED
+pub answered-by : {file seen queue contents seen₁ queue₁ contents₁ buffer buffer₁ : List ℕ} {r : ℕ} (v : Verdict) (p : Line) → p ≡ printedOf v
+    → Checks file seen queue contents (saidVerdict v contents₁) seen₁ queue₁ contents₁ → Writes buffer p contents₁ buffer₁ r
+    → Answers file seen queue contents buffer seen₁ queue₁ contents₁ buffer₁ r
+answered-by {file} {seen} {queue} {contents} {seen₁} {queue₁} {contents₁} v p e checks w =
+    answered p
+    (subst (λ x. Checks file seen queue contents x seen₁ queue₁ contents₁) (said-printed v contents₁ ∙ ap (λ l. said l contents₁) (sym e)) checks)
+    w
+
+-- with enough lent the line is that of the reply to the file
+line-whole : (file seen queue contents : List ℕ) (room : ℕ) → tableLeast ≤ length seen → tableLeast ≤ length queue
+    → contentsLeast ≤ length contents → mostLine ≤ room → lineIn room (checkOf file seen queue contents .reply) ≡ lineOf (replyOf file)
+unfolding replyOf
+line-whole file seen queue contents room a b c h =
+    let e = ap replyTo (lent-enough file seen queue contents (long-enough file seen queue contents a b c)) in
+    let few = shown-fits (readLent file seen queue contents) (lent-sound file seen queue contents) in
+    let n = length (shownOf (replyTo (readLent file seen queue contents))) in
+    let wide : 4 * n + 41 ≤ room = omega (arith, few) in
+    ap (λ t. given t (lineOf (replyTo (readLent file seen queue contents)))) (le-leb (4 * n + 41) room wide) ∙ ap lineOf e
+
+-- ANSWERED WITH ENOUGH LENT: the line of the file
+pub lines : {file seen queue contents buffer seen₁ queue₁ contents₁ buffer₁ : List ℕ} {r : ℕ} → tableLeast ≤ length seen → tableLeast ≤ length queue
+    → contentsLeast ≤ length contents → mostLine ≤ length buffer
+    → Answers file seen queue contents buffer seen₁ queue₁ contents₁ buffer₁ r → Lines file buffer buffer₁ r
+lines {file} {seen} {queue} {contents} {buffer} {seen₁} {queue₁} {contents₁} {buffer₁} a b c h answers =
+    let e = line-whole file seen queue contents (length buffer) a b c h in
+    record {
+      reply = answers .reply ∙ ap length e;
+      buffer = subst (λ (t : List ℕ). buffer₁ ≡ t ++ drop (length t) buffer) e (answers .buffer);
+    }
+
+-- a new table has the length that was asked for
+pub new-long : (n : ℕ) → n ≤ length {A = ℕ} (replicate n 0)
+new-long n = let l : length {A = ℕ} (replicate n 0) ≡ n = length-replicate n 0 in omega (arith, l)

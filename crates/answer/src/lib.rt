@@ -1,0 +1,51 @@
+// The answer to a file: the verdict on it, as the line that the program prints.
+use line::verdict::Verdict as Printed;
+use line::verdict::write_line;
+use session::refusal::number;
+use session::refusal::place;
+use verdict::check::Verdict;
+use verdict::check::check;
+ghost use Prim.Native.Nat.{_≤_};
+ghost use mathlib.Core.Path.{_≡_};
+ghost use lib.ListN.{length};
+ghost use Rattle.answer.specs.Printed.{printedOf};
+ghost use Rattle.answer.specs.Answer.{Answers, mostLine, Lines};
+
+// What is printed of a verdict: of a refusal its number and its place.
+pub fn printed(v: Verdict) -> Printed
+    ensures { λ r. ⌜ r ≡ printedOf v ⌝ }
+{
+    match v {
+        Verdict::Closed(pairs) => Printed::Closed(pairs),
+        Verdict::Outside => Printed::Outside,
+        Verdict::Leaves(control, transition, shown) => Printed::Leaves(control, transition, shown),
+        Verdict::Bad(entry, shown) => Printed::Bad(entry, shown),
+        Verdict::Refused(why) => Printed::Refused(number(why), place(why)),
+        Verdict::ShortMemory => Printed::Refused(2, 0),
+    }
+}
+
+// The line of a file, at the front of the buffer: its length.
+pub fn answer(
+    file: &[u8],
+    seen: &mut [u16],
+    queue: &mut [u16],
+    contents: &mut [u8],
+    buffer: &mut [u8],
+) -> usize
+    ensures { λ r. ⌜ Answers (now (file .entry)) (now (seen .entry)) (now (queue .entry)) (now (contents .entry)) (now (buffer .entry)) (now (seen .exit)) (now (queue .exit)) (now (contents .exit)) (now (buffer .exit)) r ⌝ }
+{
+    let verdict = check(file, seen, queue, contents);
+    write_line(buffer, printed(verdict), contents)
+}
+
+// The line of a file, at the front of a buffer that holds any: its length. Tables and contents are of a size that is always enough.
+pub fn line_of(file: &[u8], buffer: &mut [u8]) -> usize
+    requires { ⌜ mostLine ≤ length (now buffer) ⌝ }
+    ensures { λ r. ⌜ Lines (now (file .entry)) (now (buffer .entry)) (now (buffer .exit)) r ⌝ }
+{
+    let mut seen = [0u16; 32512];
+    let mut queue = [0u16; 32512];
+    let mut contents = [0u8; 32768];
+    answer(file, &mut seen, &mut queue, &mut contents, buffer)
+}

@@ -1,0 +1,29 @@
+// Reads a session file from standard input and prints the line of its verdict.
+mod input;
+
+use answer::line_of;
+use input::Input;
+use input::read_input;
+use streams::print_front;
+
+fn main() {
+    // one byte more than a file may have
+    let mut file = [0u8; 16385];
+    match read_input(&mut file) {
+        Input::Failed => {
+            io::write_all(2, b"swarmbanner: standard input cannot be read\n");
+        }
+        Input::Bytes(length) => answer_front(&file, length),
+    }
+}
+
+// Prints the line of the file at the front.
+fn answer_front(file: &[u8], length: usize) {
+    let mut line = [0u8; 131113];
+    if length <= file.len() {
+        let end = line_of(&file[..length], &mut line);
+        if !print_front(&line, end) {
+            io::write_all(2, b"swarmbanner: the line cannot be written\n");
+        }
+    }
+}
