@@ -22,7 +22,7 @@ pub record Answers (file seen₀ queue₀ contents₀ buffer₀ seen₁ queue₁
   pub queue : queue₁ ≡ checkOf file seen₀ queue₀ contents₀ .queue
   pub contents : contents₁ ≡ checkOf file seen₀ queue₀ contents₀ .contents
 
--- so many bytes hold any line: 32,768 messages, each a byte with a space before it, and 41 for the rest
+-- so many bytes hold any line: 32,768 messages, each a space and at most three digits, and 41 for the rest
 abbrev pub mostLine : ℕ
 mostLine = 131113
 
