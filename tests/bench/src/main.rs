@@ -57,12 +57,36 @@ impl Subject for Reference {
     }
 }
 
-/// The product, by the functions of crate `measured`.
-struct Product;
+/// The product, by the functions of crate `measured`, with the memory that it is lent.
+struct Product {
+    seen: Vec<u16>,
+    queue: Vec<u16>,
+    contents: Vec<u8>,
+}
+
+impl Default for Product {
+    fn default() -> Self {
+        Product { seen: vec![0; 32512], queue: vec![0; 32512], contents: vec![0; 32768] }
+    }
+}
 
 extern "C" {
     fn measured_read(file: *const u8, length: usize, i: usize) -> usize;
+    fn measured_check(
+        file: *const u8,
+        length: usize,
+        seen: *mut u16,
+        seen_length: usize,
+        queue: *mut u16,
+        queue_length: usize,
+        contents: *mut u8,
+        contents_length: usize,
+    ) -> usize;
 }
+
+/// Added to the number of messages shown, so that it is no number of pairs.
+const SHOWN: usize = 2_000_000_000;
+const ELSE: usize = 3_000_000_000;
 
 impl Subject for Product {
     fn name(&self) -> &'static str {
@@ -75,13 +99,31 @@ impl Subject for Product {
         black_box(sampled) > 0
     }
 
-    fn checks(&mut self, _file: &[u8]) -> Option<Checked> {
-        None
+    fn checks(&mut self, file: &[u8]) -> Option<Checked> {
+        let file = black_box(file);
+        // SAFETY: each pointer and length are of one slice; the three lent ones are borrowed by this call alone.
+        let told = unsafe {
+            measured_check(
+                file.as_ptr(),
+                file.len(),
+                self.seen.as_mut_ptr(),
+                self.seen.len(),
+                self.queue.as_mut_ptr(),
+                self.queue.len(),
+                self.contents.as_mut_ptr(),
+                self.contents.len(),
+            )
+        };
+        Some(match told {
+            ELSE => Checked::Else,
+            SHOWN..ELSE => Checked::Shown { messages: told - SHOWN },
+            pairs => Checked::Closed { pairs: pairs as u64 },
+        })
     }
 }
 
 fn subjects() -> Vec<Box<dyn Subject>> {
-    vec![Box::new(Reference { scratch: Scratch::default() }), Box::new(Product)]
+    vec![Box::new(Reference { scratch: Scratch::default() }), Box::new(Product::default())]
 }
 
 const RUNS: usize = 9;
