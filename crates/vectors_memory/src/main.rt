@@ -1,0 +1,48 @@
+// Answers the file on standard input with memory that is just enough, and with each part of it one short.
+use answer::answer;
+use streams::print_front;
+
+fn main() {
+    let mut file = [0u8; 64];
+    let length = io::read_full(0, &mut file);
+    if length <= 64 {
+        enough(&file[..length]);
+        short_seen(&file[..length]);
+        short_queue(&file[..length]);
+        short_contents(&file[..length]);
+    }
+}
+
+fn print_answer(file: &[u8], seen: &mut [u16], queue: &mut [u16], contents: &mut [u8]) {
+    let mut line = [0u8; 131113];
+    let end = answer(file, seen, queue, contents, &mut line);
+    print_front(&line, end);
+}
+
+fn enough(file: &[u8]) {
+    let mut seen = [7u16; 32512];
+    let mut queue = [7u16; 32512];
+    let mut contents = [7u8; 32768];
+    print_answer(file, &mut seen, &mut queue, &mut contents)
+}
+
+fn short_seen(file: &[u8]) {
+    let mut seen = [7u16; 32511];
+    let mut queue = [7u16; 32512];
+    let mut contents = [7u8; 32768];
+    print_answer(file, &mut seen, &mut queue, &mut contents)
+}
+
+fn short_queue(file: &[u8]) {
+    let mut seen = [7u16; 32512];
+    let mut queue = [7u16; 32511];
+    let mut contents = [7u8; 32768];
+    print_answer(file, &mut seen, &mut queue, &mut contents)
+}
+
+fn short_contents(file: &[u8]) {
+    let mut seen = [7u16; 32512];
+    let mut queue = [7u16; 32512];
+    let mut contents = [7u8; 32767];
+    print_answer(file, &mut seen, &mut queue, &mut contents)
+}
