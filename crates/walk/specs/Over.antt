@@ -85,6 +85,7 @@ pub record Over (arcs finals : List ℕ) (sum : ℕ) (S : Session) : Type 0 wher
 -- WHAT IS ASKED OF THE TABLES: every file that was read has it
 -- an arc leads to a state below 127, so that 127 can stand for nowhere
 pub record ArcsSmall (arcs : List ℕ) : Type 0 where
+  pub long : length arcs ≡ 4064
   pub each : (k : ℕ) → getD arcs k 0 ≤ 127
 
 -- so many messages of a word stand at this entry

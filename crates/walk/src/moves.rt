@@ -5,11 +5,14 @@ use crate::pairs::Node;
 use crate::pairs::Walk;
 use crate::pairs::code_of;
 use session::kinds::DiagramState;
-use session::kinds::Message;
 use session::pool::Arc;
-use session::pool::arc_of;
+use session::tables::ARCS;
 ghost use mathlib.Core.Option.{some};
-ghost use Prim.Native.Nat.{_<_, _≤_};
+ghost use mathlib.Core.Path.{_≡_};
+ghost use Prim.Native.Nat.{_+_, _*_, _<_, _≤_};
+ghost use lib.ListN.{length};
+ghost use Rattle.session.specs.Pool.{arcAt};
+ghost use Rattle.session.specs.Said.{saidArc};
 ghost use Rattle.model.specs.Judge.{pair};
 ghost use Rattle.walk.specs.Pairs.{place, sideOf, NodeFits};
 ghost use Rattle.walk.specs.Over.{readOver, jumpOver, ArcsSmall, WordWithin, Lent, Reads, Follows};
@@ -21,16 +24,29 @@ pub enum Next {
     Nowhere,
 }
 
+// The arc of a state for a message. The entry is in the table, so no walk tests for its end.
+fn arc_at(arcs: &[u8], s: u8, m: u8) -> Arc
+    requires { ⌜ s * 32 + m < length (now arcs) ⌝ }
+    ensures { λ r. ⌜ saidArc r ≡ arcAt (now (arcs .entry)) s m ⌝ }
+{
+    let target = arcs[s as usize * ARCS + m as usize];
+    if target == 0 {
+        return Arc::Nowhere;
+    }
+    Arc::Target(DiagramState(target - 1))
+}
+
 // Where a place is after a message. A missing arc has nowhere to go, and nowhere stays nowhere.
 pub fn along(arcs: &[u8], t: u8, m: u8) -> u8
     requires { ⌜ ArcsSmall (now arcs) ⌝ }
+    requires { ⌜ t ≤ 127 ⌝ }
     requires { ⌜ m < 32 ⌝ }
     ensures { λ r. ⌜ Reads (now (arcs .entry)) t m r ⌝ }
 {
     if t == NOWHERE {
         return NOWHERE;
     }
-    let Arc::Target(next) = arc_of(arcs, DiagramState(t), Message(m)) else {
+    let Arc::Target(next) = arc_at(arcs, t, m) else {
         return NOWHERE;
     };
     next.0
@@ -75,7 +91,7 @@ pub fn read(arcs: &[u8], entry: bool, x: Node, m: u8) -> Next
     requires { ⌜ m < 32 ⌝ }
     ensures { λ r. ⌜ LeadsTo r (readOver (now (arcs .entry)) entry (x .side) (x .source) (place (x .target)) m) ⌝ }
 {
-    let Arc::Target(source) = arc_of(arcs, DiagramState(x.source), Message(m)) else {
+    let Arc::Target(source) = arc_at(arcs, x.source, m) else {
         return Next::Nowhere;
     };
     let target = along(arcs, x.target, m);

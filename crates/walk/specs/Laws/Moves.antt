@@ -28,6 +28,13 @@ use Rattle.walk.specs.Leads.{LeadsTo}
 pub arc-is : (arcs : List ℕ) (s m : ℕ) → m < 32 → arcOf arcs s m ≡ arcAt arcs s m
 arc-is arcs s m h = rw (lt-ltb m 32 h, arcOf)
 
+-- every state has an entry for every message
+pub entry-within : {arcs : List ℕ} {s m : ℕ} → ArcsSmall arcs → s < 127 → m < 32 → s * 32 + m < length arcs
+entry-within a h k = omega (arith, a .long)
+
+pub below-nowhere : {t : ℕ} → t ≤ 127 → (t ≡ nowhere → ⊥) → t < 127
+below-nowhere h k = omega (arith, k)
+
 -- an arc leads to a state
 pub arc-small : {arcs : List ℕ} (s m : ℕ) {t : ℕ} → ArcsSmall arcs → arcAt arcs s m ≡ some t → t < 127
 arc-small {arcs} s m h e = omega (arith, arc-entry arcs s m e, h .each (s * 32 + m))

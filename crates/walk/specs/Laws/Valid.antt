@@ -20,7 +20,7 @@ use Rattle.walk.specs.declared.pairs.Walk.{Walk}
 use Rattle.walk.specs.Over.{ArcsSmall, WordWithin, Lent, Over}
 
 pub arcs-small : {sum : ℕ} {P : Pool} → PoolValid sum P → ArcsSmall (P .arcs)
-arcs-small {sum} {P} z = record { each = λ k. byState k (decLt k (P .count * 32)) }
+arcs-small {sum} {P} z = record { long = z .arcsLong; each = λ k. byState k (decLt k (P .count * 32)) }
   where
     byState : (k : ℕ) → Dec (k < P .count * 32) → getD (P .arcs) k 0 ≤ 127
     byState k (yes l) =

@@ -56,7 +56,7 @@ returns-4 c =
 
 -- src/edges.rt:54:22
 read-requires-2 : tie.Need-read-requires-2
-read-requires-2 c κs = search needs
+read-requires-2 c κs = (c .before .before .before .before .before .before .before .before .pre .0 .small, (c .before .before .before .before .before .before .before .before .pre .1 .0, omega (arith, c .if5 .taken, c .before .before .before .before .before .before .before .before .pre .0 .sum)))
 
 -- src/edges.rt:54:9
 meets-requires-3 : tie.Need-meets-requires-3

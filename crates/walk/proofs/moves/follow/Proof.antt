@@ -28,7 +28,7 @@ shared-slice-read-along c = omega (arith, c .before .before .before .before .bef
 
 -- src/moves.rt:47:9
 along-requires : tie.Need-along-requires Inv-loop μ-loop
-along-requires c κs = (c .before .before .before .before .before .pre .0, c .before .before .before .before .before .pre .1 .0 .messages _ (c .before .loop-test .taken))
+along-requires c κs = (c .before .before .before .before .before .pre .0, (c .before .before .loop .inv .0 .most, c .before .before .before .before .before .pre .1 .0 .messages _ (c .before .loop-test .taken)))
 
 -- src/moves.rt:48:9
 add-i : tie.Need-add-i Inv-loop μ-loop

@@ -2,19 +2,19 @@ use mathlib.Core.Path.{sym, ap, _∙_}
 use denote.Ref.{now}
 use Rattle.session.specs.Said.{saidArc}
 use Rattle.walk.specs.Pairs.{place}
-use Rattle.walk.specs.Laws.Moves.{arc-small, leads-nowhere, leads-as, read-missing, read-is}
+use Rattle.walk.specs.Laws.Moves.{entry-within, arc-small, leads-nowhere, leads-as, read-missing, read-is}
 use borrow.Author.Needs.{needs}
 use Rattle.walk.proofs.moves.read.Statement.{statement}
 use Rattle.walk.proofs.moves.read.Tie as tie
 use Rattle.walk.proofs.moves.read.Reads as reads
 use Rattle.walk.proofs.moves.read.Lts as lts
-use Rattle.session.proofs.pool.arc_of.Reads as arc-of-reads
+use Rattle.walk.proofs.moves.arc_at.Reads as arc-at-reads
 use Rattle.walk.proofs.moves.along.Reads as along-reads
 use Rattle.walk.proofs.moves.pair_to.Reads as pair-to-reads
 
 -- src/moves.rt:79:31
-arc-of-requires : tie.Need-arc-of-requires
-arc-of-requires c κs = search needs
+arc-at-requires : tie.Need-arc-at-requires
+arc-at-requires c κs = entry-within (c .before .pre .0) (c .before .pre .1 .0 .source) (c .before .pre .1 .1)
 
 -- src/moves.rt:79:21
 enum-known-source : tie.Need-enum-known-source
@@ -28,7 +28,7 @@ enum-told c = search needs
 returns : tie.Need-returns
 returns c =
     let a = c .before .before .before .before .args in
-    leads-nowhere (read-missing (now (a .arcs)) (a .entry) (a .x .side) (a .x .source) (place (a .x .target)) (a .m) (c .before .before .before .before .pre .1 .1) (sym (c .before .before .arc-of .ensures) ∙ ap saidArc (c .enum-told .given .1)))
+    leads-nowhere (read-missing (now (a .arcs)) (a .entry) (a .x .side) (a .x .source) (place (a .x .target)) (a .m) (c .before .before .before .before .pre .1 .1) (sym (c .before .before .arc-at .ensures) ∙ ap saidArc (c .enum-told .given .1)))
 
 -- src/moves.rt:82:9
 along-requires : tie.Need-along-requires
@@ -36,19 +36,19 @@ along-requires c κs = search needs
 
 -- src/moves.rt:88:5
 pair-to-requires : tie.Need-pair-to-requires
-pair-to-requires c κs = record { side = c .before .before .before .before .before .before .pre .1 .0 .side; source = arc-small _ _ (c .before .before .before .before .before .before .pre .0) (sym (c .before .before .before .before .arc-of .ensures) ∙ ap saidArc (c .before .before .source .given .1)); target = c .along .ensures .most }
+pair-to-requires c κs = record { side = c .before .before .before .before .before .before .pre .1 .0 .side; source = arc-small _ _ (c .before .before .before .before .before .before .pre .0) (sym (c .before .before .before .before .arc-at .ensures) ∙ ap saidArc (c .before .before .source .given .1)); target = c .along .ensures .most }
 
 -- src/moves.rt:73:1
 returns-2 : tie.Need-returns-2
 returns-2 c =
     let a = c .before .before .before .before .before .before .before .args in
-    leads-as (read-is (a .entry) (a .x .side) (a .x .source) (a .m) (c .before .before .before .before .before .before .before .pre .1 .1) (sym (c .before .before .before .before .before .arc-of .ensures) ∙ ap saidArc (c .before .before .before .source .given .1)) (c .before .along .ensures)) (c .pair-to .ensures)
+    leads-as (read-is (a .entry) (a .x .side) (a .x .source) (a .m) (c .before .before .before .before .before .before .before .pre .1 .1) (sym (c .before .before .before .before .before .arc-at .ensures) ∙ ap saidArc (c .before .before .before .source .given .1)) (c .before .along .ensures)) (c .pair-to .ensures)
 
 pub read-spec : {M : Type 1} → statement M
 read-spec =
     tie.close
     (tie.spec
-    arc-of-requires
+    arc-at-requires
     enum-known-source
     enum-told
     returns
