@@ -95,6 +95,14 @@ answered-by {file} {seen} {queue} {contents} {seen₁} {queue₁} {contents₁} 
     (subst (λ x. Checks file seen queue contents x seen₁ queue₁ contents₁) (said-printed v contents₁ ∙ ap (λ l. said l contents₁) (sym e)) checks)
     w
 
+-- a verdict that is printed says checking's reply, and tells how many messages that shows
+pub counted-by : {file seen queue contents seen₁ queue₁ contents₁ : List ℕ} (v : Verdict) (p : Line) → p ≡ printedOf v
+    → Checks file seen queue contents (saidVerdict v contents₁) seen₁ queue₁ contents₁
+    → (said p contents₁ ≡ checkOf file seen queue contents .reply) × (shownBy p ≡ length (shownOf (said p contents₁)))
+counted-by {file} {seen} {queue} {contents} {seen₁} {queue₁} {contents₁} v p e checks =
+    let own = subst (λ x. Checks file seen queue contents x seen₁ queue₁ contents₁) (said-printed v contents₁ ∙ ap (λ l. said l contents₁) (sym e)) checks in
+    (own .reply, counted p own)
+
 -- with enough lent the line is that of the reply to the file
 line-whole : (file seen queue contents : List ℕ) (room : ℕ) → tableLeast ≤ length seen → tableLeast ≤ length queue
     → contentsLeast ≤ length contents → mostLine ≤ room → lineIn room (checkOf file seen queue contents .reply) ≡ lineOf (replyOf file)

@@ -1,3 +1,3 @@
 // The line that the program prints, written into a buffer.
-mod put;
+pub mod put;
 pub mod verdict;

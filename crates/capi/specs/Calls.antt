@@ -1,0 +1,50 @@
+-- WHAT EACH CALL PROMISES, for every input and whatever is lent: the kind of the reply, and all lent memory at exit. With ₀ at entry, with ₁
+-- at exit. Too little output space is told by a kind of its own, and then nothing is touched.
+use Prim.Native.Nat.{ℕ}
+use mathlib.Core.Path.{_≡_}
+use mathlib.Core.Bool.{Bool, true, false, _&&_}
+use mathlib.Core.List.{List, _++_}
+use lib.ListN.{length, drop}
+use lib.Dec.{leb}
+use Rattle.session.specs.Part.{Part, got, refused}
+use Rattle.session.specs.File.{readFile, replyOf}
+use Rattle.session.specs.declared.tables.Tables.{Tables}
+use Rattle.meaning.specs.Checking.{checkOf}
+use Rattle.diagram.specs.Member.{memberOf}
+use Rattle.capi.specs.Told.{NO-ROOM, toldReply, toldAnswer, toldMember, replyAfter}
+use Rattle.capi.specs.Flat.{flat, tablesLeast}
+use Rattle.capi.specs.declared.told.Told.{Told}
+
+-- is there space for a reply?
+abbrev pub replyFits : List ℕ → Bool
+replyFits reply = leb 3 (length reply)
+
+-- the kind that is told, and the reply's space at exit
+abbrev pub kindIf : Bool → Told → ℕ
+kindIf true t = t .kind
+kindIf false t = NO-ROOM
+
+abbrev pub keepUnless : Bool → List ℕ → List ℕ → List ℕ
+keepUnless true after before = after
+keepUnless false after before = before
+
+-- the space for tables at exit: they fill its front; after a refusal it is as it was
+abbrev pub spaceAfter : Part Tables → List ℕ → List ℕ
+spaceAfter (got T next) space = flat T ++ drop tablesLeast space
+spaceAfter (refused k p) space = space
+
+pub record ReadCall (file space₀ reply₀ : List ℕ) (r : ℕ) (space₁ reply₁ : List ℕ) : Type 0 where
+  pub kind : r ≡ kindIf (leb tablesLeast (length space₀) && replyFits reply₀) (toldAnswer (replyOf (readFile file)))
+  pub space : space₁ ≡ keepUnless (leb tablesLeast (length space₀) && replyFits reply₀) (spaceAfter (readFile file) space₀) space₀
+  pub reply : reply₁ ≡ keepUnless (leb tablesLeast (length space₀) && replyFits reply₀) (replyAfter (toldAnswer (replyOf (readFile file))) reply₀) reply₀
+
+pub record MemberCall (file : List ℕ) (control : ℕ) (contents reply₀ : List ℕ) (r : ℕ) (reply₁ : List ℕ) : Type 0 where
+  pub kind : r ≡ kindIf (replyFits reply₀) (toldMember (memberOf file control contents))
+  pub reply : reply₁ ≡ keepUnless (replyFits reply₀) (replyAfter (toldMember (memberOf file control contents)) reply₀) reply₀
+
+pub record CheckCall (file seen₀ queue₀ contents₀ reply₀ : List ℕ) (r : ℕ) (seen₁ queue₁ contents₁ reply₁ : List ℕ) : Type 0 where
+  pub kind : r ≡ kindIf (replyFits reply₀) (toldReply (checkOf file seen₀ queue₀ contents₀ .reply))
+  pub reply : reply₁ ≡ keepUnless (replyFits reply₀) (replyAfter (toldReply (checkOf file seen₀ queue₀ contents₀ .reply)) reply₀) reply₀
+  pub seen : seen₁ ≡ keepUnless (replyFits reply₀) (checkOf file seen₀ queue₀ contents₀ .seen) seen₀
+  pub queue : queue₁ ≡ keepUnless (replyFits reply₀) (checkOf file seen₀ queue₀ contents₀ .queue) queue₀
+  pub contents : contents₁ ≡ keepUnless (replyFits reply₀) (checkOf file seen₀ queue₀ contents₀ .contents) contents₀

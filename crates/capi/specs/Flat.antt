@@ -1,0 +1,32 @@
+-- The tables of a file one after the other, each over its whole length.
+use Prim.Native.Nat.{ℕ, _+_}
+use mathlib.Core.List.{List, [], _∷_, _++_}
+use lib.ListN.{length}
+use Rattle.session.specs.declared.tables.Tables.{Tables}
+
+abbrev pub four : List ℕ → List ℕ → List ℕ → List ℕ → List ℕ
+four a b c d = ((a ++ b) ++ c) ++ d
+
+abbrev pub fourLong : List ℕ → List ℕ → List ℕ → List ℕ → ℕ
+fourLong a b c d = length a + length b + length c + length d
+
+-- machines, queues, messages in all, transitions, pool states, bad entries
+abbrev pub countsOf : Tables → List ℕ
+countsOf T =
+    T .machines .count ∷ T .queues .count ∷ T .queues .sum ∷ T .transitions .count ∷ T .pool .count ∷ T .bad .count ∷ []
+
+-- the counts; then for each machine its states and its starting state, for each queue its messages: 4 entries each
+abbrev pub small : Tables → List ℕ
+small T = four (countsOf T) (T .machines .states) (T .machines .starts) (T .queues .messages)
+
+-- transitions (128 rows of 10), final marks (127), arcs (127 rows of 32), roots (256)
+abbrev pub large : Tables → List ℕ
+large T = four (T .transitions .rows) (T .pool .finals) (T .pool .arcs) (T .map .roots)
+
+-- and bad entries (64 rows of 2)
+abbrev pub flat : Tables → List ℕ
+flat T = (small T ++ large T) ++ T .bad .rows
+
+-- so many bytes
+abbrev pub tablesLeast : ℕ
+tablesLeast = 5873

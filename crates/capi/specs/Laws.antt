@@ -1,0 +1,203 @@
+-- Laws of what is told, of tables that are put one after the other, and of each call.
+use Prim.Native.Nat.{ℕ, _+_, _≤_, _<_}
+use mathlib.Core.Path.{_≡_, refl, sym, ap, subst, _∙_}
+use mathlib.Core.Bool.{Bool, true, false, _&&_}
+use mathlib.Core.List.{List, [], _∷_, _++_}
+use lib.ListN.{length, drop, set, length-append}
+use lib.Dec.{leb}
+use borrow.Author.Tests.{le-leb, lt-leb}
+use native.Mathlib.Omega.{arith}
+use Rattle.session.specs.Part.{Part, got, refused}
+use Rattle.session.specs.Said.{Reply, read, refusal, saidAnswer}
+use Rattle.session.specs.File.{readFile, replyOf, tablesOf, Reads}
+use Rattle.session.specs.Laws.Valid.{Valid}
+use Rattle.session.specs.declared.tables.Tables.{Tables}
+use Rattle.session.specs.declared.reading.Reading.{Reading}
+use Rattle.meaning.specs.Reply.{shownOf}
+use Rattle.meaning.specs.Checking.{Checked, checkOf, Checks}
+use Rattle.verdict.specs.Check.{saidVerdict}
+use Rattle.verdict.specs.declared.check.Verdict.{Verdict}
+use Rattle.diagram.specs.Member.{memberOf}
+use Rattle.diagram.specs.Said.{saidMember}
+use Rattle.diagram.specs.Laws.Asking.{read-valid}
+use Rattle.diagram.specs.declared.reply.Member.{Member}
+use Rattle.line.specs.Put.{Put}
+use Rattle.line.specs.Laws.Put.{put-then, put-front}
+use Rattle.line.specs.Said.{said, shownBy}
+use Rattle.line.specs.declared.verdict.Verdict.{Verdict as Line}
+use Rattle.line.specs.declared.verdict.Verdict.the-variants.{Closed, Outside, Leaves, Bad, Refused}
+use Rattle.answer.specs.Printed.{printedOf}
+use Rattle.answer.specs.Laws.{counted-by}
+use Rattle.capi.specs.Told.{NO-ROOM, toldOf, toldReply, toldAnswer, toldMember, toldLine, replyAfter, Tells}
+use Rattle.capi.specs.Flat.{four, fourLong, countsOf, small, large, flat, tablesLeast}
+use Rattle.capi.specs.Calls.{replyFits, kindIf, keepUnless, spaceAfter, ReadCall, MemberCall, CheckCall}
+use Rattle.capi.specs.declared.told.Told.{Told}
+
+-- TABLES ONE AFTER THE OTHER
+pub put-four : {s₀ s₁ s₂ s₃ s₄ a b c d : List ℕ} {at p q r z : ℕ} → Put s₀ at (length a) a s₁ p → Put s₁ p (length b) b s₂ q
+    → Put s₂ q (length c) c s₃ r → Put s₃ r (length d) d s₄ z → Put s₀ at (fourLong a b c d) (four a b c d) s₄ z
+put-four {a = a} {b} {c} {d} w x y z =
+    put-then {m = length a + length b + length c} {k = length d}
+    (put-then {m = length a + length b} {k = length c} (put-then {m = length a} {k = length b} w x (omega arith)) y (omega arith)) z (omega arith)
+
+module _ (T : Tables) (v : Valid T) where
+  pub put-flat : {s₀ s₁ s₂ s₃ : List ℕ} {p q r : ℕ} → Put s₀ 0 18 (small T) s₁ p → Put s₁ p 5727 (large T) s₂ q
+      → Put s₂ q (length (T .bad .rows)) (T .bad .rows) s₃ r → Put s₀ 0 tablesLeast (flat T) s₃ r
+  put-flat a b c =
+      put-then {m = 5745} {k = length (T .bad .rows)} (put-then {m = 18} {k = 5727} a b (omega arith)) c (omega (arith, v .bad .long))
+
+  small-long : length (small T) ≡ 18
+  small-long =
+      omega (arith, length-append ((countsOf T ++ T .machines .states) ++ T .machines .starts) (T .queues .messages), length-append (countsOf T ++ T .machines .states) (T .machines .starts), length-append (countsOf T) (T .machines .states), v .machines .statesLong, v .machines .startsLong, v .queues .long)
+
+  large-long : length (large T) ≡ 5727
+  large-long =
+      omega (arith, length-append ((T .transitions .rows ++ T .pool .finals) ++ T .pool .arcs) (T .map .roots), length-append (T .transitions .rows ++ T .pool .finals) (T .pool .arcs), length-append (T .transitions .rows) (T .pool .finals), v .transitions .long, v .pool .finalsLong, v .pool .arcsLong, v .map .long)
+
+  flat-long : length (flat T) ≡ tablesLeast
+  flat-long =
+      omega (arith, length-append (small T ++ large T) (T .bad .rows), length-append (small T) (large T), small-long, large-long, v .bad .long)
+
+  flat-front : {space exit : List ℕ} {r : ℕ} → tablesLeast ≤ length space → Put space 0 tablesLeast (flat T) exit r
+      → exit ≡ flat T ++ drop tablesLeast space
+  flat-front {space} h w = put-front w (omega (arith, flat-long)) ∙ ap (λ (k : ℕ). flat T ++ drop k space) flat-long
+
+-- three numbers stored one by one
+pub told-stored : (reply : List ℕ) (x y z : ℕ) → 3 ≤ length reply → set (set (set reply 0 x) 1 y) 2 z ≡ x ∷ y ∷ z ∷ drop 3 reply
+told-stored [] x y z h = absurd (omega arith)
+told-stored (a ∷ []) x y z h = absurd (omega arith)
+told-stored (a ∷ b ∷ []) x y z h = absurd (omega arith)
+told-stored (a ∷ b ∷ c ∷ rest) x y z h = refl
+
+-- ROOM FOR THE OUTPUT, or none
+kind-none : (b : Bool) (t : Told) → b ≡ false → NO-ROOM ≡ kindIf b t
+kind-none b t e = sym (ap (λ x. kindIf x t) e)
+
+changed : (b : Bool) (before after : List ℕ) → b ≡ true → after ≡ keepUnless b after before
+changed b before after e = sym (ap (λ x. keepUnless x after before) e)
+
+kept : (b : Bool) (before after : List ℕ) → b ≡ false → before ≡ keepUnless b after before
+kept b before after e = sym (ap (λ x. keepUnless x after before) e)
+
+-- what is told where there is room
+module _ (b : Bool) (room : b ≡ true) {t u : Told} {reply reply₁ : List ℕ} {r : ℕ} (same : t ≡ u) (w : Tells t reply reply₁ r) where
+  tells-kind : r ≡ kindIf b u
+  tells-kind = w .kind ∙ ap (λ (x : Told). x .kind) same ∙ sym (ap (λ x. kindIf x u) room)
+
+  tells-reply : reply₁ ≡ keepUnless b (replyAfter u reply) reply
+  tells-reply = w .reply ∙ ap (λ (x : Told). replyAfter x reply) same ∙ changed b reply (replyAfter u reply) room
+
+both : (a b : Bool) → a ≡ true → b ≡ true → (a && b) ≡ true
+both a b e f = ap (λ x. x && b) e ∙ f
+
+first-none : (a b : Bool) → a ≡ false → (a && b) ≡ false
+first-none a b e = ap (λ x. x && b) e
+
+second-none : (a b : Bool) → b ≡ false → (a && b) ≡ false
+second-none true b e = e
+second-none false b e = refl
+
+-- READING
+-- after a refusal the space is as it was
+unread : (y : Part Tables) (space : List ℕ) {k p : ℕ} → refusal k p ≡ replyOf y → space ≡ spaceAfter y space
+unread (got T next) space e = absurd (let z : _≡_ {A = ℕ} 0 1 = cc in omega arith)
+unread (refused k p) space e = refl
+
+-- the tables of a file that is read
+filled : (y : Part Tables) {space space₁ : List ℕ} {z : ℕ} (T : Tables) → Valid T → T ≡ tablesOf y → read ≡ replyOf y
+    → tablesLeast ≤ length space → Put space 0 tablesLeast (flat T) space₁ z → space₁ ≡ spaceAfter y space
+filled (refused k p) T v same e h w = absurd (let z : _≡_ {A = ℕ} 0 1 = cc in omega arith)
+filled (got own next) {space} T v same e h w = flat-front T v h w ∙ ap (λ (x : Tables). flat x ++ drop tablesLeast space) same
+
+abbrev room : List ℕ → List ℕ → Bool
+room space reply = leb tablesLeast (length space) && replyFits reply
+
+module _ (file space reply : List ℕ) where
+  read-none : room space reply ≡ false → ReadCall file space reply NO-ROOM space reply
+  read-none e =
+      record {
+        kind = kind-none (room space reply) (toldAnswer (replyOf (readFile file))) e;
+        space = kept (room space reply) space (spaceAfter (readFile file) space) e;
+        reply = kept (room space reply) reply (replyAfter (toldAnswer (replyOf (readFile file))) reply) e;
+      }
+
+  pub read-short : length space < tablesLeast → ReadCall file space reply NO-ROOM space reply
+  read-short h = read-none (first-none (leb tablesLeast (length space)) (replyFits reply) (lt-leb tablesLeast (length space) h))
+
+  pub read-unheard : length reply < 3 → ReadCall file space reply NO-ROOM space reply
+  read-unheard h = read-none (second-none (leb tablesLeast (length space)) (replyFits reply) (lt-leb 3 (length reply) h))
+
+module _ {file space reply reply₁ : List ℕ} {t : Told} {r : ℕ} (h : tablesLeast ≤ length space) (l : 3 ≤ length reply) (x : Reading) (reads : Reads (readFile file) x) (told : t ≡ toldAnswer (saidAnswer (x .answer))) (tells : Tells t reply reply₁ r) where
+  called : {space₁ : List ℕ} → space₁ ≡ spaceAfter (readFile file) space → ReadCall file space reply r space₁ reply₁
+  called e =
+      let roomy = both (leb tablesLeast (length space)) (replyFits reply) (le-leb tablesLeast (length space) h) (le-leb 3 (length reply) l) in
+      let same = told ∙ ap toldAnswer (reads .reply) in
+      record {
+        kind = tells-kind (room space reply) roomy same tells;
+        space = e ∙ changed (room space reply) space (spaceAfter (readFile file) space) roomy;
+        reply = tells-reply (room space reply) roomy same tells;
+      }
+
+  pub read-refused : {k p : ℕ} → saidAnswer (x .answer) ≡ refusal k p → ReadCall file space reply r space reply₁
+  read-refused e = called (unread (readFile file) space (sym e ∙ reads .reply))
+
+  pub read-filled : {space₁ : List ℕ} {z : ℕ} → saidAnswer (x .answer) ≡ read → Put space 0 tablesLeast (flat (x .tables)) space₁ z
+      → ReadCall file space reply r space₁ reply₁
+  read-filled e w =
+      let answered = sym e ∙ reads .reply in
+      called (filled (readFile file) (x .tables) (read-valid file answered (reads .tables)) (reads .tables) answered h w)
+
+-- MEMBERSHIP
+module _ (file : List ℕ) (control : ℕ) (contents reply : List ℕ) where
+  pub member-unheard : length reply < 3 → MemberCall file control contents reply NO-ROOM reply
+  member-unheard h =
+      let e = lt-leb 3 (length reply) h in
+      record {
+        kind = kind-none (replyFits reply) (toldMember (memberOf file control contents)) e;
+        reply = kept (replyFits reply) reply (replyAfter (toldMember (memberOf file control contents)) reply) e;
+      }
+
+  pub member-told : {t : Told} {reply₁ : List ℕ} {r : ℕ} → 3 ≤ length reply → (m : Member) → saidMember m ≡ memberOf file control contents
+      → t ≡ toldMember (saidMember m) → Tells t reply reply₁ r → MemberCall file control contents reply r reply₁
+  member-told h m is told tells =
+      let e = le-leb 3 (length reply) h in
+      let same = told ∙ ap toldMember is in
+      record { kind = tells-kind (replyFits reply) e same tells; reply = tells-reply (replyFits reply) e same tells }
+
+-- CHECKING
+told-line : (p : Line) (contents : List ℕ) → shownBy p ≡ length (shownOf (said p contents)) → toldLine p ≡ toldReply (said p contents)
+told-line (Closed n) contents e = refl
+told-line Outside contents e = refl
+told-line (Leaves c t n) contents e = ap (λ (k : ℕ). toldOf 2 c t k) e
+told-line (Bad b n) contents e = ap (λ (k : ℕ). toldOf 3 b k 0) e
+told-line (Refused k p) contents e = refl
+
+module _ (file seen queue contents reply : List ℕ) where
+  abbrev whole : Checked
+  whole = checkOf file seen queue contents
+
+  pub check-unheard : length reply < 3 → CheckCall file seen queue contents reply NO-ROOM seen queue contents reply
+  check-unheard h =
+      let e = lt-leb 3 (length reply) h in
+      record {
+        kind = kind-none (replyFits reply) (toldReply (whole .reply)) e;
+        reply = kept (replyFits reply) reply (replyAfter (toldReply (whole .reply)) reply) e;
+        seen = kept (replyFits reply) seen (whole .seen) e;
+        queue = kept (replyFits reply) queue (whole .queue) e;
+        contents = kept (replyFits reply) contents (whole .contents) e;
+      }
+
+  pub check-told : {seen₁ queue₁ contents₁ reply₁ : List ℕ} {r : ℕ} {t : Told} → 3 ≤ length reply → (v : Verdict) (p : Line)
+      → Checks file seen queue contents (saidVerdict v contents₁) seen₁ queue₁ contents₁ → p ≡ printedOf v → t ≡ toldLine p
+      → Tells t reply reply₁ r → CheckCall file seen queue contents reply r seen₁ queue₁ contents₁ reply₁
+  check-told {contents₁ = contents₁} {t = t} h v p checks shows told tells =
+      let e = le-leb 3 (length reply) h in
+      let by = counted-by v p shows checks in
+      let same : t ≡ toldReply (whole .reply) = told ∙ told-line p contents₁ (by .1) ∙ ap toldReply (by .0) in
+      record {
+        kind = tells-kind (replyFits reply) e same tells;
+        reply = tells-reply (replyFits reply) e same tells;
+        seen = checks .seen ∙ changed (replyFits reply) seen (whole .seen) e;
+        queue = checks .queue ∙ changed (replyFits reply) queue (whole .queue) e;
+        contents = checks .contents ∙ changed (replyFits reply) contents (whole .contents) e;
+      }

@@ -1,0 +1,77 @@
+// The tables of a file that was read, one after the other in lent bytes.
+use line::put::put_word;
+use session::tables::Tables;
+ghost use Prim.Native.Nat.{_+_, _≤_};
+ghost use lib.ListN.{length};
+ghost use Rattle.session.specs.Laws.Valid.{Valid};
+ghost use Rattle.line.specs.Put.{Put};
+ghost use Rattle.capi.specs.Flat.{four, fourLong, small, large, flat};
+
+// Bytes that the tables need.
+pub const TABLES_LEAST: usize = 5873;
+
+// Four tables, from a place on.
+fn put_four(space: &mut [u8], at: usize, a: &[u8], b: &[u8], c: &[u8], d: &[u8]) -> usize
+    requires { ⌜ at + fourLong (now a) (now b) (now c) (now d) ≤ length (now space) ⌝ }
+    ensures { λ r. ⌜ Put (now (space .entry)) at (fourLong (now (a .entry)) (now (b .entry)) (now (c .entry)) (now (d .entry))) (four (now (a .entry)) (now (b .entry)) (now (c .entry)) (now (d .entry))) (now (space .exit)) r ⌝ }
+{
+    let second = put_word(space, at, a);
+    let third = put_word(space, second, b);
+    let fourth = put_word(space, third, c);
+    put_word(space, fourth, d)
+}
+
+// The counts, and the tables of four entries.
+fn put_small(space: &mut [u8], t: Tables) -> usize
+    requires { ⌜ Valid t ⌝ }
+    requires { ⌜ 5873 ≤ length (now space) ⌝ }
+    ensures { λ r. ⌜ Put (now (space .entry)) 0 18 (small t) (now (space .exit)) r ⌝ }
+{
+    let machines = t.machines;
+    let queues = t.queues;
+    let transitions = t.transitions;
+    let pool = t.pool;
+    let bad = t.bad;
+    let counts = [
+        machines.count,
+        queues.count,
+        queues.sum,
+        transitions.count,
+        pool.count,
+        bad.count,
+    ];
+    let states = machines.states;
+    let starts = machines.starts;
+    let messages = queues.messages;
+    put_four(space, 0, &counts, &states, &starts, &messages)
+}
+
+// Transitions, final marks, arcs and roots, from a place on.
+fn put_large(space: &mut [u8], at: usize, t: Tables) -> usize
+    requires { ⌜ Valid t ⌝ }
+    requires { ⌜ at ≤ 18 ⌝ }
+    requires { ⌜ 5873 ≤ length (now space) ⌝ }
+    ensures { λ r. ⌜ Put (now (space .entry)) at 5727 (large t) (now (space .exit)) r ⌝ }
+{
+    let transitions = t.transitions;
+    let rows = transitions.rows;
+    let pool = t.pool;
+    let finals = pool.finals;
+    let arcs = pool.arcs;
+    let map = t.map;
+    let roots = map.roots;
+    put_four(space, at, &rows, &finals, &arcs, &roots)
+}
+
+// All tables, at the front of the space. Returns how many bytes that is.
+pub fn put_tables(space: &mut [u8], t: Tables) -> usize
+    requires { ⌜ Valid t ⌝ }
+    requires { ⌜ 5873 ≤ length (now space) ⌝ }
+    ensures { λ r. ⌜ Put (now (space .entry)) 0 5873 (flat t) (now (space .exit)) r ⌝ }
+{
+    let bad = t.bad;
+    let entries = bad.rows;
+    let second = put_small(space, t);
+    let third = put_large(space, second, t);
+    put_word(space, third, &entries)
+}

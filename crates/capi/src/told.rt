@@ -1,0 +1,121 @@
+// What a call tells: the kind of its reply, and up to three numbers that go with it.
+use diagram::reply::Member;
+use line::verdict::Verdict;
+use session::refusal::Refusal;
+use session::refusal::number;
+use session::refusal::place;
+ghost use mathlib.Core.Path.{_≡_};
+ghost use Prim.Native.Nat.{_≤_};
+ghost use lib.ListN.{length};
+ghost use Rattle.session.specs.Said.{numberOf, placeOf};
+ghost use Rattle.diagram.specs.Said.{saidMember};
+ghost use Rattle.capi.specs.Told.{toldOf, toldLine, toldMember, toldRefusal, Tells};
+
+// The kinds, as the header names them.
+pub const CLOSED: usize = 0;
+
+pub const OUTSIDE: usize = 1;
+
+pub const LEAVES: usize = 2;
+
+pub const BAD: usize = 3;
+
+pub const REFUSED: usize = 4;
+
+pub const NO_ROOM: usize = 5;
+
+pub const READ: usize = 6;
+
+pub const YES: usize = 7;
+
+pub const NO: usize = 8;
+
+// Entries that the reply's space needs.
+pub const REPLY_LEAST: usize = 3;
+
+pub struct Told {
+    pub kind: usize,
+    pub first: usize,
+    pub second: usize,
+    pub third: usize,
+}
+
+// A kind that no numbers go with.
+pub fn bare(kind: usize) -> Told
+    ensures { λ r. ⌜ r ≡ toldOf kind 0 0 0 ⌝ }
+{
+    Told {
+        kind,
+        first: 0,
+        second: 0,
+        third: 0,
+    }
+}
+
+fn refused(number: usize, place: usize) -> Told
+    ensures { λ r. ⌜ r ≡ toldRefusal number place ⌝ }
+{
+    Told {
+        kind: REFUSED,
+        first: number,
+        second: place,
+        third: 0,
+    }
+}
+
+pub fn tell_refusal(why: Refusal) -> Told
+    ensures { λ r. ⌜ r ≡ toldRefusal (numberOf why) (placeOf why) ⌝ }
+{
+    refused(number(why), place(why))
+}
+
+pub fn tell_verdict(v: Verdict) -> Told
+    ensures { λ r. ⌜ r ≡ toldLine v ⌝ }
+{
+    match v {
+        Verdict::Closed(pairs) => Told {
+            kind: CLOSED,
+            first: pairs,
+            second: 0,
+            third: 0,
+        },
+        Verdict::Outside => bare(OUTSIDE),
+        Verdict::Leaves(control, transition, shown) => Told {
+            kind: LEAVES,
+            first: control,
+            second: transition,
+            third: shown,
+        },
+        Verdict::Bad(entry, shown) => Told {
+            kind: BAD,
+            first: entry,
+            second: shown,
+            third: 0,
+        },
+        Verdict::Refused(number, place) => refused(number, place),
+    }
+}
+
+pub fn tell_member(m: Member) -> Told
+    ensures { λ r. ⌜ r ≡ toldMember (saidMember m) ⌝ }
+{
+    match m {
+        Member::Yes => bare(YES),
+        Member::No => bare(NO),
+        Member::Unread(why) => tell_refusal(why),
+        Member::NoControl => refused(11, 0),
+        Member::NoMessage(at) => refused(12, at),
+        Member::EarlierQueue(at) => refused(13, at),
+    }
+}
+
+// The numbers fill the front of the reply's space. Returns the kind.
+pub fn put_told(reply: &mut [usize], t: Told) -> usize
+    requires { ⌜ 3 ≤ length (now reply) ⌝ }
+    ensures { λ r. ⌜ Tells t (now (reply .entry)) (now (reply .exit)) r ⌝ }
+{
+    reply[0] = t.first;
+    reply[1] = t.second;
+    reply[2] = t.third;
+    t.kind
+}
