@@ -1,9 +1,7 @@
 // Reads a session file from standard input and prints the line of its verdict.
-mod input;
-
 use answer::line_of;
-use input::Input;
-use input::read_input;
+use streams::input::Input;
+use streams::input::read_input;
 use streams::print_front;
 
 fn main() {
@@ -13,17 +11,15 @@ fn main() {
         Input::Failed => {
             io::write_all(2, b"swarmbanner: standard input cannot be read\n");
         }
-        Input::Bytes(length) => answer_front(&file, length),
+        Input::Bytes(length) => answer(&file[..length]),
     }
 }
 
-// Prints the line of the file at the front.
-fn answer_front(file: &[u8], length: usize) {
+// Prints the line of a file.
+fn answer(file: &[u8]) {
     let mut line = [0u8; 131113];
-    if length <= file.len() {
-        let end = line_of(&file[..length], &mut line);
-        if !print_front(&line, end) {
-            io::write_all(2, b"swarmbanner: the line cannot be written\n");
-        }
+    let end = line_of(file, &mut line);
+    if !print_front(&line, end) {
+        io::write_all(2, b"swarmbanner: the line cannot be written\n");
     }
 }

@@ -1,10 +1,12 @@
-// Reads a stream of questions and prints the reply to each. A question is a file, its length in three bytes before it; then the
-// control state in two bytes; then the contents, their length in two bytes before them. Low bytes come first.
+// Reads a stream of questions and prints the reply to each. A question is a file of a stream; then the control state in two bytes;
+// then the contents, their length in two bytes before them. Low bytes come first.
 mod report;
 
 use diagram::member::member;
 use report::report;
 use session::number::wide;
+use streams::files::Next;
+use streams::files::next_file;
 use streams::fill_front;
 
 // More questions than a stream has: every loop has an end.
@@ -28,19 +30,14 @@ fn answer_all(file: &mut [u8], contents: &mut [u8]) {
 
 // Answers the next question of the stream; false where there is none.
 fn answer_next(file: &mut [u8], contents: &mut [u8]) -> bool {
-    let mut head = [0u8; 3];
-    if io::read_full(0, &mut head) < 3 {
+    let Next::File(length) = next_file(file) else {
         return false;
-    }
-    let length = wide(head[0]) + 256 * wide(head[1]) + 65536 * wide(head[2]);
-    if !fill_front(file, length) {
-        return false;
-    }
-    answer_about(file, length, contents)
+    };
+    answer_about(&file[..length], contents)
 }
 
-// Answers the question about the file at the front.
-fn answer_about(file: &[u8], length: usize, contents: &mut [u8]) -> bool {
+// Answers the question about this file.
+fn answer_about(file: &[u8], contents: &mut [u8]) -> bool {
     let mut head = [0u8; 4];
     if io::read_full(0, &mut head) < 4 {
         return false;
@@ -50,14 +47,6 @@ fn answer_about(file: &[u8], length: usize, contents: &mut [u8]) -> bool {
     if !fill_front(contents, messages) {
         return false;
     }
-    ask_fronts(file, length, control, contents, messages);
+    report(member(file, control, &contents[..messages]));
     true
-}
-
-fn ask_fronts(file: &[u8], length: usize, control: usize, contents: &[u8], messages: usize) {
-    if length <= file.len() {
-        if messages <= contents.len() {
-            report(member(&file[..length], control, &contents[..messages]));
-        }
-    }
 }

@@ -1,11 +1,11 @@
-// Reads a stream of files, each its length in three bytes, low byte first, and then its bytes, and prints what reading found
-// of each: the refusal or the counts, and a digest of every entry of the tables, used or not.
+// Reads a stream of files and prints what reading found of each: the refusal or the counts, and a digest of every entry of the
+// tables, used or not.
 mod digest;
 mod report;
 
 use report::report;
-use session::number::wide;
-use streams::fill_front;
+use streams::files::Next;
+use streams::files::next_file;
 
 // More files than a stream has: every loop has an end.
 const MOST_FILES: usize = 100000;
@@ -27,20 +27,9 @@ fn answer_all(space: &mut [u8]) {
 
 // Answers the next file of the stream; false where there is none.
 fn answer_next(space: &mut [u8]) -> bool {
-    let mut head = [0u8; 3];
-    if io::read_full(0, &mut head) < 3 {
+    let Next::File(length) = next_file(space) else {
         return false;
-    }
-    let length = wide(head[0]) + 256 * wide(head[1]) + 65536 * wide(head[2]);
-    if !fill_front(space, length) {
-        return false;
-    }
-    report_front(space, length);
+    };
+    report(&space[..length]);
     true
-}
-
-fn report_front(space: &[u8], length: usize) {
-    if length <= space.len() {
-        report(&space[..length]);
-    }
 }

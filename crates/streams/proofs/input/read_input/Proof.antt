@@ -2,10 +2,10 @@ use borrow.Author.Needs.{needs}
 use Prim.Native.Nat.{_≤_, _-_}
 use mathlib.Core.Path.{_≡_}
 use lib.ListN.{length}
-use Rattle.swarmbanner.proofs.input.read_input.Statement.{statement}
-use Rattle.swarmbanner.proofs.input.read_input.Tie as tie
-use Rattle.swarmbanner.proofs.input.read_input.Reads as reads
-use Rattle.swarmbanner.proofs.input.read_input.Lts as lts
+use Rattle.streams.proofs.input.read_input.Statement.{statement}
+use Rattle.streams.proofs.input.read_input.Tie as tie
+use Rattle.streams.proofs.input.read_input.Reads as reads
+use Rattle.streams.proofs.input.read_input.Lts as lts
 use Rattle.io.proofs.count.Reads as count-reads
 use Rattle.libc.proofs.read.Reads as read-reads
 

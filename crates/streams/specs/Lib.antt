@@ -1,0 +1,2 @@
+-- What was read from standard input.
+pub mod Counts

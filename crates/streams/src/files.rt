@@ -1,0 +1,26 @@
+// A stream of files on standard input, each its length in three bytes, low byte first, and then its bytes.
+use crate::fill_front;
+use session::number::wide;
+ghost use Prim.Native.Nat.{_≤_};
+ghost use lib.ListN.{length};
+ghost use Rattle.streams.specs.Counts.{fileLong};
+
+// A file of so many bytes at the front of the space, or the end of the stream.
+pub enum Next {
+    File(usize),
+    Nothing,
+}
+
+pub fn next_file(space: &mut [u8]) -> Next
+    ensures { λ r. ⌜ fileLong r ≤ length (now (space .exit)) ⌝ }
+{
+    let mut head = [0u8; 3];
+    if io::read_full(0, &mut head) < 3 {
+        return Next::Nothing;
+    }
+    let length = wide(head[0]) + 256 * wide(head[1]) + 65536 * wide(head[2]);
+    if fill_front(space, length) {
+        return Next::File(length);
+    }
+    Next::Nothing
+}

@@ -1,0 +1,82 @@
+use mathlib.Core.Path.{ap, sym}
+use lib.Seq.{length-take-le}
+use native.Mathlib.Omega.{arith}
+use Rattle.streams.specs.Counts.{fileLong}
+use borrow.Author.Needs.{needs}
+use Rattle.vectors_verdicts.proofs.answer_next.Statement.{statement}
+use Rattle.vectors_verdicts.proofs.answer_next.Tie as tie
+use Rattle.vectors_verdicts.proofs.answer_next.Reads as reads
+use Rattle.vectors_verdicts.proofs.answer_next.Lts as lts
+use Rattle.answer.proofs.line_of.Reads as line-of-reads
+use Rattle.streams.proofs.files.next_file.Reads as next-file-reads
+use Rattle.streams.proofs.print_front.Reads as print-front-reads
+
+-- src/main.rt:28:30
+next-file-requires : tie.Need-next-file-requires
+next-file-requires c κs = search needs
+
+-- src/main.rt:28:20
+enum-known-length : tie.Need-enum-known-length
+enum-known-length c = search needs
+
+-- src/main.rt:29:9
+enum-told : tie.Need-enum-told
+enum-told c = search needs
+
+-- src/main.rt:29:9
+same-length : tie.Need-same-length
+same-length c = search needs
+
+-- src/main.rt:29:9
+returns : tie.Need-returns
+returns c = search needs
+
+-- src/main.rt:31:23
+slice-reshare-prefix-line-of : tie.Need-slice-reshare-prefix-line-of
+slice-reshare-prefix-line-of c = omega (arith, ap fileLong (c .before .length .given .1), c .before .before .before .before .before .next-file .ensures)
+
+-- src/main.rt:31:23
+slice-aggregate-line-of : tie.Need-slice-aggregate-line-of
+slice-aggregate-line-of c = sym (length-take-le (c .before .before .length .given .0 .0) _ (omega (arith, ap fileLong (c .before .before .length .given .1), c .before .before .before .before .before .before .next-file .ensures)))
+
+-- src/main.rt:31:41
+slice-aggregate-line-of-2 : tie.Need-slice-aggregate-line-of-2
+slice-aggregate-line-of-2 c = search needs
+
+-- src/main.rt:31:9
+line-of-requires : tie.Need-line-of-requires
+line-of-requires c κs = search needs
+
+-- src/main.rt:32:17
+slice-aggregate-print-front : tie.Need-slice-aggregate-print-front
+slice-aggregate-print-front c = search needs
+
+-- src/main.rt:32:5
+print-front-requires : tie.Need-print-front-requires
+print-front-requires c κs = search needs
+
+-- src/main.rt:26:1
+same-length-2 : tie.Need-same-length-2
+same-length-2 c = search needs
+
+-- src/main.rt:26:1
+returns-2 : tie.Need-returns-2
+returns-2 c = search needs
+
+pub answer-next-spec : {M : Type 1} → statement M
+answer-next-spec =
+    tie.close
+    (tie.spec
+    next-file-requires
+    enum-known-length
+    enum-told
+    same-length
+    returns
+    slice-reshare-prefix-line-of
+    slice-aggregate-line-of
+    slice-aggregate-line-of-2
+    line-of-requires
+    slice-aggregate-print-front
+    print-front-requires
+    same-length-2
+    returns-2)
