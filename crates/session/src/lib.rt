@@ -7,6 +7,7 @@ pub mod number;
 pub mod order;
 pub mod pool;
 pub mod queues;
+pub mod reader;
 pub mod reading;
 pub mod refusal;
 pub mod tables;

@@ -1,4 +1,5 @@
 // The numbers of a session file, and what reading them answers.
+use crate::reader::number_at;
 use crate::refusal::Refusal;
 ghost use mathlib.Core.Path.{_≡_};
 ghost use Prim.Native.Nat.{_≤_};
@@ -71,7 +72,7 @@ pub fn read_number(s: &[u8], at: usize) -> Number
 pub fn read_within(s: &[u8], at: usize, least: u8, most: u8) -> Field
     ensures { λ r. ⌜ saidField r ≡ readWithin (now (s .entry)) at least most ⌝ }
 {
-    match read_number(s, at) {
+    match number_at(s, at) {
         Number::Refused(why) => Field::Refused(why),
         Number::Value(v, next) => {
             if v < (least as usize) {
@@ -90,7 +91,7 @@ pub fn read_below(s: &[u8], at: usize, limit: usize) -> Field
     requires { ⌜ limit ≤ 256 ⌝ }
     ensures { λ r. ⌜ saidField r ≡ readBelow (now (s .entry)) at limit ⌝ }
 {
-    match read_number(s, at) {
+    match number_at(s, at) {
         Number::Refused(why) => Field::Refused(why),
         Number::Value(v, next) => {
             if limit <= v {

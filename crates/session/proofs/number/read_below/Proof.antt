@@ -7,44 +7,44 @@ use Rattle.session.proofs.number.read_below.Statement.{statement}
 use Rattle.session.proofs.number.read_below.Tie as tie
 use Rattle.session.proofs.number.read_below.Reads as reads
 use Rattle.session.proofs.number.read_below.Lts as lts
-use Rattle.session.proofs.number.read_number.Reads as read-number-reads
+use Rattle.session.proofs.reader.number_at.Reads as number-at-reads
 
--- src/number.rt:88:11
-read-number-requires : tie.Need-read-number-requires
-read-number-requires c κs = search needs
+-- src/number.rt:94:11
+number-at-requires : tie.Need-number-at-requires
+number-at-requires c κs = search needs
 
--- src/number.rt:89:25
+-- src/number.rt:95:25
 enum-known-why : tie.Need-enum-known-why
 enum-known-why c = search needs
 
--- src/number.rt:90:23
+-- src/number.rt:96:23
 enum-known-v : tie.Need-enum-known-v
 enum-known-v c = search needs
 
--- src/number.rt:92:17
+-- src/number.rt:98:17
 returns : tie.Need-returns
 unfolding readBelow
-returns c = rw (sym (c .before .before .before .before .read-number .ensures) ∙ ap saidNumber (c .before .before .v .given .1), le-ltb _ _ (c .if1 .taken))
+returns c = rw (sym (c .before .before .before .before .number-at .ensures) ∙ ap saidNumber (c .before .before .v .given .1), le-ltb _ _ (c .if1 .taken))
 
--- src/number.rt:94:26
+-- src/number.rt:100:26
 cast-t11 : tie.Need-cast-t11
 cast-t11 c = search needs
 
--- src/number.rt:84:1
+-- src/number.rt:90:1
 returns-2 : tie.Need-returns-2
 unfolding readBelow
-returns-2 c = rw (sym (c .before .before .before .read-number .ensures) ∙ ap saidNumber (c .before .why .given .1))
+returns-2 c = rw (sym (c .before .before .before .number-at .ensures) ∙ ap saidNumber (c .before .why .given .1))
 
--- src/number.rt:84:1
+-- src/number.rt:90:1
 returns-3 : tie.Need-returns-3
 unfolding readBelow
-returns-3 c = rw (sym (c .before .before .before .before .read-number .ensures) ∙ ap saidNumber (c .before .before .v .given .1), lt-ltb _ _ (c .if1 .left))
+returns-3 c = rw (sym (c .before .before .before .before .number-at .ensures) ∙ ap saidNumber (c .before .before .v .given .1), lt-ltb _ _ (c .if1 .left))
 
 pub read-below-spec : {M : Type 1} → statement M
 read-below-spec =
     tie.close
     (tie.spec
-    read-number-requires
+    number-at-requires
     enum-known-why
     enum-known-v
     returns

@@ -7,49 +7,49 @@ use Rattle.session.proofs.number.read_within.Statement.{statement}
 use Rattle.session.proofs.number.read_within.Tie as tie
 use Rattle.session.proofs.number.read_within.Reads as reads
 use Rattle.session.proofs.number.read_within.Lts as lts
-use Rattle.session.proofs.number.read_number.Reads as read-number-reads
+use Rattle.session.proofs.reader.number_at.Reads as number-at-reads
 
--- src/number.rt:69:11
-read-number-requires : tie.Need-read-number-requires
-read-number-requires c κs = search needs
+-- src/number.rt:75:11
+number-at-requires : tie.Need-number-at-requires
+number-at-requires c κs = search needs
 
--- src/number.rt:70:25
+-- src/number.rt:76:25
 enum-known-why : tie.Need-enum-known-why
 enum-known-why c = search needs
 
--- src/number.rt:71:23
+-- src/number.rt:77:23
 enum-known-v : tie.Need-enum-known-v
 enum-known-v c = search needs
 
--- src/number.rt:73:17
+-- src/number.rt:79:17
 returns : tie.Need-returns
 unfolding readWithin
-returns c = rw (sym (c .before .before .before .before .read-number .ensures) ∙ ap saidNumber (c .before .before .v .given .1), lt-leb _ _ (c .if1 .taken))
+returns c = rw (sym (c .before .before .before .before .number-at .ensures) ∙ ap saidNumber (c .before .before .v .given .1), lt-leb _ _ (c .if1 .taken))
 
--- src/number.rt:76:17
+-- src/number.rt:82:17
 returns-2 : tie.Need-returns-2
 unfolding readWithin
-returns-2 c = rw (sym (c .before .before .before .before .before .read-number .ensures) ∙ ap saidNumber (c .before .before .before .v .given .1), le-leb _ _ (c .before .if1 .left), lt-leb _ _ (c .if2 .taken))
+returns-2 c = rw (sym (c .before .before .before .before .before .number-at .ensures) ∙ ap saidNumber (c .before .before .before .v .given .1), le-leb _ _ (c .before .if1 .left), lt-leb _ _ (c .if2 .taken))
 
--- src/number.rt:78:26
+-- src/number.rt:84:26
 cast-t14 : tie.Need-cast-t14
 cast-t14 c = search needs
 
--- src/number.rt:66:1
+-- src/number.rt:72:1
 returns-3 : tie.Need-returns-3
 unfolding readWithin
-returns-3 c = rw (sym (c .before .before .before .read-number .ensures) ∙ ap saidNumber (c .before .why .given .1))
+returns-3 c = rw (sym (c .before .before .before .number-at .ensures) ∙ ap saidNumber (c .before .why .given .1))
 
--- src/number.rt:66:1
+-- src/number.rt:72:1
 returns-4 : tie.Need-returns-4
 unfolding readWithin
-returns-4 c = rw (sym (c .before .before .before .before .before .read-number .ensures) ∙ ap saidNumber (c .before .before .before .v .given .1), le-leb _ _ (c .before .if1 .left), le-leb _ _ (c .if2 .left))
+returns-4 c = rw (sym (c .before .before .before .before .before .number-at .ensures) ∙ ap saidNumber (c .before .before .before .v .given .1), le-leb _ _ (c .before .if1 .left), le-leb _ _ (c .if2 .left))
 
 pub read-within-spec : {M : Type 1} → statement M
 read-within-spec =
     tie.close
     (tie.spec
-    read-number-requires
+    number-at-requires
     enum-known-why
     enum-known-v
     returns
