@@ -4,6 +4,7 @@ pub mod PartLaws
 pub mod Said
 pub mod Kinds
 pub mod Number
+pub mod Reader
 pub mod Machines
 pub mod Queues
 pub mod Transitions
