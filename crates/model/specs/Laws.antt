@@ -2,6 +2,7 @@
 -- `file-bound` (Bounds), `search-is` (Searches), `shown-bound` (Lengths), `decide-append` (Deciding).
 pub mod Basics
 pub mod Controls
+pub mod Decimals
 pub mod Queues
 pub mod Items
 pub mod Steps
