@@ -10,7 +10,7 @@ use Rattle.line.proofs.put.put_messages.Tie as tie
 use Rattle.line.proofs.put.put_messages.Reads as reads
 use Rattle.line.proofs.put.put_messages.Lts as lts
 use Rattle.line.proofs.put.put_spaced.Reads as put-spaced-reads
-use Rattle.line.proofs.put.wide.Reads as wide-reads
+use Rattle.session.proofs.number.wide.Reads as wide-reads
 
 abbrev Inv-loop : tie.InvT-loop
 Inv-loop s₀ at contents count next₀ i₀ s next i = Left s₀ at (spacedAll (take count contents)) s next (spacedAll (take (count - i) (drop i contents))) × (i ≤ count) × (next + 4 * (count - i) ≤ at + 4 * count)
@@ -44,7 +44,7 @@ loop-less c = search needs
 
 -- src/put.rt:74:5
 loop-again : tie.Need-loop-again Inv-loop μ-loop
-loop-again c = (left-message _ (c .before .before .before .before .before .before .loop-test .taken) (c .before .before .before .before .before .before .before .before .before .before .pre .1) (c .before .before .before .before .before .before .before .loop .inv .0) (c .before .before .before .wide .ensures .0) (c .before .before .before .wide .ensures .1) (c .before .before .put-spaced .ensures), omega arith, omega (arith, c .before .before .put-spaced .ensures .within, c .before .before .before .before .before .before .before .loop .inv .2))
+loop-again c = (left-message _ (c .before .before .before .before .before .before .loop-test .taken) (c .before .before .before .before .before .before .before .before .before .before .pre .1) (c .before .before .before .before .before .before .before .loop .inv .0) (c .before .before .before .wide .ensures .same) (c .before .before .before .wide .ensures .small) (c .before .before .put-spaced .ensures), omega arith, omega (arith, c .before .before .put-spaced .ensures .within, c .before .before .before .before .before .before .before .loop .inv .2))
 
 -- src/put.rt:68:1
 same-length : tie.Need-same-length Inv-loop μ-loop
