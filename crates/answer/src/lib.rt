@@ -1,6 +1,7 @@
 // The answer to a file: the verdict on it, as the line that the program prints.
 use line::verdict::Verdict as Printed;
 use line::verdict::write_line;
+use session::number::wide;
 use session::refusal::number;
 use session::refusal::place;
 use verdict::check::Verdict;
@@ -18,7 +19,7 @@ pub fn printed(v: Verdict) -> Printed
     match v {
         Verdict::Closed(pairs) => Printed::Closed(pairs),
         Verdict::Outside => Printed::Outside,
-        Verdict::Leaves(control, transition, shown) => Printed::Leaves(control, transition, shown),
+        Verdict::Leaves(c, transition, shown) => Printed::Leaves(wide(c.0), transition, shown),
         Verdict::Bad(entry, shown) => Printed::Bad(entry, shown),
         Verdict::Refused(why) => Printed::Refused(number(why), place(why)),
         Verdict::ShortMemory => Printed::Refused(2, 0),

@@ -19,7 +19,7 @@ use Rattle.verdict.specs.declared.check.Verdict.the-variants.{Closed, Ou
 abbrev pub saidVerdict : Verdict → List ℕ → FileReply
 saidVerdict (Closed pairs) contents = verdict (closed pairs)
 saidVerdict Outside contents = verdict outside
-saidVerdict (Leaves control transition shown) contents = verdict (leaves control transition (take shown contents))
+saidVerdict (Leaves control transition shown) contents = verdict (leaves (control .0) transition (take shown contents))
 saidVerdict (Bad number shown) contents = verdict (bad number (take shown contents))
 saidVerdict (Refused why) contents = refused (numberOf why) (placeOf why)
 saidVerdict ShortMemory contents = refused 2 0

@@ -54,7 +54,7 @@ pub record Judging (P : Tables → Type 0) (o : Tables → Model.Judged) (conten
 -- SEVERAL ITEMS: all passed, with so many pairs till now; or the first that failed
 abbrev pub saidSoFar : Progress → List ℕ → Reply
 saidSoFar (Passed pairs) contents = closed pairs
-saidSoFar (Leaves control transition shown) contents = leaves control transition (take shown contents)
+saidSoFar (Leaves control transition shown) contents = leaves (control .0) transition (take shown contents)
 saidSoFar (Meets number shown) contents = bad number (take shown contents)
 
 abbrev pub shownSoFar : Progress → ℕ

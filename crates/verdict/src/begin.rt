@@ -1,6 +1,7 @@
 // The start: the control state that a run begins in, and whether empty queues are in its set.
 use crate::controls::product_from;
 use crate::start::place_of;
+use session::kinds::ControlState;
 use session::number::wide;
 use session::tables::Machines;
 ghost use mathlib.Core.Path.{_≡_};
@@ -27,13 +28,13 @@ fn number_of(states: [u8; 4], starts: [u8; 4], count: usize) -> usize
 }
 
 // The control state of the starting states.
-fn first_control(m: Machines) -> usize
+fn first_control(m: Machines) -> ControlState
     requires { ⌜ MachinesValid m ⌝ }
-    ensures { λ r. ⌜ r ≡ number (sizesOf m) (startsOf m) ⌝ }
+    ensures { λ r. ⌜ r .0 ≡ number (sizesOf m) (startsOf m) ⌝ }
 {
     let states = m.states;
     let starts = m.starts;
-    number_of(states, starts, wide(m.count))
+    ControlState::new(number_of(states, starts, wide(m.count)))
 }
 
 // Whether empty queues are in the set of the control state that the machines start in.

@@ -2,6 +2,7 @@
 use crate::begin::begins_inside;
 use crate::items::judge_items;
 use crate::judged::Progress;
+use session::kinds::ControlState;
 use session::number::wide;
 use session::reading::Answer;
 use session::reading::read;
@@ -30,7 +31,7 @@ pub enum Verdict {
     // empty queues are not in the set of the starting control state
     Outside,
     // a step leads out: control state, transition, messages shown
-    Leaves(usize, usize, usize),
+    Leaves(ControlState, usize, usize),
     // a bad entry's contents are inside: the entry, messages shown
     Bad(usize, usize),
     // the file is not read

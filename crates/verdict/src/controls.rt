@@ -1,4 +1,5 @@
 // Control states: the state of one machine, and the control state after that machine has moved.
+use session::kinds::ControlState;
 use session::number::wide;
 use session::tables::Machines;
 ghost use mathlib.Core.Path.{_≡_};
@@ -51,12 +52,12 @@ fn part(states: [u8; 4], count: usize, c: usize, machine: usize) -> Parted
 }
 
 // The control state of machines that were read, parted at one of them.
-pub fn part_at(m: Machines, c: usize, machine: u8) -> Parted
+pub fn part_at(m: Machines, c: ControlState, machine: u8) -> Parted
     requires { ⌜ MachinesValid m ⌝ }
-    requires { ⌜ c < m .product ⌝ }
+    requires { ⌜ c .0 < m .product ⌝ }
     requires { ⌜ machine < m .count ⌝ }
-    ensures { λ r. ⌜ Located (sizesOf m) c machine r ⌝ }
+    ensures { λ r. ⌜ Located (sizesOf m) (c .0) machine r ⌝ }
 {
     let states = m.states;
-    part(states, wide(m.count), c, wide(machine))
+    part(states, wide(m.count), wide(c.0), wide(machine))
 }

@@ -1,7 +1,8 @@
 // The bad entries, in their order.
 use crate::item::judge_entry;
 use crate::judged::Progress;
-use session::number::wide;
+use session::kinds::ControlState;
+use session::kinds::DiagramState;
 use session::tables::Queues;
 use walk::judge::Judged;
 ghost use Prim.Native.Nat.{_+_, _*_, _<_, _≤_};
@@ -35,8 +36,8 @@ fn judge_one(
     requires { ⌜ 32768 ≤ length (now contents) ⌝ }
     ensures { λ r. ⌜ Judges (λ T. EntryParts T q (now (rows .entry)) (now (arcs .entry)) (now (finals .entry)) (now (roots .entry)) × AllBad (now (entries .entry)) count T) (pairs + mostPairs) (λ T. decide (sessionOf T) (entry b (entryAt (now (entries .entry)) b) ∷ []) pairs) (now (contents .entry)) r (now (contents .exit)) (now (seen .exit)) (now (queue .exit)) ⌝ }
 {
-    let control = wide(entries[b * 2]);
-    let root = entries[b * 2 + 1];
+    let control = ControlState(entries[b * 2]);
+    let root = DiagramState(entries[b * 2 + 1]);
     match judge_entry(
         q,
         rows,

@@ -2,6 +2,8 @@
 use crate::start::cut_of;
 use crate::start::moved;
 use crate::start::place_of;
+use session::kinds::ControlState;
+use session::kinds::DiagramState;
 use session::tables::Machines;
 use session::tables::Queues;
 use walk::judge::Judged;
@@ -26,16 +28,16 @@ pub fn judge_step(
     arcs: &[u8],
     finals: &[u8],
     roots: &[u8],
-    c: usize,
+    c: ControlState,
     row: usize,
     seen: &mut [u16],
     queue: &mut [u16],
     contents: &mut [u8],
 ) -> Judged
-    requires { ⌜ StepAsked m q (now rows) (now arcs) (now finals) (now roots) c row ⌝ }
+    requires { ⌜ StepAsked m q (now rows) (now arcs) (now finals) (now roots) (c .0) row ⌝ }
     requires { ⌜ Scratch (now seen) (now queue) ⌝ }
     requires { ⌜ 32768 ≤ length (now contents) ⌝ }
-    ensures { λ r. ⌜ Judging (λ T. Parts T m q (now (rows .entry)) (now (arcs .entry)) (now (finals .entry)) (now (roots .entry)) 0) (λ T. judgeBySearch (sessionOf T) mostPairs (step c 0 (transitionAt (now (rows .entry)) row))) (now (contents .entry)) r (now (contents .exit)) (now (seen .exit)) (now (queue .exit)) ⌝ }
+    ensures { λ r. ⌜ Judging (λ T. Parts T m q (now (rows .entry)) (now (arcs .entry)) (now (finals .entry)) (now (roots .entry)) 0) (λ T. judgeBySearch (sessionOf T) mostPairs (step (c .0) 0 (transitionAt (now (rows .entry)) row))) (now (contents .entry)) r (now (contents .exit)) (now (seen .exit)) (now (queue .exit)) ⌝ }
 {
     let source = place_of(roots, c);
     if source == NOWHERE {
@@ -67,16 +69,16 @@ pub fn judge_entry(
     arcs: &[u8],
     finals: &[u8],
     roots: &[u8],
-    control: usize,
-    root: u8,
+    control: ControlState,
+    root: DiagramState,
     seen: &mut [u16],
     queue: &mut [u16],
     contents: &mut [u8],
 ) -> Judged
-    requires { ⌜ EntryAsked q (now rows) (now arcs) (now finals) (now roots) control root ⌝ }
+    requires { ⌜ EntryAsked q (now rows) (now arcs) (now finals) (now roots) (control .0) (root .0) ⌝ }
     requires { ⌜ Scratch (now seen) (now queue) ⌝ }
     requires { ⌜ 32768 ≤ length (now contents) ⌝ }
-    ensures { λ r. ⌜ Judging (λ T. EntryParts T q (now (rows .entry)) (now (arcs .entry)) (now (finals .entry)) (now (roots .entry))) (λ T. judgeBySearch (sessionOf T) mostPairs (entry 0 (control, root))) (now (contents .entry)) r (now (contents .exit)) (now (seen .exit)) (now (queue .exit)) ⌝ }
+    ensures { λ r. ⌜ Judging (λ T. EntryParts T q (now (rows .entry)) (now (arcs .entry)) (now (finals .entry)) (now (roots .entry))) (λ T. judgeBySearch (sessionOf T) mostPairs (entry 0 (control .0, root .0))) (now (contents .entry)) r (now (contents .exit)) (now (seen .exit)) (now (queue .exit)) ⌝ }
 {
     let source = place_of(roots, control);
     if source == NOWHERE {
@@ -93,7 +95,7 @@ pub fn judge_entry(
     let pair = Node {
         side: AFTER,
         source,
-        target: root,
+        target: root.0,
     };
     judge(arcs, finals, rows, w, pair, seen, queue, contents)
 }

@@ -1,10 +1,11 @@
 // How judging goes on: the items up to the first that fails.
+use session::kinds::ControlState;
 
 pub enum Progress {
     // the pairs of all items till now
     Passed(usize),
     // control state, transition, messages shown
-    Leaves(usize, usize, usize),
+    Leaves(ControlState, usize, usize),
     // bad entry, messages shown
     Meets(usize, usize),
 }

@@ -1,5 +1,6 @@
 // Where the walk of an item starts: how its action parts the contents, and where source and target stand.
 use crate::controls::part_at;
+use session::kinds::ControlState;
 use session::number::entry;
 use session::number::wide;
 use session::queues::messages_of;
@@ -62,11 +63,11 @@ pub fn cut_of(q: Queues, rows: &[u8], row: usize) -> Cut
 }
 
 // The root of a control state as a place: 127, which is no state, where it has none.
-pub fn place_of(roots: &[u8], c: usize) -> u8
-    requires { ⌜ getD (now roots) c 0 ≤ 127 ⌝ }
-    ensures { λ r. ⌜ PlaceAt (now (roots .entry)) c r ⌝ }
+pub fn place_of(roots: &[u8], c: ControlState) -> u8
+    requires { ⌜ getD (now roots) (c .0) 0 ≤ 127 ⌝ }
+    ensures { λ r. ⌜ PlaceAt (now (roots .entry)) (c .0) r ⌝ }
 {
-    let root = entry(roots, c);
+    let root = entry(roots, wide(c.0));
     if root == 0 {
         return 127;
     }
@@ -74,25 +75,26 @@ pub fn place_of(roots: &[u8], c: usize) -> u8
 }
 
 // Whether the machine of the transition is in its from-state.
-pub fn is_at(m: Machines, rows: &[u8], row: usize, c: usize) -> bool
+pub fn is_at(m: Machines, rows: &[u8], row: usize, c: ControlState) -> bool
     requires { ⌜ MachinesValid m ⌝ }
     requires { ⌜ row + 10 ≤ length (now rows) ⌝ }
     requires { ⌜ getD (now rows) row 0 < m .count ⌝ }
-    requires { ⌜ c < m .product ⌝ }
-    ensures { λ r. ⌜ IsAt m (now (rows .entry)) row c r ⌝ }
+    requires { ⌜ c .0 < m .product ⌝ }
+    ensures { λ r. ⌜ IsAt m (now (rows .entry)) row (c .0) r ⌝ }
 {
     let p = part_at(m, c, rows[row]);
     p.rest / p.stride == wide(rows[row + 1])
 }
 
 // The control state that the transition leads to.
-pub fn moved(m: Machines, rows: &[u8], row: usize, c: usize) -> usize
+pub fn moved(m: Machines, rows: &[u8], row: usize, c: ControlState) -> ControlState
     requires { ⌜ MachinesValid m ⌝ }
     requires { ⌜ row + 10 ≤ length (now rows) ⌝ }
     requires { ⌜ getD (now rows) row 0 < m .count ⌝ }
-    requires { ⌜ c < m .product ⌝ }
-    ensures { λ r. ⌜ Moved m (now (rows .entry)) row c r ⌝ }
+    requires { ⌜ getD (now rows) (row + 2) 0 < getD (m .states) (getD (now rows) row 0) 0 ⌝ }
+    requires { ⌜ c .0 < m .product ⌝ }
+    ensures { λ r. ⌜ Moved m (now (rows .entry)) row (c .0) (r .0) ⌝ }
 {
     let p = part_at(m, c, rows[row]);
-    p.base + (wide(rows[row + 2]) * p.stride + p.rest % p.stride)
+    ControlState::new(p.base + (wide(rows[row + 2]) * p.stride + p.rest % p.stride))
 }

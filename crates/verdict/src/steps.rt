@@ -2,6 +2,7 @@
 use crate::item::judge_step;
 use crate::judged::Progress;
 use crate::start::is_at;
+use session::kinds::ControlState;
 use session::tables::Machines;
 use session::tables::Queues;
 use session::tables::ROW;
@@ -25,18 +26,18 @@ fn judge_turn(
     arcs: &[u8],
     finals: &[u8],
     roots: &[u8],
-    c: usize,
+    c: ControlState,
     i: usize,
     pairs: usize,
     seen: &mut [u16],
     queue: &mut [u16],
     contents: &mut [u8],
 ) -> Progress
-    requires { ⌜ StepsAsked m q (now rows) (now arcs) (now finals) (now roots) c (i + 1) ⌝ }
+    requires { ⌜ StepsAsked m q (now rows) (now arcs) (now finals) (now roots) (c .0) (i + 1) ⌝ }
     requires { ⌜ pairs ≤ 1100000000 ⌝ }
     requires { ⌜ Scratch (now seen) (now queue) ⌝ }
     requires { ⌜ 32768 ≤ length (now contents) ⌝ }
-    ensures { λ r. ⌜ Judges (λ T. Parts T m q (now (rows .entry)) (now (arcs .entry)) (now (finals .entry)) (now (roots .entry)) (i + 1)) (pairs + mostPairs) (λ T. decide (sessionOf T) (stepsAt (sessionOf T .model) c i (transitionAt (now (rows .entry)) (i * rowLength) ∷ [])) pairs) (now (contents .entry)) r (now (contents .exit)) (now (seen .exit)) (now (queue .exit)) ⌝ }
+    ensures { λ r. ⌜ Judges (λ T. Parts T m q (now (rows .entry)) (now (arcs .entry)) (now (finals .entry)) (now (roots .entry)) (i + 1)) (pairs + mostPairs) (λ T. decide (sessionOf T) (stepsAt (sessionOf T .model) (c .0) i (transitionAt (now (rows .entry)) (i * rowLength) ∷ [])) pairs) (now (contents .entry)) r (now (contents .exit)) (now (seen .exit)) (now (queue .exit)) ⌝ }
 {
     let row = i * ROW;
     if !is_at(m, rows, row, c) {
@@ -68,18 +69,18 @@ fn judge_control(
     arcs: &[u8],
     finals: &[u8],
     roots: &[u8],
-    c: usize,
+    c: ControlState,
     count: usize,
     pairs: usize,
     seen: &mut [u16],
     queue: &mut [u16],
     contents: &mut [u8],
 ) -> Progress
-    requires { ⌜ StepsAsked m q (now rows) (now arcs) (now finals) (now roots) c count ⌝ }
-    requires { ⌜ pairs ≤ 4161536 * c ⌝ }
+    requires { ⌜ StepsAsked m q (now rows) (now arcs) (now finals) (now roots) (c .0) count ⌝ }
+    requires { ⌜ pairs ≤ 4161536 * c .0 ⌝ }
     requires { ⌜ Scratch (now seen) (now queue) ⌝ }
     requires { ⌜ 32768 ≤ length (now contents) ⌝ }
-    ensures { λ r. ⌜ Judges (λ T. Parts T m q (now (rows .entry)) (now (arcs .entry)) (now (finals .entry)) (now (roots .entry)) count) (4161536 * (c + 1)) (λ T. decide (sessionOf T) (stepsAt (sessionOf T .model) c 0 (transitionsFrom (now (rows .entry)) count 0)) pairs) (now (contents .entry)) r (now (contents .exit)) (now (seen .exit)) (now (queue .exit)) ⌝ }
+    ensures { λ r. ⌜ Judges (λ T. Parts T m q (now (rows .entry)) (now (arcs .entry)) (now (finals .entry)) (now (roots .entry)) count) (4161536 * (c .0 + 1)) (λ T. decide (sessionOf T) (stepsAt (sessionOf T .model) (c .0) 0 (transitionsFrom (now (rows .entry)) count 0)) pairs) (now (contents .entry)) r (now (contents .exit)) (now (seen .exit)) (now (queue .exit)) ⌝ }
 {
     let mut sum = pairs;
     let mut i: usize = 0;
@@ -136,7 +137,7 @@ pub fn judge_steps(
             arcs,
             finals,
             roots,
-            c,
+            ControlState::new(c),
             count,
             sum,
             seen,

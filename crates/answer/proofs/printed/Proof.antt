@@ -5,6 +5,7 @@ use Rattle.answer.proofs.printed.Statement.{statement}
 use Rattle.answer.proofs.printed.Tie as tie
 use Rattle.answer.proofs.printed.Reads as reads
 use Rattle.answer.proofs.printed.Lts as lts
+use Rattle.session.proofs.number.wide.Reads as wide-reads
 use Rattle.session.proofs.refusal.number.Reads as number-reads
 use Rattle.session.proofs.refusal.place.Reads as place-reads
 
@@ -19,6 +20,10 @@ enum-told c = search needs
 -- src/lib.rt:18:25
 enum-known-v-2 : tie.Need-enum-known-v-2
 enum-known-v-2 c = search needs
+
+-- src/lib.rt:22:66
+wide-requires : tie.Need-wide-requires
+wide-requires c κs = search needs
 
 -- src/lib.rt:19:22
 enum-known-v-3 : tie.Need-enum-known-v-3
@@ -50,7 +55,7 @@ returns-2 c = search needs
 
 -- src/lib.rt:12:1
 returns-3 : tie.Need-returns-3
-returns-3 c = sym (ap printedOf (c .before .v2 .given .1))
+returns-3 c = rw (c .wide .ensures .same) (sym (ap printedOf (c .before .before .v2 .given .1)))
 
 -- src/lib.rt:12:1
 returns-4 : tie.Need-returns-4
@@ -71,6 +76,7 @@ printed-spec =
     enum-known-v
     enum-told
     enum-known-v-2
+    wide-requires
     enum-known-v-3
     enum-known-v-4
     number-requires

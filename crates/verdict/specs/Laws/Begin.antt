@@ -61,14 +61,18 @@ pub number-end : (states starts : List ℕ) (count i : ℕ) → Numberable state
 number-end states starts count i a h =
     ap (λ ks. number ks (drop i (take count starts))) (drop-of-length-le (take count states) {i = i} (omega (arith, length-take count states, a .statesLong)))
 
--- machines that were read can be numbered
+-- machines that were read can be numbered, and start in one of their control states
+pub start-below : (m : Machines) → MachinesValid m → number (sizesOf m) (startsOf m) < m .product
+start-below m v =
+    omega (arith, number-below (sizesOf m) (startsOf m) (states-are (m .count) (m .states) (m .starts) (omega (arith, v .statesLong, v .most)) (omega (arith, v .startsLong, v .most)) (v .starts)), sizes-product m v)
+
 pub read-numberable : (m : Machines) → MachinesValid m → Numberable (m .states) (m .starts) (m .count)
 read-numberable m v =
     record {
       stepped = sizes-stepped m v;
       statesLong = omega (arith, v .statesLong, v .most);
       startsLong = omega (arith, v .startsLong, v .most);
-      small = omega (arith, number-below (sizesOf m) (startsOf m) (states-are (m .count) (m .states) (m .starts) (omega (arith, v .statesLong, v .most)) (omega (arith, v .startsLong, v .most)) (v .starts)), sizes-product m v, v .productMost);
+      small = omega (arith, start-below m v, v .productMost);
     }
 
 -- empty queues have no messages

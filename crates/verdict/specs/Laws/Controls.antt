@@ -7,11 +7,14 @@ use native.Mathlib.Numerals.{add-one}
 use native.Mathlib.Nat.{mod-lt, div-add-mod', mul-le-mul, one-mul, zero-add, add-assoc, le-refl}
 use lib.ListN.{length, getD, set, take, drop, length-take, drop-of-length-le}
 use lib.Seq.{drop-cons, getD-take}
+use Rattle.session.specs.Limits.{mostControls}
+use Rattle.session.specs.Kinds.{limited}
 use Rattle.session.specs.Laws.Machines.{MachinesValid}
 use Rattle.session.specs.declared.tables.Machines.{Machines}
 use Rattle.model.specs.Model.{product, number, places}
-use Rattle.model.specs.Laws.Controls.{number-places}
+use Rattle.model.specs.Laws.Controls.{number-places, number-below, places-are-states, states-set}
 use Rattle.meaning.specs.Laws.Counts.{product-is}
+use Rattle.diagram.specs.Laws.Tables.{control-made}
 use Rattle.verdict.specs.Controls.{sizesOf, Located}
 use Rattle.verdict.specs.declared.controls.Parted.{Parted}
 
@@ -86,6 +89,14 @@ module _ (m : Machines) (v : MachinesValid m) where
             ∙ ap product (sym (drop-cons (sizesOf m) j 0 (omega (arith, sizes-length))));
         small = λ j. sizes-small j;
       }
+
+  -- where a machine has moved to one of its states, the number is a control state's, and is made as it is
+  pub moved-made : (c machine to : ℕ) → c < m .product → machine < m .count → to < getD (m .states) machine 0 → {raw x : ℕ}
+      → raw ≡ number (sizesOf m) (set (places (sizesOf m) c) machine to) → x ≡ limited mostControls raw
+      → x ≡ number (sizesOf m) (set (places (sizesOf m) c) machine to)
+  moved-made c machine to h l t {raw} e f =
+      let s = states-set (sizesOf m) (places (sizesOf m) c) machine to (subst (λ n. to < n) (sym (size-at machine l)) t) (places-are-states (sizesOf m) c (subst (λ n. c < n) (sym sizes-product) h)) in
+      control-made v raw (omega (arith, e, number-below (sizesOf m) _ s, sizes-product)) f ∙ e
 
 -- THE MACHINES BEFORE NUMBER i are parted off: base is what they give, rest what is left
 pub record Front (ks : List ℕ) (c machine i base rest : ℕ) : Type 0 where

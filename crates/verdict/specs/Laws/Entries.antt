@@ -38,11 +38,9 @@ entry-item entries count b h T all =
     ∙ ap (λ n. some (entryAt entries n)) (zero-add b)
 
 pub entry-asked : {q : Queues} {rows arcs finals roots entries : List ℕ} {count : ℕ} → EntriesAsked q rows arcs finals roots entries count
-    → (b : ℕ) → b < count → (control : ℕ) → control ≡ getD entries (b * 2) 0
-    → EntryAsked q rows arcs finals roots control (getD entries (b * 2 + 1) 0)
-entry-asked {q} {rows} {arcs} {finals} {roots} {entries} {count} a b h control e =
-    subst (λ n. EntryAsked q rows arcs finals roots n (getD entries (b * 2 + 1) 0)) (sym e)
-    (record { whole = a .whole; number = b; parts = a .parts; item = entry-item entries count b h (a .whole) (a .all) })
+    → (b : ℕ) → b < count → EntryAsked q rows arcs finals roots (getD entries (b * 2) 0) (getD entries (b * 2 + 1) 0)
+entry-asked {entries = entries} {count = count} a b h =
+    record { whole = a .whole; number = b; parts = a .parts; item = entry-item entries count b h (a .whole) (a .all) }
 
 module _ (q : Queues) (rows arcs finals roots entries : List ℕ) (count b pairs : ℕ) (h : b < count) (contents contents₁ seen₁ queue₁ : List ℕ) where
   abbrev Over : Tables → Type 0
@@ -51,16 +49,15 @@ module _ (q : Queues) (rows arcs finals roots entries : List ℕ) (count b pairs
   abbrev after : Tables → Reply
   after T = decide (sessionOf T) (entry b (entryAt entries b) ∷ []) pairs
 
-  abbrev Judge : ℕ → Judged → Type 0
-  Judge control r =
-      Judging (λ T. EntryParts T q rows arcs finals roots)
-      (λ T. judgeBySearch (sessionOf T) mostPairs (entry 0 (control, getD entries (b * 2 + 1) 0))) contents r contents₁ seen₁ queue₁
+  abbrev Judge : Judged → Type 0
+  Judge r =
+      Judging (λ T. EntryParts T q rows arcs finals roots) (λ T. judgeBySearch (sessionOf T) mostPairs (entry 0 (entryAt entries b))) contents r contents₁ seen₁ queue₁
 
-  pub entry-more : (control : ℕ) → control ≡ getD entries (b * 2) 0 → (r : Judged) (more : ℕ) → r ≡ Passes more → Judge control r
+  pub entry-more : (r : Judged) (more : ℕ) → r ≡ Passes more → Judge r
       → Judges Over (pairs + mostPairs) after contents (Passed (pairs + more)) contents₁ seen₁ queue₁
   unfolding judgeBySearch decide
-  entry-more control e r more z j =
-      let k = subst (Judge (getD entries (b * 2) 0)) z (subst (λ n. Judge n r) e j) in
+  entry-more r more z j =
+      let k = subst Judge z j in
       record {
         is = λ T p. sym (decide-passes (sessionOf T) (entry b (entryAt entries b)) [] pairs more (judged-item T (p .0 .valid) (entry b (entryAt entries b)) (entry-item entries count b h T (p .1)) ∙ sym (k .is T (p .0))));
         few = omega (arith, k .few);
@@ -68,11 +65,11 @@ module _ (q : Queues) (rows arcs finals roots entries : List ℕ) (count b pairs
         scratch = k .scratch;
       }
 
-  pub entry-shown : (control : ℕ) → control ≡ getD entries (b * 2) 0 → (r : Judged) (shown : ℕ) → r ≡ Fails shown → Judge control r
+  pub entry-shown : (r : Judged) (shown : ℕ) → r ≡ Fails shown → Judge r
       → Judges Over (pairs + mostPairs) after contents (Meets b shown) contents₁ seen₁ queue₁
   unfolding judgeBySearch decide
-  entry-shown control e r shown z j =
-      let k = subst (Judge (getD entries (b * 2) 0)) z (subst (λ n. Judge n r) e j) in
+  entry-shown r shown z j =
+      let k = subst Judge z j in
       record {
         is = λ T p. sym (decide-fails (sessionOf T) (entry b (entryAt entries b)) [] pairs (take shown contents₁) (judged-item T (p .0 .valid) (entry b (entryAt entries b)) (entry-item entries count b h T (p .1)) ∙ sym (k .is T (p .0))));
         few = omega arith;

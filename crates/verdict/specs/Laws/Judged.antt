@@ -10,6 +10,7 @@ use lib.ListN.{length, getElem?, take, drop}
 use Rattle.session.specs.Transitions.{rowLength}
 use Rattle.session.specs.Laws.Machines.{MachinesValid}
 use Rattle.session.specs.Laws.Transitions.{RowValid}
+use Rattle.session.specs.declared.kinds.ControlState.{ControlState}
 use Rattle.session.specs.declared.tables.Machines.{Machines}
 use Rattle.session.specs.declared.tables.Queues.{Queues}
 use Rattle.session.specs.declared.tables.Tables.{Tables}
@@ -99,38 +100,38 @@ module _ {m : Machines} {q : Queues} {rows arcs finals roots : List ℕ} {c coun
         item = step-item c i p (a .control) (at-is c i p true e);
       }
 
-module _ (m : Machines) (q : Queues) (rows arcs finals roots : List ℕ) (c i pairs : ℕ) (seen queue contents : List ℕ) where
+module _ (m : Machines) (q : Queues) (rows arcs finals roots : List ℕ) (c : ControlState) (i pairs : ℕ) (seen queue contents : List ℕ) where
   abbrev Over : Tables → Type 0
   Over T = Parts T m q rows arcs finals roots (i + 1)
 
   abbrev after : Tables → Reply
-  after T = decide (sessionOf T) (stepsAt (sessionOf T .model) c i (transitionAt rows (i * rowLength) ∷ [])) pairs
+  after T = decide (sessionOf T) (stepsAt (sessionOf T .model) (c .0) i (transitionAt rows (i * rowLength) ∷ [])) pairs
 
   pub kept-all : Kept 0 contents contents
   kept-all = record { long = refl; within = omega arith; rest = refl }
 
-  pub turn-none : IsAt m rows (i * rowLength) c false → Scratch seen queue
+  pub turn-none : IsAt m rows (i * rowLength) (c .0) false → Scratch seen queue
       → Judges Over (pairs + mostPairs) after contents (Passed pairs) contents seen queue
   turn-none e s =
       record {
-        is = λ T p. sym (turn-skips T (p .valid) c i (transitionAt rows (i * rowLength)) pairs (at-is c i p false e));
+        is = λ T p. sym (turn-skips T (p .valid) (c .0) i (transitionAt rows (i * rowLength)) pairs (at-is (c .0) i p false e));
         few = omega arith;
         kept = kept-all;
         scratch = s;
       }
 
-  module _ (h : c < m .product) (e : IsAt m rows (i * rowLength) c true) (contents₁ seen₁ queue₁ : List ℕ) where
+  module _ (h : c .0 < m .product) (e : IsAt m rows (i * rowLength) (c .0) true) (contents₁ seen₁ queue₁ : List ℕ) where
     abbrev Judge : Judged → Type 0
     Judge r =
         Judging (λ T. Parts T m q rows arcs finals roots 0)
-        (λ T. judgeBySearch (sessionOf T) mostPairs (step c 0 (transitionAt rows (i * rowLength)))) contents r contents₁ seen₁ queue₁
+        (λ T. judgeBySearch (sessionOf T) mostPairs (step (c .0) 0 (transitionAt rows (i * rowLength)))) contents r contents₁ seen₁ queue₁
 
     pub turn-more : (r : Judged) (more : ℕ) → r ≡ Passes more → Judge r
         → Judges Over (pairs + mostPairs) after contents (Passed (pairs + more)) contents₁ seen₁ queue₁
     turn-more r more z j =
         let k = subst Judge z j in
         record {
-          is = λ T p. sym (turn-passes T (p .valid) c i (transitionAt rows (i * rowLength)) pairs (step-item c i p h (at-is c i p true e)) (at-is c i p true e) more (sym (k .is T (fewer-parts p (omega arith)))));
+          is = λ T p. sym (turn-passes T (p .valid) (c .0) i (transitionAt rows (i * rowLength)) pairs (step-item (c .0) i p h (at-is (c .0) i p true e)) (at-is (c .0) i p true e) more (sym (k .is T (fewer-parts p (omega arith)))));
           few = omega (arith, k .few);
           kept = k .kept;
           scratch = k .scratch;
@@ -141,7 +142,7 @@ module _ (m : Machines) (q : Queues) (rows arcs finals roots : List ℕ) (c i pa
     turn-shown r shown z j =
         let k = subst Judge z j in
         record {
-          is = λ T p. sym (turn-fails T (p .valid) c i (transitionAt rows (i * rowLength)) pairs (step-item c i p h (at-is c i p true e)) (at-is c i p true e) (take shown contents₁) (sym (k .is T (fewer-parts p (omega arith)))));
+          is = λ T p. sym (turn-fails T (p .valid) (c .0) i (transitionAt rows (i * rowLength)) pairs (step-item (c .0) i p h (at-is (c .0) i p true e)) (at-is (c .0) i p true e) (take shown contents₁) (sym (k .is T (fewer-parts p (omega arith)))));
           few = omega arith;
           kept = k .kept;
           scratch = k .scratch;

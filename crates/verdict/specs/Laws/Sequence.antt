@@ -7,6 +7,7 @@ use native.Mathlib.Nat.{sub-zero}
 use native.Mathlib.Numerals.{add-one}
 use lib.ListN.{length, getD, take, drop}
 use Rattle.session.specs.Transitions.{rowLength}
+use Rattle.session.specs.declared.kinds.ControlState.{ControlState}
 use Rattle.session.specs.declared.tables.Tables.{Tables}
 use Rattle.model.specs.Model.{Model}
 use Rattle.model.specs.Session.{Session}
@@ -45,7 +46,7 @@ module _ {P Q : Tables → Type 0} (weaker : (T : Tables) → Q T → P T) {most
         scratch = k .scratch;
       }
 
-  pub stops-left : (r : Progress) (a b n : ℕ) → r ≡ Leaves a b n → Judges P most o contents r contents₁ seen₁ queue₁
+  pub stops-left : (r : Progress) (a : ControlState) (b n : ℕ) → r ≡ Leaves a b n → Judges P most o contents r contents₁ seen₁ queue₁
       → {bound sum : ℕ} {contents₀ seen queue : List ℕ} → Going Q bound start here contents₀ sum contents seen queue → (top : ℕ)
       → Judges Q top start contents₀ (Leaves a b n) contents₁ seen₁ queue₁
   stops-left r a b n z j g top =

@@ -14,7 +14,7 @@ first-control-requires c κs = search needs
 
 -- src/begin.rt:47:9
 place-of-requires : tie.Need-place-of-requires
-place-of-requires c κs = c .before .before .before .pre .1 .small (c .first-control .result)
+place-of-requires c κs = c .before .before .before .pre .1 .small (c .first-control .result .0)
 
 -- src/begin.rt:49:9
 returns : tie.Need-returns

@@ -15,13 +15,17 @@ wide-requires c κs = search needs
 wide-requires-2 : tie.Need-wide-requires-2
 wide-requires-2 c κs = search needs
 
--- src/controls.rt:62:5
+-- src/controls.rt:63:50
+wide-requires-3 : tie.Need-wide-requires-3
+wide-requires-3 c κs = search needs
+
+-- src/controls.rt:63:5
 part-requires : tie.Need-part-requires
-part-requires c κs = rw (c .before .wide .ensures .same, c .wide2 .ensures .same) (read-partable (c .before .before .before .args .m) (c .before .before .before .pre .0) (c .before .before .before .args .c) (c .before .before .before .args .machine) (c .before .before .before .pre .1 .0) (c .before .before .before .pre .1 .1))
+part-requires c κs = rw (c .before .before .wide .ensures .same, c .before .wide2 .ensures .same, c .wide3 .ensures .same) (read-partable (c .before .before .before .before .args .m) (c .before .before .before .before .pre .0) (c .before .before .before .before .args .c .0) (c .before .before .before .before .args .machine) (c .before .before .before .before .pre .1 .0) (c .before .before .before .before .pre .1 .1))
 
 -- src/controls.rt:55:1
 returns : tie.Need-returns
-returns c = rw (c .before .before .wide .ensures .same, c .before .wide2 .ensures .same) at (c .part .ensures)
+returns c = rw (c .before .before .before .wide .ensures .same, c .before .before .wide2 .ensures .same, c .before .wide3 .ensures .same) at (c .part .ensures)
 
 pub part-at-spec : {M : Type 1} → statement M
-part-at-spec = tie.close (tie.spec wide-requires wide-requires-2 part-requires returns)
+part-at-spec = tie.close (tie.spec wide-requires wide-requires-2 wide-requires-3 part-requires returns)

@@ -10,7 +10,7 @@ use Rattle.walk.proofs.judge.judge.Reads as judge-reads
 
 -- src/item.rt:82:9
 place-of-requires : tie.Need-place-of-requires
-place-of-requires c κs = entry-roots (c .before .before .before .before .before .before .before .pre .0) (c .before .before .before .before .before .before .before .args .control)
+place-of-requires c κs = entry-roots (c .before .before .before .before .before .before .before .pre .0) (c .before .before .before .before .before .before .before .args .control .0)
 
 -- src/item.rt:84:9
 returns : tie.Need-returns

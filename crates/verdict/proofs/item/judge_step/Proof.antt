@@ -14,7 +14,7 @@ use Rattle.walk.proofs.judge.judge.Reads as judge-reads
 
 -- src/item.rt:41:9
 place-of-requires : tie.Need-place-of-requires
-place-of-requires c κs = asked-roots (c .before .before .before .before .before .before .before .pre .0) (c .before .before .before .before .before .before .before .args .c)
+place-of-requires c κs = asked-roots (c .before .before .before .before .before .before .before .pre .0) (c .before .before .before .before .before .before .before .args .c .0)
 
 -- src/item.rt:43:9
 returns : tie.Need-returns
@@ -24,11 +24,11 @@ returns c = step-none _ (c .before .before .before .before .before .before .befo
 moved-requires : tie.Need-moved-requires
 moved-requires c κs =
     let a = c .before .before .before .before .before .before .before .before .before .pre .0 in
-    (asked-machines a, (asked-long a, (asked-row a .move .machine, a .control)))
+    (asked-machines a, (asked-long a, (asked-row a .move .machine, (asked-row a .move .to, a .control))))
 
 -- src/item.rt:46:9
 place-of-requires-2 : tie.Need-place-of-requires-2
-place-of-requires-2 c κs = asked-roots (c .before .before .before .before .before .before .before .before .before .before .pre .0) (c .moved .result)
+place-of-requires-2 c κs = asked-roots (c .before .before .before .before .before .before .before .before .before .before .pre .0) (c .moved .result .0)
 
 -- src/item.rt:47:9
 cut-of-requires : tie.Need-cut-of-requires

@@ -2,11 +2,13 @@ use mathlib.Core.Path.{sym, ap, _∙_}
 use Prim.Native.Nat.{ℕ, _+_, _*_, _%_}
 use native.Mathlib.Omega.{arith}
 use native.Mathlib.Nat.{mul-le-mul, le-of-lt, mod-lt}
+use Rattle.verdict.specs.Laws.Controls.{moved-made}
 use borrow.Author.Needs.{needs}
 use Rattle.verdict.proofs.start.moved.Statement.{statement}
 use Rattle.verdict.proofs.start.moved.Tie as tie
 use Rattle.verdict.proofs.start.moved.Reads as reads
 use Rattle.verdict.proofs.start.moved.Lts as lts
+use Rattle.session.proofs.kinds.ControlState.new.Reads as new-reads
 use Rattle.session.proofs.number.wide.Reads as wide-reads
 use Rattle.verdict.proofs.controls.part_at.Reads as part-at-reads
 
@@ -31,24 +33,31 @@ wide-requires : tie.Need-wide-requires
 wide-requires c κs = search needs
 
 -- src/start.rt:98:15
-mul-result : tie.Need-mul-result
-mul-result c = omega (arith, mul-le-mul (le-of-lt (c .before .wide .ensures .small)) (c .before .before .before .part-at .ensures .small .2))
+mul-new : tie.Need-mul-new
+mul-new c = omega (arith, mul-le-mul (le-of-lt (c .before .wide .ensures .small)) (c .before .before .before .part-at .ensures .small .2))
 
 -- src/start.rt:98:48
-rem-result : tie.Need-rem-result
-rem-result c = search needs
+rem-new : tie.Need-rem-new
+rem-new c = search needs
 
 -- src/start.rt:98:15
-add-result : tie.Need-add-result
-add-result c = omega (arith, mul-le-mul (le-of-lt (c .before .before .wide .ensures .small)) (c .before .before .before .before .part-at .ensures .small .2), mod-lt (c .before .before .before .before .part-at .result .rest) (c .before .before .before .before .part-at .ensures .positive), c .before .before .before .before .part-at .ensures .small)
+add-new : tie.Need-add-new
+add-new c = omega (arith, mul-le-mul (le-of-lt (c .before .before .wide .ensures .small)) (c .before .before .before .before .part-at .ensures .small .2), mod-lt (c .before .before .before .before .part-at .result .rest) (c .before .before .before .before .part-at .ensures .positive), c .before .before .before .before .part-at .ensures .small)
 
 -- src/start.rt:98:5
-add-result-2 : tie.Need-add-result-2
-add-result-2 c = omega (arith, mul-le-mul (le-of-lt (c .before .before .before .wide .ensures .small)) (c .before .before .before .before .before .part-at .ensures .small .2), mod-lt (c .before .before .before .before .before .part-at .result .rest) (c .before .before .before .before .before .part-at .ensures .positive), c .before .before .before .before .before .part-at .ensures .small)
+add-new-2 : tie.Need-add-new-2
+add-new-2 c = omega (arith, mul-le-mul (le-of-lt (c .before .before .before .wide .ensures .small)) (c .before .before .before .before .before .part-at .ensures .small .2), mod-lt (c .before .before .before .before .before .part-at .result .rest) (c .before .before .before .before .before .part-at .ensures .positive), c .before .before .before .before .before .part-at .ensures .small)
 
--- src/start.rt:90:1
+-- src/start.rt:101:5
+new-requires : tie.Need-new-requires
+new-requires c κs = search needs
+
+-- src/start.rt:92:1
 returns : tie.Need-returns
-returns c = rw (c .before .before .before .wide .ensures .same) (c .before .before .before .before .before .part-at .ensures .moved _)
+returns c =
+    let w = c .before .before .before .before .wide .ensures .same in
+    let p = c .before .before .before .before .before .before .before .before .before .pre in
+    rw w at (moved-made (c .before .before .before .before .before .before .before .before .before .args .m) (p .0) (c .before .before .before .before .before .before .before .before .before .args .c .0) _ (c .before .before .before .before .wide .result) (p .1 .1 .1 .1) (p .1 .1 .0) (omega (arith, w, p .1 .1 .1 .0)) (c .before .before .before .before .before .before .part-at .ensures .moved (c .before .before .before .before .wide .result)) (c .new .ensures))
 
 pub moved-spec : {M : Type 1} → statement M
 moved-spec =
@@ -59,8 +68,9 @@ moved-spec =
     add-wide
     shared-slice-read-wide
     wide-requires
-    mul-result
-    rem-result
-    add-result
-    add-result-2
+    mul-new
+    rem-new
+    add-new
+    add-new-2
+    new-requires
     returns)

@@ -23,8 +23,8 @@ use Rattle.verdict.proofs.steps.judge_turn.Reads as judge-turn-reads
 abbrev Inv-loop : tie.InvT-loop
 Inv-loop m q rows arcs finals roots c count pairs seen₀ queue₀ contents₀ sum₀ i₀ seen queue contents sum i =
     Going (λ T. Parts T m q rows arcs finals roots count) (pairs + 32512 * i)
-    (λ T. decide (sessionOf T) (stepsAt (sessionOf T .model) c 0 (transitionsFrom rows count 0)) pairs)
-    (λ T. stepsHere rows c count i T sum) contents₀ sum contents seen queue
+    (λ T. decide (sessionOf T) (stepsAt (sessionOf T .model) (c .0) 0 (transitionsFrom rows count 0)) pairs)
+    (λ T. stepsHere rows (c .0) count i T sum) contents₀ sum contents seen queue
     × (i ≤ count)
 
 abbrev μ-loop : tie.MeasureT-loop
@@ -33,7 +33,7 @@ abbrev μ-loop : tie.MeasureT-loop
 -- src/steps.rt:74:5
 loop-holds : tie.Need-loop-holds Inv-loop μ-loop
 loop-holds c =
-    (record { same = λ T p. steps-begin (now (c .before .before .before .before .before .before .before .args .rows)) (c .before .before .before .before .before .before .before .args .c) (c .before .before .before .before .before .before .before .args .count) (c .before .before .before .before .before .before .before .args .pairs) T; few = omega arith; kept = refl; scratch = c .before .before .before .before .before .before .before .pre .1 .1 .0 }, omega arith)
+    (record { same = λ T p. steps-begin (now (c .before .before .before .before .before .before .before .args .rows)) (c .before .before .before .before .before .before .before .args .c .0) (c .before .before .before .before .before .before .before .args .count) (c .before .before .before .before .before .before .before .args .pairs) T; few = omega arith; kept = refl; scratch = c .before .before .before .before .before .before .before .pre .1 .1 .0 }, omega arith)
 
 -- src/steps.rt:75:13
 judge-turn-requires : tie.Need-judge-turn-requires Inv-loop μ-loop
@@ -58,7 +58,7 @@ same-length-3 c = c .before .before .before .before .before .before .before .jud
 
 -- src/steps.rt:77:13
 returns : tie.Need-returns Inv-loop μ-loop
-returns c = stops (λ T p. fewer-parts p (omega arith)) _ _ (stepsHere (now (c .before .before .before .before .before .before .before .before .before .before .before .before .before .before .before .before .before .before .before .before .args .rows)) (c .before .before .before .before .before .before .before .before .before .before .before .before .before .before .before .before .before .before .before .before .args .c) (c .before .before .before .before .before .before .before .before .before .before .before .before .before .before .before .before .before .before .before .before .args .count) (c .before .before .before .before .before .before .before .before .before .before .before .before .loop .i + 1)) (λ T p. steps-link (now (c .before .before .before .before .before .before .before .before .before .before .before .before .before .before .before .before .before .before .before .before .args .rows)) (c .before .before .before .before .before .before .before .before .before .before .before .before .before .before .before .before .before .before .before .before .args .c) (c .before .before .before .before .before .before .before .before .before .before .before .before .before .before .before .before .before .before .before .before .args .count) (c .before .before .before .before .before .before .before .before .before .before .before .before .loop .i) (c .before .before .before .before .before .before .before .before .before .before .before .before .loop .sum) (c .before .before .before .before .before .before .before .before .before .before .before .loop-test .taken) T) _ (c .match .keys2) (c .before .before .before .before .before .before .before .judge-turn .ensures) (c .before .before .before .before .before .before .before .before .before .before .before .before .loop .inv .0) _
+returns c = stops (λ T p. fewer-parts p (omega arith)) _ _ (stepsHere (now (c .before .before .before .before .before .before .before .before .before .before .before .before .before .before .before .before .before .before .before .before .args .rows)) (c .before .before .before .before .before .before .before .before .before .before .before .before .before .before .before .before .before .before .before .before .args .c .0) (c .before .before .before .before .before .before .before .before .before .before .before .before .before .before .before .before .before .before .before .before .args .count) (c .before .before .before .before .before .before .before .before .before .before .before .before .loop .i + 1)) (λ T p. steps-link (now (c .before .before .before .before .before .before .before .before .before .before .before .before .before .before .before .before .before .before .before .before .args .rows)) (c .before .before .before .before .before .before .before .before .before .before .before .before .before .before .before .before .before .before .before .before .args .c .0) (c .before .before .before .before .before .before .before .before .before .before .before .before .before .before .before .before .before .before .before .before .args .count) (c .before .before .before .before .before .before .before .before .before .before .before .before .loop .i) (c .before .before .before .before .before .before .before .before .before .before .before .before .loop .sum) (c .before .before .before .before .before .before .before .before .before .before .before .loop-test .taken) T) _ (c .match .keys2) (c .before .before .before .before .before .before .before .judge-turn .ensures) (c .before .before .before .before .before .before .before .before .before .before .before .before .loop .inv .0) _
 
 -- src/steps.rt:80:9
 add-i : tie.Need-add-i Inv-loop μ-loop
@@ -71,7 +71,7 @@ loop-less c = search needs
 -- src/steps.rt:74:5
 loop-again : tie.Need-loop-again Inv-loop μ-loop
 loop-again c =
-    let g = goes-on (λ T p. fewer-parts p (omega arith)) _ _ (stepsHere (now (c .before .before .before .before .before .before .before .before .before .before .before .before .before .before .before .before .before .before .before .before .before .before .args .rows)) (c .before .before .before .before .before .before .before .before .before .before .before .before .before .before .before .before .before .before .before .before .before .before .args .c) (c .before .before .before .before .before .before .before .before .before .before .before .before .before .before .before .before .before .before .before .before .before .before .args .count) (c .before .before .before .before .before .before .before .before .before .before .before .before .before .before .loop .i + 1)) (λ T p. steps-link (now (c .before .before .before .before .before .before .before .before .before .before .before .before .before .before .before .before .before .before .before .before .before .before .args .rows)) (c .before .before .before .before .before .before .before .before .before .before .before .before .before .before .before .before .before .before .before .before .before .before .args .c) (c .before .before .before .before .before .before .before .before .before .before .before .before .before .before .before .before .before .before .before .before .before .before .args .count) (c .before .before .before .before .before .before .before .before .before .before .before .before .before .before .loop .i) (c .before .before .before .before .before .before .before .before .before .before .before .before .before .before .loop .sum) (c .before .before .before .before .before .before .before .before .before .before .before .before .before .loop-test .taken) T) _ _ (c .before .turn .given .1) (c .before .before .before .before .before .before .before .before .before .judge-turn .ensures) (c .before .before .before .before .before .before .before .before .before .before .before .before .before .before .loop .inv .0) in
+    let g = goes-on (λ T p. fewer-parts p (omega arith)) _ _ (stepsHere (now (c .before .before .before .before .before .before .before .before .before .before .before .before .before .before .before .before .before .before .before .before .before .before .args .rows)) (c .before .before .before .before .before .before .before .before .before .before .before .before .before .before .before .before .before .before .before .before .before .before .args .c .0) (c .before .before .before .before .before .before .before .before .before .before .before .before .before .before .before .before .before .before .before .before .before .before .args .count) (c .before .before .before .before .before .before .before .before .before .before .before .before .before .before .loop .i + 1)) (λ T p. steps-link (now (c .before .before .before .before .before .before .before .before .before .before .before .before .before .before .before .before .before .before .before .before .before .before .args .rows)) (c .before .before .before .before .before .before .before .before .before .before .before .before .before .before .before .before .before .before .before .before .before .before .args .c .0) (c .before .before .before .before .before .before .before .before .before .before .before .before .before .before .before .before .before .before .before .before .before .before .args .count) (c .before .before .before .before .before .before .before .before .before .before .before .before .before .before .loop .i) (c .before .before .before .before .before .before .before .before .before .before .before .before .before .before .loop .sum) (c .before .before .before .before .before .before .before .before .before .before .before .before .before .loop-test .taken) T) _ _ (c .before .turn .given .1) (c .before .before .before .before .before .before .before .before .before .judge-turn .ensures) (c .before .before .before .before .before .before .before .before .before .before .before .before .before .before .loop .inv .0) in
     (record { same = g .same; few = omega (arith, g .few, c .before .before .before .before .before .before .before .before .before .before .before .before .before .before .loop .inv .0 .few); kept = g .kept; scratch = g .scratch }, omega arith)
 
 -- src/steps.rt:52:1
@@ -88,7 +88,7 @@ same-length-6 c = ap length (c .before .loop .inv .0 .kept)
 
 -- src/steps.rt:52:1
 returns-2 : tie.Need-returns-2 Inv-loop μ-loop
-returns-2 c = ends _ (λ T p. steps-end (now (c .before .before .before .before .before .before .before .before .before .args .rows)) (c .before .before .before .before .before .before .before .before .before .args .c) (c .before .before .before .before .before .before .before .before .before .args .count) (c .before .loop .i) (c .before .loop .sum) (c .loop-test .left) T) (c .before .loop .inv .0) _ (omega (arith, c .before .before .before .before .before .before .before .before .before .pre .1 .0, count-most (c .before .before .before .before .before .before .before .before .before .pre .0)))
+returns-2 c = ends _ (λ T p. steps-end (now (c .before .before .before .before .before .before .before .before .before .args .rows)) (c .before .before .before .before .before .before .before .before .before .args .c .0) (c .before .before .before .before .before .before .before .before .before .args .count) (c .before .loop .i) (c .before .loop .sum) (c .loop-test .left) T) (c .before .loop .inv .0) _ (omega (arith, c .before .before .before .before .before .before .before .before .before .pre .1 .0, count-most (c .before .before .before .before .before .before .before .before .before .pre .0)))
 
 pub judge-control-spec : {M : Type 1} → statement M
 judge-control-spec =

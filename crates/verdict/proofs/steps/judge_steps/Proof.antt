@@ -1,3 +1,4 @@
+use Rattle.diagram.specs.Laws.Tables.{control-made}
 use Rattle.verdict.specs.Laws.Judged.{machines-asked}
 use borrow.Author.Needs.{needs}
 use Prim.Native.Nat.{ℕ, _+_, _*_, _-_, _≤_}
@@ -17,6 +18,7 @@ use Rattle.verdict.proofs.steps.judge_steps.Statement.{statement}
 use Rattle.verdict.proofs.steps.judge_steps.Tie as tie
 use Rattle.verdict.proofs.steps.judge_steps.Reads as reads
 use Rattle.verdict.proofs.steps.judge_steps.Lts as lts
+use Rattle.session.proofs.kinds.ControlState.new.Reads as new-reads
 use Rattle.verdict.proofs.steps.judge_control.Reads as judge-control-reads
 
 abbrev Inv-loop : tie.InvT-loop
@@ -34,10 +36,15 @@ loop-holds : tie.Need-loop-holds Inv-loop μ-loop
 loop-holds c =
     (record { same = λ T p. controls-begin (c .before .before .before .before .before .before .before .args .m .product) 0 T; few = omega arith; kept = refl; scratch = c .before .before .before .before .before .before .before .pre .1 .0 }, omega arith)
 
+-- src/steps.rt:136:13
+new-requires : tie.Need-new-requires Inv-loop μ-loop
+new-requires c κs = search needs
+
 -- src/steps.rt:108:13
 judge-control-requires : tie.Need-judge-control-requires Inv-loop μ-loop
 judge-control-requires c κs =
-    (control-asked (c .before .before .before .before .before .before .before .before .before .before .before .before .pre .0) (c .before .before .before .loop-test .taken), (c .before .before .before .before .loop .inv .0 .few, (c .before .before .before .before .loop .inv .0 .scratch, subst (λ (l : List ℕ). 32768 ≤ length l) (sym (c .before .before .before .before .loop .inv .0 .kept)) (c .before .before .before .before .before .before .before .before .before .before .before .before .pre .1 .1))))
+    let made = control-made (machines-asked (c .before .before .before .before .before .before .before .before .before .before .before .before .before .pre .0)) (c .before .before .before .before .before .loop .c) (c .before .before .before .before .loop-test .taken) (c .before .before .before .new .ensures) in
+    (control-asked (c .before .before .before .before .before .before .before .before .before .before .before .before .before .pre .0) (omega (arith, made, c .before .before .before .before .loop-test .taken)), (omega (arith, made, c .before .before .before .before .before .loop .inv .0 .few), (c .before .before .before .before .before .loop .inv .0 .scratch, subst (λ (l : List ℕ). 32768 ≤ length l) (sym (c .before .before .before .before .before .loop .inv .0 .kept)) (c .before .before .before .before .before .before .before .before .before .before .before .before .before .pre .1 .1))))
 
 -- src/steps.rt:109:30
 enum-known-turn : tie.Need-enum-known-turn Inv-loop μ-loop
@@ -45,23 +52,25 @@ enum-known-turn c = search needs
 
 -- src/steps.rt:110:13
 same-length : tie.Need-same-length Inv-loop μ-loop
-same-length c = c .before .before .before .before .before .before .before .judge-control .ensures .scratch .seenLong ∙ sym (c .before .before .before .before .before .before .before .before .before .before .before .before .before .before .before .before .before .before .before .before .pre .1 .0 .seenLong)
+same-length c = c .before .before .before .before .before .before .before .judge-control .ensures .scratch .seenLong ∙ sym (c .before .before .before .before .before .before .before .before .before .before .before .before .before .before .before .before .before .before .before .before .before .pre .1 .0 .seenLong)
 
 -- src/steps.rt:110:13
 same-length-2 : tie.Need-same-length-2 Inv-loop μ-loop
-same-length-2 c = c .before .before .before .before .before .before .before .judge-control .ensures .scratch .queueLong ∙ sym (c .before .before .before .before .before .before .before .before .before .before .before .before .before .before .before .before .before .before .before .before .pre .1 .0 .queueLong)
+same-length-2 c = c .before .before .before .before .before .before .before .judge-control .ensures .scratch .queueLong ∙ sym (c .before .before .before .before .before .before .before .before .before .before .before .before .before .before .before .before .before .before .before .before .before .pre .1 .0 .queueLong)
 
 -- src/steps.rt:110:13
 same-length-3 : tie.Need-same-length-3 Inv-loop μ-loop
-same-length-3 c = c .before .before .before .before .before .before .before .judge-control .ensures .kept .long ∙ ap length (c .before .before .before .before .before .before .before .before .before .before .before .before .loop .inv .0 .kept)
+same-length-3 c = c .before .before .before .before .before .before .before .judge-control .ensures .kept .long ∙ ap length (c .before .before .before .before .before .before .before .before .before .before .before .before .before .loop .inv .0 .kept)
 
 -- src/steps.rt:110:13
 returns : tie.Need-returns Inv-loop μ-loop
-returns c = stops (λ T p. p .0) _ _ (controlsHere (c .before .before .before .before .before .before .before .before .before .before .before .before .before .before .before .before .before .before .before .before .args .m .product) (c .before .before .before .before .before .before .before .before .before .before .before .before .loop .c + 1)) (λ T p. controls-link (now (c .before .before .before .before .before .before .before .before .before .before .before .before .before .before .before .before .before .before .before .before .args .rows)) (c .before .before .before .before .before .before .before .before .before .before .before .before .before .before .before .before .before .before .before .before .args .m .product) (c .before .before .before .before .before .before .before .before .before .before .before .before .before .before .before .before .before .before .before .before .args .count) (c .before .before .before .before .before .before .before .before .before .before .before .before .loop .c) (c .before .before .before .before .before .before .before .before .before .before .before .before .loop .sum) (c .before .before .before .before .before .before .before .before .before .before .before .loop-test .taken) T (p .1)) _ (c .match .keys2) (c .before .before .before .before .before .before .before .judge-control .ensures) (c .before .before .before .before .before .before .before .before .before .before .before .before .loop .inv .0) _
+returns c =
+    let made = control-made (machines-asked (c .before .before .before .before .before .before .before .before .before .before .before .before .before .before .before .before .before .before .before .before .before .pre .0)) (c .before .before .before .before .before .before .before .before .before .before .before .before .before .loop .c) (c .before .before .before .before .before .before .before .before .before .before .before .before .loop-test .taken) (c .before .before .before .before .before .before .before .before .before .before .before .new .ensures) in
+    stops (λ T p. p .0) _ _ (controlsHere (c .before .before .before .before .before .before .before .before .before .before .before .before .before .before .before .before .before .before .before .before .before .args .m .product) (c .before .before .before .before .before .before .before .before .before .before .before .before .before .loop .c + 1)) (λ T p. controls-link (now (c .before .before .before .before .before .before .before .before .before .before .before .before .before .before .before .before .before .before .before .before .before .args .rows)) (c .before .before .before .before .before .before .before .before .before .before .before .before .before .before .before .before .before .before .before .before .before .args .m .product) (c .before .before .before .before .before .before .before .before .before .before .before .before .before .before .before .before .before .before .before .before .before .args .count) (c .before .before .before .before .before .before .before .before .before .before .before .before .before .loop .c) (c .before .before .before .before .before .before .before .before .before .before .before .before .before .loop .sum) (c .before .before .before .before .before .before .before .before .before .before .before .before .loop-test .taken) T (p .1)) _ (c .match .keys2) (rw made at (c .before .before .before .before .before .before .before .judge-control .ensures)) (c .before .before .before .before .before .before .before .before .before .before .before .before .before .loop .inv .0) _
 
 -- src/steps.rt:113:9
 add-c : tie.Need-add-c Inv-loop μ-loop
-add-c c = omega (arith, machines-asked (c .before .before .before .before .before .before .before .before .before .before .before .before .before .before .before .before .before .before .before .before .before .before .pre .0) .productMost, c .before .before .before .before .before .before .before .before .before .before .before .before .before .loop-test .taken)
+add-c c = omega (arith, machines-asked (c .before .before .before .before .before .before .before .before .before .before .before .before .before .before .before .before .before .before .before .before .before .before .before .pre .0) .productMost, c .before .before .before .before .before .before .before .before .before .before .before .before .before .before .loop-test .taken)
 
 -- src/steps.rt:107:5
 loop-less : tie.Need-loop-less Inv-loop μ-loop
@@ -70,7 +79,8 @@ loop-less c = search needs
 -- src/steps.rt:107:5
 loop-again : tie.Need-loop-again Inv-loop μ-loop
 loop-again c =
-    let g = goes-on (λ T p. p .0) _ _ (controlsHere (c .before .before .before .before .before .before .before .before .before .before .before .before .before .before .before .before .before .before .before .before .before .before .args .m .product) (c .before .before .before .before .before .before .before .before .before .before .before .before .before .before .loop .c + 1)) (λ T p. controls-link (now (c .before .before .before .before .before .before .before .before .before .before .before .before .before .before .before .before .before .before .before .before .before .before .args .rows)) (c .before .before .before .before .before .before .before .before .before .before .before .before .before .before .before .before .before .before .before .before .before .before .args .m .product) (c .before .before .before .before .before .before .before .before .before .before .before .before .before .before .before .before .before .before .before .before .before .before .args .count) (c .before .before .before .before .before .before .before .before .before .before .before .before .before .before .loop .c) (c .before .before .before .before .before .before .before .before .before .before .before .before .before .before .loop .sum) (c .before .before .before .before .before .before .before .before .before .before .before .before .before .loop-test .taken) T (p .1)) _ _ (c .before .turn .given .1) (c .before .before .before .before .before .before .before .before .before .judge-control .ensures) (c .before .before .before .before .before .before .before .before .before .before .before .before .before .before .loop .inv .0) in
+    let made = control-made (machines-asked (c .before .before .before .before .before .before .before .before .before .before .before .before .before .before .before .before .before .before .before .before .before .before .before .pre .0)) (c .before .before .before .before .before .before .before .before .before .before .before .before .before .before .before .loop .c) (c .before .before .before .before .before .before .before .before .before .before .before .before .before .before .loop-test .taken) (c .before .before .before .before .before .before .before .before .before .before .before .before .before .new .ensures) in
+    let g = goes-on (λ T p. p .0) _ _ (controlsHere (c .before .before .before .before .before .before .before .before .before .before .before .before .before .before .before .before .before .before .before .before .before .before .before .args .m .product) (c .before .before .before .before .before .before .before .before .before .before .before .before .before .before .before .loop .c + 1)) (λ T p. controls-link (now (c .before .before .before .before .before .before .before .before .before .before .before .before .before .before .before .before .before .before .before .before .before .before .before .args .rows)) (c .before .before .before .before .before .before .before .before .before .before .before .before .before .before .before .before .before .before .before .before .before .before .before .args .m .product) (c .before .before .before .before .before .before .before .before .before .before .before .before .before .before .before .before .before .before .before .before .before .before .before .args .count) (c .before .before .before .before .before .before .before .before .before .before .before .before .before .before .before .loop .c) (c .before .before .before .before .before .before .before .before .before .before .before .before .before .before .before .loop .sum) (c .before .before .before .before .before .before .before .before .before .before .before .before .before .before .loop-test .taken) T (p .1)) _ _ (c .before .turn .given .1) (rw made at (c .before .before .before .before .before .before .before .before .before .judge-control .ensures)) (c .before .before .before .before .before .before .before .before .before .before .before .before .before .before .before .loop .inv .0) in
     (g, omega arith)
 
 -- src/steps.rt:87:1
@@ -96,6 +106,7 @@ judge-steps-spec =
     Inv-loop
     μ-loop
     loop-holds
+    new-requires
     judge-control-requires
     enum-known-turn
     same-length
