@@ -10,5 +10,6 @@ pub mod Over
 pub mod Valid
 pub mod Edges
 pub mod Shown
+pub mod Turning
 pub mod Judged
 pub mod Items

@@ -2,10 +2,11 @@
 -- as the messages that it takes out.
 use mathlib.Core.Path.{_≡_}
 use mathlib.Core.Bool.{true, false}
-use mathlib.Core.List.{List, [], _∷_, _++_}
+use mathlib.Core.List.{List, [], _∷_, _++_, reverse}
 use Prim.Native.Nat.{ℕ, zero, suc, _+_, _-_, _<_}
 use lib.Dec.{eqb}
 use lib.ListN.{length, getD, drop}
+use lib.Seq.{sets}
 use Rattle.explore.specs.Search.{lowest}
 use Rattle.model.specs.Judge.{same}
 use Rattle.walk.specs.declared.pairs.Walk.{Walk}
@@ -57,11 +58,10 @@ pub record EdgeOf (arcs rows : List ℕ) (w : Walk) (seen queue : List ℕ) (k :
   pub earlier : e .parent < k
   pub letter : e .letter ≡ edgeLetter arcs rows w seen queue k
 
--- u was put before the place end of the contents, and stands from r on
-pub record Put (u : List ℕ) (end : ℕ) (contents contents′ : List ℕ) (r : ℕ) : Type 0 where
-  pub from : r + length u ≡ end
-  pub long : length contents′ ≡ length contents
-  pub is : drop r contents′ ≡ u ++ drop end contents
+-- u was laid last message first from the place start of the contents on, and the next place is r
+pub record Laid (u : List ℕ) (start : ℕ) (contents contents′ : List ℕ) (r : ℕ) : Type 0 where
+  pub is : contents′ ≡ sets contents start (reverse u)
+  pub next : r ≡ start + length u
 
 -- u fills the front of the contents, and the rest keeps its bytes
 pub record Shown (u contents contents′ : List ℕ) (r : ℕ) : Type 0 where

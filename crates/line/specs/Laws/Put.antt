@@ -8,15 +8,10 @@ use lib.Seq.{sets, length-sets, sets-eq, drop-cons}
 use lib.Dec.{ltb}
 use borrow.Author.Tests.{lt-ltb, le-ltb, ltb-false}
 use native.Mathlib.Omega.{arith}
-use native.Mathlib.Nat.{add-zero, add-suc, suc-add, zero-add, sub-zero}
+use native.Mathlib.Nat.{add-zero, zero-add, sub-zero}
+use Rattle.explore.specs.Lists.{sets-append}
 use Rattle.model.specs.Line.{digits, spaced, spacedAll}
 use Rattle.line.specs.Put.{Put}
-
-sets-append : (l : List ℕ) (i : ℕ) (u v : List ℕ) → sets (sets l i u) (i + length u) v ≡ sets l i (u ++ v)
-sets-append l i [] v = ap (λ (k : ℕ). sets l k v) (add-zero i)
-sets-append l i (a ∷ u) v =
-    ap (λ (k : ℕ). sets (sets (set l i a) (suc i) u) k v) (add-suc i (length u) ∙ sym (suc-add i (length u)))
-    ∙ sets-append (set l i a) (suc i) u v
 
 -- UNDERWAY: to put the rest from place p on is to put the text from place at on
 pub record Left (entry : List ℕ) (at : ℕ) (text now : List ℕ) (p : ℕ) (rest : List ℕ) : Type 0 where

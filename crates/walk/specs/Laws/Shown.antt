@@ -1,15 +1,17 @@
--- The contents of a pair are those of its parent and what the letter between them stands for: counted, and filled in from the back.
-use mathlib.Core.Path.{_≡_, refl, sym, ap, ap₂, _∙_}
-use mathlib.Core.List.{List, [], _∷_, _++_, append-assoc}
+-- The contents of a pair are those of its parent and what the letter between them stands for: laid back along the parents, last message first.
+use mathlib.Core.Path.{_≡_, refl, sym, ap, ap₂, subst, _∙_}
+use mathlib.Core.List.{List, [], _∷_, _++_, append-assoc, append-nil, reverse, reverse-append, reverse-reverse}
 use Prim.Native.Nat.{ℕ, zero, suc, _+_, _-_, _≤_, _<_}
 use native.Mathlib.Omega.{arith}
-use lib.ListN.{length, getD, set, drop, length-set, length-append, length-drop}
-use lib.Seq.{drop-cons, getD-take, getD-drop, length-take-le}
+use native.Mathlib.Nat.{zero-add}
+use lib.ListN.{length, getD, set, take, drop, length-append, length-drop, length-reverse, drop-of-length-le}
+use lib.Seq.{drop-cons, getD-take, getD-drop, length-take-le, take-at, drop-at, sets, length-sets, sets-eq}
 use borrow.Author.Tests.{eq-eqb, ne-eqb}
+use Rattle.explore.specs.Lists.{sets-append}
 use Rattle.walk.specs.declared.pairs.Walk.{Walk}
 use Rattle.walk.specs.declared.edges.Edge.{Edge}
 use Rattle.walk.specs.Over.{wordOver, WordWithin}
-use Rattle.walk.specs.Shown.{parentOf, partOver, edgeLetter, shownFrom, shownOver, Placed, EdgeOf, Put}
+use Rattle.walk.specs.Shown.{parentOf, partOver, edgeLetter, shownFrom, shownOver, Placed, EdgeOf, Laid, Shown}
 use Rattle.walk.specs.Laws.Edges.{parent-earlier, placed-before}
 
 -- WHAT A LETTER STANDS FOR
@@ -23,72 +25,83 @@ module _ (rows : List ℕ) (w : Walk) {letter : ℕ} where
   pub part-message : (letter ≡ w .sum → ⊥) → partOver rows w letter ≡ letter ∷ []
   part-message e = rw (ne-eqb letter (w .sum) e, partOver)
 
--- PUTTING IT IN
-drop-set : (l : List ℕ) (j v : ℕ) → j < length l → drop j (set l j v) ≡ v ∷ drop (suc j) l
-drop-set [] j v h = absurd (omega arith)
-drop-set (x ∷ l) zero v h = refl
-drop-set (x ∷ l) (suc j) v h = drop-set l j v (omega arith)
+-- LAYING IT, last message first
+laid-none : (start : ℕ) (contents : List ℕ) → Laid [] start contents contents start
+laid-none start contents = record { is = refl; next = omega arith }
 
-drop-all : (l : List ℕ) → drop (length l) l ≡ []
-drop-all [] = refl
-drop-all (x ∷ l) = drop-all l
+pub laid-one : (m start : ℕ) (contents : List ℕ) → Laid (m ∷ []) start contents (set contents start m) (start + 1)
+laid-one m start contents = record { is = refl; next = refl }
 
-pub put-none : (end : ℕ) (contents : List ℕ) → Put [] end contents contents end
-put-none end contents = record { from = omega arith; long = refl; is = refl }
+pub laid-as : {u v : List ℕ} {start r : ℕ} {contents contents′ : List ℕ} → u ≡ v → Laid u start contents contents′ r
+    → Laid v start contents contents′ r
+laid-as {start = start} {r} {contents} {contents′} e p = subst (λ u. Laid u start contents contents′ r) e p
 
-pub put-more : {u : List ℕ} {end j r v : ℕ} {contents contents′ : List ℕ} → Put u end contents contents′ r
-    → r ≡ suc j → j < length contents′
-    → Put (v ∷ u) end contents (set contents′ j v) j
-put-more {j = j} {v = v} {contents′ = contents′} p e h =
+module _ {u : List ℕ} {start r : ℕ} {contents contents′ : List ℕ} (l : Laid u start contents contents′ r) where
+  pub laid-length : length contents′ ≡ length contents
+  laid-length = ap length (l .is) ∙ length-sets contents start (reverse u)
+
+  -- what is laid next comes before
+  laid-before : {v : List ℕ} {r′ : ℕ} {contents″ : List ℕ} → Laid v r contents′ contents″ r′ → Laid (v ++ u) start contents contents″ r′
+  laid-before {v} {r′} {contents″} p =
+      record {
+        is =
+            p .is
+            ∙ ap₂ (λ k s. sets s k (reverse v)) (l .next ∙ ap (λ n. start + n) (sym (length-reverse u))) (l .is)
+            ∙ sets-append contents start (reverse u) (reverse v)
+            ∙ ap (sets contents start) (sym (reverse-append v u));
+        next = omega (arith, p .next, l .next, length-append v u);
+      }
+
+-- what was laid at the front, and turned round, is shown
+pub laid-turned : {u : List ℕ} {r : ℕ} {contents contents′ contents″ : List ℕ} → Laid u 0 contents contents′ r → length u ≤ length contents
+    → contents″ ≡ reverse (take r contents′) ++ drop r contents′ → Shown u contents contents″ r
+laid-turned {u} {r} {contents} {contents′} l h e =
+    let long : r ≡ length u = omega (arith, l .next) in
+    let same : length (reverse u) ≡ r = length-reverse u ∙ sym long in
+    let front : contents′ ≡ reverse u ++ drop r contents =
+    l .is ∙ sets-eq (reverse u) contents 0 (omega (arith, length-reverse u))
+    ∙ ap (λ n. reverse u ++ drop n contents) (zero-add (length (reverse u)) ∙ same) in
     record {
-      from = omega (arith, p .from);
-      long = length-set contents′ j v ∙ p .long;
-      is = drop-set contents′ j v h ∙ ap (λ k. v ∷ drop k contents′) (sym e) ∙ ap (λ l. v ∷ l) (p .is);
+      number = long;
+      is =
+          e
+          ∙ ap₂ (λ a b. reverse a ++ b) (ap (take r) front ∙ take-at (reverse u) (drop r contents) r same)
+          (ap (drop r) front ∙ drop-at (reverse u) (drop r contents) r same)
+          ∙ ap (λ a. a ++ drop r contents) (reverse-reverse u);
     }
 
-pub put-as : {u v : List ℕ} {end r : ℕ} {contents contents′ : List ℕ} → u ≡ v → Put u end contents contents′ r
-    → Put v end contents contents′ r
-put-as {end = end} {r} {contents} {contents′} e p =
-    record { from = rw (← e) (p .from); long = p .long; is = p .is ∙ ap (λ l. l ++ drop end contents) e }
-
--- A WORD goes in message by message from its end: those from number i on are there
-pub record Wording (rows : List ℕ) (word out end start i : ℕ) (contents contents′ : List ℕ) : Type 0 where
-  pub put : Put (drop i (wordOver rows word out)) end contents contents′ (start + i)
-  pub most : i ≤ out
+-- A WORD is laid from its end: the messages from number i on are there
+pub record Wording (rows : List ℕ) (word out start i n : ℕ) (contents contents′ : List ℕ) : Type 0 where
+  pub laid : Laid (drop i (wordOver rows word out)) start contents contents′ n
+  pub left : n + i ≡ start + out
 
 module _ {rows : List ℕ} {word out : ℕ} (z : WordWithin rows word out) where
-  pub word-begin : {end start : ℕ} (contents : List ℕ) → start + out ≡ end → Wording rows word out end start out contents contents
-  word-begin {end} {start} contents e =
-      let none-left : [] ≡ drop out (wordOver rows word out) =
-      sym (ap (λ n. drop n (wordOver rows word out)) (sym (word-length z)) ∙ drop-all (wordOver rows word out))
-      in
-      record { put = put-as none-left (rw e (put-none end contents)); most = omega arith }
+  pub word-begin : (start : ℕ) (contents : List ℕ) → Wording rows word out start out start contents contents
+  word-begin start contents =
+      let short : length (wordOver rows word out) ≤ out = omega (arith, word-length z) in
+      record { laid = laid-as (sym (drop-of-length-le (wordOver rows word out) short)) (laid-none start contents); left = refl }
 
-  word-next : (i : ℕ) → i < out → drop i (wordOver rows word out) ≡ getD rows (word + i) 0 ∷ drop (suc i) (wordOver rows word out)
+  word-next : (i : ℕ) → i < out → getD rows (word + i) 0 ∷ drop (suc i) (wordOver rows word out) ≡ drop i (wordOver rows word out)
   word-next i h =
-      drop-cons (wordOver rows word out) i 0 (omega (arith, word-length z))
-      ∙ ap (λ m. m ∷ drop (suc i) (wordOver rows word out)) (getD-take out (drop word rows) i 0 h ∙ getD-drop word rows i 0)
+      sym (drop-cons (wordOver rows word out) i 0 (omega (arith, word-length z))
+      ∙ ap (λ m. m ∷ drop (suc i) (wordOver rows word out)) (getD-take out (drop word rows) i 0 h ∙ getD-drop word rows i 0))
 
-  module _ {end start i : ℕ} {contents contents′ : List ℕ} (W : Wording rows word out end start i contents contents′) where
-    pub word-more : 0 < i → start + (i - 1) < length contents′
-        → Wording rows word out end start (i - 1) contents (set contents′ (start + (i - 1)) (getD rows (word + (i - 1)) 0))
-    word-more h l =
+  module _ {start i n : ℕ} {contents contents′ : List ℕ} (W : Wording rows word out start i n contents contents′) where
+    pub word-most : i ≤ out
+    word-most = omega (arith, W .left, W .laid .next)
+
+    pub word-more : 0 < i → Wording rows word out start (i - 1) (n + 1) contents (set contents′ n (getD rows (word + (i - 1)) 0))
+    word-more h =
         let e : i ≡ suc (i - 1) = omega arith in
-        let u = put-as (ap (λ n. drop n (wordOver rows word out)) e) (W .put) in
         record {
-          put = put-as (sym (word-next (i - 1) (omega (arith, W .most)))) (put-more u (omega arith) l);
-          most = omega (arith, W .most);
+          laid =
+              laid-as (ap (λ k. getD rows (word + (i - 1)) 0 ∷ drop k (wordOver rows word out)) e ∙ word-next (i - 1) (omega (arith, word-most)))
+              (laid-before (W .laid) (laid-one (getD rows (word + (i - 1)) 0) n contents′));
+          left = omega (arith, W .left);
         }
 
-    pub word-end : i ≤ 0 → Put (wordOver rows word out) end contents contents′ start
-    word-end h =
-        let e : i ≡ 0 = omega arith in
-        let u = put-as (ap (λ n. drop n (wordOver rows word out)) e) (W .put) in
-        record {
-          from = omega (arith, u .from);
-          long = u .long;
-          is = ap (λ n. drop n contents′) (let same : start ≡ start + i = omega arith in same) ∙ u .is;
-        }
+    pub word-end : i ≤ 0 → Laid (wordOver rows word out) start contents contents′ n
+    word-end h = laid-as (ap (λ k. drop k (wordOver rows word out)) (let e : i ≡ 0 = omega arith in e)) (W .laid)
 
 -- BACK ALONG THE PARENTS
 module _ (arcs rows : List ℕ) (w : Walk) (seen queue : List ℕ) where
@@ -124,86 +137,49 @@ module _ (arcs rows : List ℕ) (w : Walk) (seen queue : List ℕ) where
   unfolding shownFrom
   shown-none = refl
 
-  pub shown-edge : {k : ℕ} {e : Edge} → 0 < k → Placed seen queue k → EdgeOf arcs rows w seen queue k e
-      → S k ≡ S (e .parent) ++ partOver rows w (e .letter)
-  shown-edge {k} h P E = shown-step k h P ∙ ap₂ (λ p m. S p ++ partOver rows w m) (sym (E .parent)) (sym (E .letter))
-
-  -- COUNTING: n messages are counted, and those of place at are left
-  pub record Counting (k at n : ℕ) : Type 0 where
+  -- what is laid, after what is shown for place at, is all that is shown
+  pub record Backing (k : ℕ) (contents : List ℕ) (at n : ℕ) (contents′ : List ℕ) : Type 0 where
     pub placed : Placed seen queue at
-    pub is : n + length (S at) ≡ length (S k)
+    pub there : List ℕ
+    pub laid : Laid there 0 contents contents′ n
+    pub is : S at ++ there ≡ S k
 
-  pub count-begin : {k : ℕ} → Placed seen queue k → Counting k k 0
-  count-begin P = record { placed = P; is = omega arith }
+module _ {arcs rows : List ℕ} {w : Walk} {seen queue : List ℕ} where
+  pub back-begin : {k : ℕ} (contents : List ℕ) → Placed seen queue k → Backing arcs rows w seen queue k contents k 0 contents
+  back-begin {k} contents P = record { placed = P; there = []; laid = laid-none 0 contents; is = append-nil (shownOver arcs rows w seen queue k) }
 
-  pub count-next : {k at n : ℕ} {e : Edge} {p : ℕ} → Counting k at n → 0 < at → EdgeOf arcs rows w seen queue at e
-      → p ≡ length (partOver rows w (e .letter))
-      → Counting k (e .parent) (n + p)
-  count-next {e = e} C h E f =
-      record {
-        placed = placed-before (C .placed) (E .earlier);
-        is = omega (arith, C .is, ap length (shown-edge h (C .placed) E), length-append (S (e .parent)) (partOver rows w (e .letter)));
-      }
+  module _ {k at n : ℕ} {contents contents′ : List ℕ} (B : Backing arcs rows w seen queue k contents at n contents′) where
+    module _ {e : Edge} (h : 0 < at) (E : EdgeOf arcs rows w seen queue at e) where
+      back-split : shownOver arcs rows w seen queue (e .parent) ++ (partOver rows w (e .letter) ++ B .there) ≡ shownOver arcs rows w seen queue k
+      back-split =
+          sym (append-assoc (shownOver arcs rows w seen queue (e .parent)) (partOver rows w (e .letter)) (B .there))
+          ∙ ap₂ (λ p m. shownOver arcs rows w seen queue p ++ partOver rows w m ++ B .there) (E .parent) (E .letter)
+          ∙ ap (λ u. u ++ B .there) (sym (shown-step arcs rows w seen queue at h (B .placed)))
+          ∙ B .is
 
-  -- of what is counted next there is no more than there is
-  pub count-most : {k at n : ℕ} {e : Edge} {p : ℕ} → Counting k at n → 0 < at → EdgeOf arcs rows w seen queue at e
-      → p ≡ length (partOver rows w (e .letter))
-      → n + p ≤ length (S k)
-  count-most {e = e} C h E f =
-      omega (arith, C .is, ap length (shown-edge h (C .placed) E), length-append (S (e .parent)) (partOver rows w (e .letter)))
+      -- there is room for the next part
+      pub back-room : length (shownOver arcs rows w seen queue k) ≤ length contents → n + length (partOver rows w (e .letter)) ≤ length contents′
+      back-room m =
+          omega (
+            arith,
+            laid-length (B .laid),
+            B .laid .next,
+            ap length back-split,
+            length-append (shownOver arcs rows w seen queue (e .parent)) (partOver rows w (e .letter) ++ B .there),
+            length-append (partOver rows w (e .letter)) (B .there),
+          )
 
-  pub count-end : {k at n : ℕ} → Counting k at n → at ≤ 0 → n ≡ length (S k)
-  count-end {at = at} C h =
-      let e : at ≡ 0 = omega arith in
-      omega (arith, C .is, ap length (ap S e ∙ shown-none))
+      pub back-next : {r : ℕ} {contents″ : List ℕ} → Laid (partOver rows w (e .letter)) n contents′ contents″ r
+          → Backing arcs rows w seen queue k contents (e .parent) r contents″
+      back-next p =
+          record {
+            placed = placed-before (B .placed) (E .earlier);
+            there = partOver rows w (e .letter) ++ B .there;
+            laid = laid-before (B .laid) p;
+            is = back-split;
+          }
 
-  -- FILLING: what is left to be put in goes before the place start
-  pub record Filling (k end : ℕ) (contents : List ℕ) (at start : ℕ) (contents′ : List ℕ) : Type 0 where
-    pub placed : Placed seen queue at
-    pub from : start ≡ length (S at)
-    pub long : length contents′ ≡ length contents
-    pub is : S at ++ drop start contents′ ≡ S k ++ drop end contents
-
-  pub fill-begin : {k end : ℕ} (contents : List ℕ) → Placed seen queue k → end ≡ length (S k) → Filling k end contents k end contents
-  fill-begin contents P e = record { placed = P; from = e; long = refl; is = refl }
-
-  module _ {k end at start : ℕ} {contents contents′ : List ℕ} (F : Filling k end contents at start contents′) where
-    -- the part fits in
-    pub fill-room : {e : Edge} → 0 < at → EdgeOf arcs rows w seen queue at e → length (partOver rows w (e .letter)) ≤ start
-    fill-room {e} h E =
-        omega (arith, F .from, ap length (shown-edge h (F .placed) E), length-append (S (e .parent)) (partOver rows w (e .letter)))
-
-    pub fill-within : end ≡ length (S k) → end ≤ length contents → start ≤ length contents′
-    fill-within e h =
-        omega (
-          arith,
-          F .from,
-          F .long,
-          ap length (F .is),
-          length-append (S at) (drop start contents′),
-          length-drop start contents′,
-          length-append (S k) (drop end contents),
-          length-drop end contents,
-        )
-
-    pub fill-next : {e : Edge} {r : ℕ} {contents″ : List ℕ} → 0 < at → EdgeOf arcs rows w seen queue at e
-        → Put (partOver rows w (e .letter)) start contents′ contents″ r → Filling k end contents (e .parent) r contents″
-    fill-next {e} h E p =
-        let more = shown-edge h (F .placed) E in
-        record {
-          placed = placed-before (F .placed) (E .earlier);
-          from = omega (arith, F .from, p .from, ap length more, length-append (S (e .parent)) (partOver rows w (e .letter)));
-          long = p .long ∙ F .long;
-          is =
-              ap (λ l. S (e .parent) ++ l) (p .is)
-              ∙ sym (append-assoc (S (e .parent)) (partOver rows w (e .letter)) (drop start contents′))
-              ∙ ap (λ l. l ++ drop start contents′) (sym more)
-              ∙ F .is;
-        }
-
-    pub fill-end : at ≤ 0 → contents′ ≡ S k ++ drop end contents
-    fill-end h =
+    pub back-end : at ≤ 0 → Laid (shownOver arcs rows w seen queue k) 0 contents contents′ n
+    back-end h =
         let e : at ≡ 0 = omega arith in
-        let none-left : S at ≡ [] = ap S e ∙ shown-none in
-        let first : start ≡ 0 = F .from ∙ ap length none-left in
-        sym (ap (λ n. drop n contents′) first) ∙ ap (λ l. l ++ drop start contents′) (sym none-left) ∙ F .is
+        laid-as (ap (λ u. u ++ B .there) (sym (ap (shownOver arcs rows w seen queue) e ∙ shown-none arcs rows w seen queue)) ∙ B .is) (B .laid)

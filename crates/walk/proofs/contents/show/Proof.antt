@@ -1,27 +1,28 @@
 use native.Mathlib.Omega.{arith}
+use Rattle.walk.specs.Laws.Shown.{laid-turned}
 use borrow.Author.Needs.{needs}
 use Rattle.walk.proofs.contents.show.Statement.{statement}
 use Rattle.walk.proofs.contents.show.Tie as tie
 use Rattle.walk.proofs.contents.show.Reads as reads
 use Rattle.walk.proofs.contents.show.Lts as lts
-use Rattle.walk.proofs.contents.count.Reads as count-reads
-use Rattle.walk.proofs.contents.fill.Reads as fill-reads
+use Rattle.walk.proofs.contents.backwards.Reads as backwards-reads
+use Rattle.walk.proofs.contents.turn.Reads as turn-reads
 
--- src/contents.rt:107:9
-count-requires : tie.Need-count-requires
-count-requires c κs = search needs
+-- src/contents.rt:97:9
+backwards-requires : tie.Need-backwards-requires
+backwards-requires c κs = (c .before .before .before .before .before .before .pre .0, (c .before .before .before .before .before .before .pre .1 .0, omega (arith, c .before .before .before .before .before .before .pre .1 .1)))
 
--- src/contents.rt:108:5
-fill-requires : tie.Need-fill-requires
-fill-requires c κs = (c .before .before .before .before .before .before .before .pre .0, (c .before .before .before .before .before .before .before .pre .1 .0, (c .before .count .ensures, omega (arith, c .before .count .ensures, c .before .before .before .before .before .before .before .pre .1 .1 .0, c .before .before .before .before .before .before .before .pre .1 .1 .1))))
+-- src/contents.rt:98:5
+turn-requires : tie.Need-turn-requires
+turn-requires c κs = search needs
 
--- src/contents.rt:92:1
+-- src/contents.rt:82:1
 same-length : tie.Need-same-length
 same-length c = search needs
 
--- src/contents.rt:92:1
+-- src/contents.rt:82:1
 returns : tie.Need-returns
-returns c = search needs
+returns c = laid-turned (c .before .before .before .before .before .before .backwards .ensures) (omega (arith, c .before .before .before .before .before .before .before .before .before .before .before .before .before .pre .1 .1)) (c .before .before .turn .ensures)
 
 pub show-spec : {M : Type 1} → statement M
-show-spec = tie.close (tie.spec count-requires fill-requires same-length returns)
+show-spec = tie.close (tie.spec backwards-requires turn-requires same-length returns)
