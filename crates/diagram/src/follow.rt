@@ -7,9 +7,9 @@ use session::number::wide;
 use session::pool::Arc;
 use session::pool::arc_of;
 ghost use mathlib.Core.Path.{_≡_};
-ghost use Rattle.meaning.specs.Tables.{rootOf};
+ghost use Rattle.meaning.specs.Tables.{rootOf, finalAt};
 ghost use Rattle.diagram.specs.Said.{saidRoot, saidReached};
-ghost use Rattle.diagram.specs.Follow.{alongArc, finalAt};
+ghost use Rattle.diagram.specs.Follow.{alongArc};
 
 // The root of a control state, if it has one.
 pub enum Root {

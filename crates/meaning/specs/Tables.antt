@@ -1,6 +1,6 @@
 -- The session that the tables of a file describe. Its projections compute, so a proof pays nothing for it.
 use Prim.Native.Nat.{ℕ, zero, suc, _+_, _-_, _*_}
-use mathlib.Core.Bool.{true, false}
+use mathlib.Core.Bool.{Bool, true, false}
 use mathlib.Core.Option.{Option, none, some}
 use mathlib.Core.List.{List, [], _∷_}
 use lib.ListN.{getD, take, drop}
@@ -54,8 +54,13 @@ modelOf m q τ =
 abbrev pub arcOf : List ℕ → ℕ → ℕ → Option ℕ
 arcOf arcs s m = elim (ltb m mostMessages) [ true ↦ arcAt arcs s m | false ↦ none ]
 
+-- a final state is marked by 1; nowhere is not final
+abbrev pub finalAt : List ℕ → Option ℕ → Bool
+finalAt finals none = false
+finalAt finals (some s) = eqb (getD finals s 0) 1
+
 abbrev pub poolOf : Declared.Pool → Pool
-poolOf P = record { states = P .count; final = λ s. eqb (getD (P .finals) s 0) 1; arc = arcOf (P .arcs) }
+poolOf P = record { states = P .count; final = λ s. finalAt (P .finals) (some s); arc = arcOf (P .arcs) }
 
 -- 0 is no root, else 1 is added to it
 abbrev pub rootOf : List ℕ → ℕ → Option ℕ

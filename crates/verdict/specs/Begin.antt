@@ -12,11 +12,6 @@ use Rattle.session.specs.declared.tables.Machines.{Machines}
 abbrev pub startsOf : Machines → List ℕ
 startsOf m = take (m .count) (m .starts)
 
--- whether a place is final
-abbrev pub finalOf : List ℕ → Option ℕ → Bool
-finalOf finals none = false
-finalOf finals (some s) = eqb (getD finals s 0) 1
-
 -- every root has its final mark
 pub record RootsIn (roots finals : List ℕ) : Type 0 where
   pub long : length finals ≡ 127

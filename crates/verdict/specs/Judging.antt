@@ -14,19 +14,11 @@ use Rattle.session.specs.declared.tables.Tables.{Tables}
 use Rattle.model.specs.Verdict.{step, entry, Reply, closed, leaves, bad}
 use Rattle.walk.specs.Pairs.{mostPairs}
 use Rattle.walk.specs.Marks.{Blank}
+use Rattle.walk.specs.Judged.{saidJudged, shownBy}
 use Rattle.walk.specs.declared.judge.Judged.{Judged}
 use Rattle.walk.specs.declared.judge.Judged.the-variants.{Passes, Fails}
 use Rattle.verdict.specs.declared.judged.Progress.{Progress}
 use Rattle.verdict.specs.declared.judged.Progress.the-variants.{Passed, Leaves, Meets}
-
--- the contents shown stand at the front of the buffer
-abbrev pub said : Judged → List ℕ → Model.Judged
-said (Passes pairs) contents = Model.passes pairs
-said (Fails shown) contents = Model.fails (take shown contents)
-
-abbrev pub shownBy : Judged → ℕ
-shownBy (Passes pairs) = 0
-shownBy (Fails shown) = shown
 
 abbrev pub pairsOf : Judged → ℕ
 pairsOf (Passes pairs) = pairs
@@ -46,7 +38,7 @@ pub record Scratch (seen queue : List ℕ) : Type 0 where
 
 -- ONE ITEM: the judgement for all tables with what was lent of them, the buffer and the scratch tables
 pub record Judging (P : Tables → Type 0) (o : Tables → Model.Judged) (contents₀ : List ℕ) (r : Judged) (contents₁ seen₁ queue₁ : List ℕ) : Type 0 where
-  pub is : (T : Tables) → P T → said r contents₁ ≡ o T
+  pub is : (T : Tables) → P T → saidJudged r contents₁ ≡ o T
   pub few : pairsOf r ≤ mostPairs
   pub kept : Kept (shownBy r) contents₀ contents₁
   pub scratch : Scratch seen₁ queue₁

@@ -8,9 +8,9 @@ ghost use mathlib.Core.Path.{_≡_};
 ghost use lib.ListN.{take};
 ghost use Rattle.session.specs.Laws.Machines.{MachinesValid};
 ghost use Rattle.model.specs.Model.{number};
-ghost use Rattle.meaning.specs.Tables.{rootOf};
+ghost use Rattle.meaning.specs.Tables.{rootOf, finalAt};
 ghost use Rattle.verdict.specs.Controls.{sizesOf};
-ghost use Rattle.verdict.specs.Begin.{startsOf, finalOf, RootsIn};
+ghost use Rattle.verdict.specs.Begin.{startsOf, RootsIn};
 ghost use Rattle.verdict.specs.Laws.Begin.{Numberable};
 
 // The number of the control state in which machine i is in state starts[i].
@@ -41,7 +41,7 @@ fn first_control(m: Machines) -> ControlState
 pub fn begins_inside(m: Machines, roots: &[u8], finals: &[u8]) -> bool
     requires { ⌜ MachinesValid m ⌝ }
     requires { ⌜ RootsIn (now roots) (now finals) ⌝ }
-    ensures { λ r. ⌜ r ≡ finalOf (now (finals .entry)) (rootOf (now (roots .entry)) (number (sizesOf m) (startsOf m))) ⌝ }
+    ensures { λ r. ⌜ r ≡ finalAt (now (finals .entry)) (rootOf (now (roots .entry)) (number (sizesOf m) (startsOf m))) ⌝ }
 {
     let c = first_control(m);
     let root = place_of(roots, c);

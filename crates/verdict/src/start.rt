@@ -6,6 +6,8 @@ use session::number::wide;
 use session::queues::messages_of;
 use session::tables::Machines;
 use session::tables::Queues;
+use walk::pairs::AFTER;
+use walk::pairs::NOWHERE;
 ghost use mathlib.Core.Path.{_≡_};
 ghost use Prim.Native.Nat.{_+_, _<_, _≤_};
 ghost use lib.ListN.{length, getD};
@@ -23,9 +25,6 @@ pub struct Cut {
     pub out: usize,
     pub into: usize,
 }
-
-// The first number of the after side, where a local step starts.
-const AFTER: usize = 16256;
 
 // The action of the transition whose row begins here.
 pub fn cut_of(q: Queues, rows: &[u8], row: usize) -> Cut
@@ -62,14 +61,14 @@ pub fn cut_of(q: Queues, rows: &[u8], row: usize) -> Cut
     }
 }
 
-// The root of a control state as a place: 127, which is no state, where it has none.
+// The root of a control state as a place: nowhere where it has none.
 pub fn place_of(roots: &[u8], c: ControlState) -> u8
     requires { ⌜ getD (now roots) (c .0) 0 ≤ 127 ⌝ }
     ensures { λ r. ⌜ PlaceAt (now (roots .entry)) (c .0) r ⌝ }
 {
     let root = entry(roots, wide(c.0));
     if root == 0 {
-        return 127;
+        return NOWHERE;
     }
     root - 1
 }

@@ -6,7 +6,7 @@ use mathlib.Core.List.{List}
 use Prim.Native.Nat.{ℕ, suc, _+_, _≤_, _<_}
 use lib.Dec.{ltb, eqb}
 use lib.ListN.{length, getD, take, drop}
-use Rattle.meaning.specs.Tables.{arcOf}
+use Rattle.meaning.specs.Tables.{arcOf, finalAt}
 use Rattle.explore.specs.Search.{Outcome, searchFrom}
 use Rattle.model.specs.Model.{messages}
 use Rattle.model.specs.Session.{Session}
@@ -61,15 +61,11 @@ module _ (arcs rows : List ℕ) (w : Walk) where
       ]
 
 -- whether a place is final
-abbrev pub finalOver : List ℕ → Option ℕ → Bool
-finalOver finals none = false
-finalOver finals (some s) = eqb (getD finals s 0) 1
-
 -- a pair that fails: of a step, where the source accepts and the target does not; of a bad entry, where both do
 unfoldable pub wrongOver : List ℕ → Bool → Pair → Bool
 wrongOver finals entry (before s t) = false
 wrongOver finals entry (after s t) =
-    finalOver finals (some s) && elim entry [ true ↦ finalOver finals t | false ↦ not (finalOver finals t) ]
+    finalAt finals (some s) && elim entry [ true ↦ finalAt finals t | false ↦ not (finalAt finals t) ]
 
 -- THE SEARCH that the code makes; there are no more pairs than numbers, so the fuel is enough
 abbrev pub searchOver : List ℕ → List ℕ → List ℕ → Walk → Pair → Outcome Pair

@@ -14,9 +14,10 @@ ghost use Prim.Native.Nat.{suc, _-_, _<_, _≤_};
 ghost use lib.ListN.{length};
 ghost use Rattle.explore.specs.Search.{search as searched};
 ghost use Rattle.model.specs.Judge.{same};
+ghost use Rattle.meaning.specs.Tables.{finalAt};
 ghost use Rattle.walk.specs.Pairs.{mostPairs, place, pairOf, NodeFits};
 ghost use Rattle.walk.specs.Marks.{view, Tables, Pushed, Swept, Blank};
-ghost use Rattle.walk.specs.Over.{goOver, finalOver, wrongOver, searchOver, readFrom, ArcsSmall, Lent};
+ghost use Rattle.walk.specs.Over.{goOver, wrongOver, searchOver, readFrom, ArcsSmall, Lent};
 ghost use Rattle.walk.specs.Leads.{saidNext, Small};
 ghost use Rattle.walk.specs.Answers.{Answered};
 
@@ -99,7 +100,7 @@ fn visit(
 fn is_final(finals: &[u8], s: u8) -> bool
     requires { ⌜ length (now finals) ≡ 127 ⌝ }
     requires { ⌜ s ≤ 127 ⌝ }
-    ensures { λ r. ⌜ r ≡ finalOver (now (finals .entry)) (place s) ⌝ }
+    ensures { λ r. ⌜ r ≡ finalAt (now (finals .entry)) (place s) ⌝ }
 {
     if s == NOWHERE {
         return false;

@@ -15,9 +15,9 @@ use Rattle.session.specs.declared.tables.Queues.{Queues}
 use Rattle.session.specs.declared.tables.Pool.{Pool}
 use Rattle.model.specs.Model.{product, total}
 use Rattle.model.specs.Diagram.{along, isFinal}
-use Rattle.meaning.specs.Tables.{arcOf, poolOf, rootOf}
+use Rattle.meaning.specs.Tables.{arcOf, poolOf, rootOf, finalAt}
 use Rattle.meaning.specs.Laws.Counts.{product-is, total-is}
-use Rattle.diagram.specs.Follow.{alongArc, finalAt}
+use Rattle.diagram.specs.Follow.{alongArc}
 
 pub controls-are : {m : Machines} → MachinesValid m → product (take (m .count) (m .states)) ≡ m .product
 controls-are {m} v = product-is (m .states) (m .count) (omega (arith, v .most, v .statesLong)) ∙ sym (v .product)

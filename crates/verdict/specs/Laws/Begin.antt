@@ -20,13 +20,13 @@ use Rattle.model.specs.Session.{inside}
 use Rattle.model.specs.Verdict.{Item, start, Reply, outside}
 use Rattle.model.specs.Judge.{decide, judge, passes, fails}
 use Rattle.model.specs.Laws.Deciding.{decide-passes, decide-fails}
-use Rattle.meaning.specs.Tables.{sessionOf, rootOf}
+use Rattle.meaning.specs.Tables.{sessionOf, rootOf, finalAt}
 use Rattle.model.specs.Laws.Controls.{number-below}
 use Rattle.meaning.specs.Laws.Counts.{states-are}
 use Rattle.verdict.specs.Controls.{sizesOf}
 use Rattle.verdict.specs.Laws.Controls.{Stepped, sizes-stepped, sizes-product}
 use Rattle.verdict.specs.Start.{PlaceAt}
-use Rattle.verdict.specs.Begin.{startsOf, finalOf}
+use Rattle.verdict.specs.Begin.{startsOf}
 use Rattle.verdict.specs.Laws.Item.{place-state, place-nowhere}
 
 -- WHAT IS ASKED to number the states of so many machines
@@ -82,14 +82,14 @@ word-empty (n ∷ ns) = word-empty ns
 
 -- the start is inside if the root of its control state is final
 pub begin-inside : (T : Tables) → inside (sessionOf T) (begin (sessionOf T .model))
-    ≡ finalOf (T .pool .finals) (rootOf (T .map .roots) (number (sizesOf (T .machines)) (startsOf (T .machines))))
+    ≡ finalAt (T .pool .finals) (rootOf (T .map .roots) (number (sizesOf (T .machines)) (startsOf (T .machines))))
 begin-inside T =
     ap (λ u. accepts (sessionOf T .pool) c u) (word-empty (sessionOf T .model .queues)) ∙ byPlace c
   where
     c : Option ℕ
     c = rootOf (T .map .roots) (number (sizesOf (T .machines)) (startsOf (T .machines)))
 
-    byPlace : (o : Option ℕ) → accepts (sessionOf T .pool) o [] ≡ finalOf (T .pool .finals) o
+    byPlace : (o : Option ℕ) → accepts (sessionOf T .pool) o [] ≡ finalAt (T .pool .finals) o
     byPlace none = refl
     byPlace (some s) = refl
 
@@ -105,8 +105,8 @@ module _ (T : Tables) (is : List Item) where
 
 -- a place is final by its mark, and nowhere is not
 module _ (roots finals : List ℕ) (c n r : ℕ) (p : PlaceAt roots c r) (e : c ≡ n) where
-  pub nowhere-final : r ≡ 127 → false ≡ finalOf finals (rootOf roots n)
-  nowhere-final z = sym (ap (finalOf finals) (ap (rootOf roots) (sym e) ∙ sym (p .is) ∙ place-nowhere r z))
+  pub nowhere-final : r ≡ 127 → false ≡ finalAt finals (rootOf roots n)
+  nowhere-final z = sym (ap (finalAt finals) (ap (rootOf roots) (sym e) ∙ sym (p .is) ∙ place-nowhere r z))
 
-  pub state-final : (r ≡ 127 → ⊥) → eqb (getD finals r 0) 1 ≡ finalOf finals (rootOf roots n)
-  state-final z = sym (ap (finalOf finals) (ap (rootOf roots) (sym e) ∙ sym (p .is) ∙ place-state r z))
+  pub state-final : (r ≡ 127 → ⊥) → eqb (getD finals r 0) 1 ≡ finalAt finals (rootOf roots n)
+  state-final z = sym (ap (finalAt finals) (ap (rootOf roots) (sym e) ∙ sym (p .is) ∙ place-state r z))

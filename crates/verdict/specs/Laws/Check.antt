@@ -16,12 +16,12 @@ use Rattle.model.specs.Session.{Session, inside}
 use Rattle.model.specs.Verdict.{Reply, outside, stepsFrom, entriesFrom}
 use Rattle.model.specs.Judge as Model
 use Rattle.model.specs.Judge.{decide}
-use Rattle.meaning.specs.Tables.{sessionOf, rootOf, entriesFrom as entriesIn}
+use Rattle.meaning.specs.Tables.{sessionOf, rootOf, entriesFrom as entriesIn, finalAt}
 use Rattle.meaning.specs.Reply.{FileReply, verdict}
 use Rattle.walk.specs.Pairs.{mostPairs}
 use Rattle.walk.specs.Marks.{Blank}
 use Rattle.verdict.specs.Controls.{sizesOf}
-use Rattle.verdict.specs.Begin.{startsOf, finalOf, RootsIn}
+use Rattle.verdict.specs.Begin.{startsOf, RootsIn}
 use Rattle.verdict.specs.Judging.{Kept, Scratch, saidSoFar, shownSoFar, Judges, AllParts, AllAsked}
 use Rattle.verdict.specs.Check.{saidVerdict, shownIn, concluded, Room, Concludes}
 use Rattle.verdict.specs.Laws.Controls.{sizes-product}
@@ -89,14 +89,14 @@ module _ {m : Machines} {q : Queues} {rows arcs finals roots entries : List ℕ}
       }
 
   inside-is : {T : Tables} → AllParts T m q rows arcs finals roots entries count many → (b : Bool)
-      → b ≡ finalOf finals (rootOf roots (number (sizesOf m) (startsOf m))) → inside (sessionOf T) (begin (sessionOf T .model)) ≡ b
+      → b ≡ finalAt finals (rootOf roots (number (sizesOf m) (startsOf m))) → inside (sessionOf T) (begin (sessionOf T .model)) ≡ b
   inside-is {T} p b e =
       begin-inside T
-      ∙ ap (λ n. finalOf (T .pool .finals) (rootOf (T .map .roots) (number (sizesOf n) (startsOf n)))) (p .parts .sameMachines)
-      ∙ ap₂ (λ f r. finalOf f (rootOf r (number (sizesOf m) (startsOf m)))) (p .parts .sameFinals) (p .parts .sameRoots)
+      ∙ ap (λ n. finalAt (T .pool .finals) (rootOf (T .map .roots) (number (sizesOf n) (startsOf n)))) (p .parts .sameMachines)
+      ∙ ap₂ (λ f r. finalAt f (rootOf r (number (sizesOf m) (startsOf m)))) (p .parts .sameFinals) (p .parts .sameRoots)
       ∙ sym e
 
-  pub outside-concludes : finalOf finals (rootOf roots (number (sizesOf m) (startsOf m))) ≡ false → {seen queue contents : List ℕ}
+  pub outside-concludes : finalAt finals (rootOf roots (number (sizesOf m) (startsOf m))) ≡ false → {seen queue contents : List ℕ}
       → Concludes (λ T. AllParts T m q rows arcs finals roots entries count many) seen queue contents Outside seen queue contents
   unfolding Model.verdict
   outside-concludes e =
@@ -108,7 +108,7 @@ module _ {m : Machines} {q : Queues} {rows arcs finals roots entries : List ℕ}
       }
 
   -- THE ITEMS after it
-  pub items-conclude : finalOf finals (rootOf roots (number (sizesOf m) (startsOf m))) ≡ true → {n : ℕ} {seen queue contents : List ℕ}
+  pub items-conclude : finalAt finals (rootOf roots (number (sizesOf m) (startsOf m))) ≡ true → {n : ℕ} {seen queue contents : List ℕ}
       → Room n seen queue contents → {r : Progress} {seen′ queue′ contents₁ seen₁ queue₁ : List ℕ}
       → Judges (λ T. AllParts T m q rows arcs finals roots entries count many) 1100000000 (allHere (m .product) entries many) contents r contents₁ seen′ queue′
       → seen₁ ≡ seen′ ++ drop n seen → queue₁ ≡ queue′ ++ drop n queue → {v : Verdict} → v ≡ concluded r

@@ -24,7 +24,7 @@ use Rattle.meaning.specs.Tables.{sessionOf, transitionAt}
 use Rattle.walk.specs.Pairs.{mostPairs}
 use Rattle.verdict.specs.Controls.{sizesOf}
 use Rattle.verdict.specs.Start.{IsAt}
-use Rattle.verdict.specs.Judging.{said, Kept, Scratch, Judging, saidSoFar, Judges, StepsAsked, StepAsked, Parts}
+use Rattle.verdict.specs.Judging.{Kept, Scratch, Judging, saidSoFar, Judges, StepsAsked, StepAsked, Parts}
 use Rattle.verdict.specs.Laws.Controls.{sizes-product}
 use Rattle.verdict.specs.Laws.Turns.{transition-at, turn-skips, turn-passes, turn-fails}
 use Rattle.walk.specs.declared.judge.Judged.{Judged}

@@ -28,14 +28,14 @@ use Rattle.meaning.specs.Laws.Sessions.{well-formed}
 use Rattle.walk.specs.Pairs.{mostPairs, pairOf, NodeFits, afterSide}
 use Rattle.walk.specs.Marks.{Blank}
 use Rattle.walk.specs.Over.{Lent, ArcsSmall, WordWithin}
-use Rattle.walk.specs.Judged.{judgedOver, ShownFits, Judges, shownOf, saidJudged, shownBy as walkShownBy}
+use Rattle.walk.specs.Judged.{judgedOver, ShownFits, Judges, shownOf, saidJudged, shownBy}
 use Rattle.walk.specs.Laws.Valid.{arcs-small}
 use Rattle.walk.specs.declared.pairs.Walk.{Walk}
 use Rattle.walk.specs.declared.pairs.Node.{Node}
 use Rattle.walk.specs.declared.judge.Judged.{Judged}
 use Rattle.walk.specs.declared.judge.Judged.the-variants.{Passes, Fails}
 use Rattle.verdict.specs.Start.{Cuts, PlaceAt, Moved}
-use Rattle.verdict.specs.Judging.{said, shownBy, pairsOf, Kept, Scratch, Judging, Parts, EntryParts, StepAsked, EntryAsked}
+use Rattle.verdict.specs.Judging.{pairsOf, Kept, Scratch, Judging, Parts, EntryParts, StepAsked, EntryAsked}
 use Rattle.verdict.specs.Laws.Turns.{judged-item, few-pairs}
 use Rattle.verdict.specs.Laws.Item.{step-nothing, step-judged, step-fits, entry-nothing, entry-judged, entry-fits}
 use Rattle.verdict.specs.declared.start.Cut.{Cut}
@@ -53,10 +53,10 @@ kept-front u contents contents′ n e is long =
 
 -- so many pairs and no more
 few-passed : (T : Tables) (p : Valid T) (i : Item) → IsItem (sessionOf T) i → (r : Judged) (contents : List ℕ)
-    → said r contents ≡ judgeBySearch (sessionOf T) mostPairs i → most (sessionOf T) i ≤ mostPairs → pairsOf r ≤ mostPairs
+    → saidJudged r contents ≡ judgeBySearch (sessionOf T) mostPairs i → most (sessionOf T) i ≤ mostPairs → pairsOf r ≤ mostPairs
 few-passed T v i item r contents e m = go r e
   where
-    go : (r : Judged) → said r contents ≡ judgeBySearch (sessionOf T) mostPairs i → pairsOf r ≤ mostPairs
+    go : (r : Judged) → saidJudged r contents ≡ judgeBySearch (sessionOf T) mostPairs i → pairsOf r ≤ mostPairs
     go (Passes n) e = omega (arith, judge-bound (sessionOf T) (well-formed T v) i (is-item (sessionOf T) i item) n (judged-item T v i item ∙ sym e), m)
     go (Fails n) e = omega arith
 
@@ -64,15 +64,6 @@ entry-few : (T : Tables) → Valid T → T .pool .count * T .pool .count ≤ mos
 entry-few T v =
     let p : T .pool .count * T .pool .count ≤ 127 * 127 = mul-le-mul (v .pool .most) (v .pool .most) in
     omega arith
-
--- the two ways to say an answer are one
-said-same : (r : Judged) (contents : List ℕ) → said r contents ≡ saidJudged r contents
-said-same (Passes n) contents = refl
-said-same (Fails n) contents = refl
-
-shown-same : (r : Judged) → shownBy r ≡ walkShownBy r
-shown-same (Passes n) = refl
-shown-same (Fails n) = refl
 
 -- what holds of all parts of tables holds of what is lent of them
 over-parts : {T : Tables} {m : Machines} {q : Queues} {rows arcs finals roots : List ℕ} {count : ℕ}
@@ -207,13 +198,13 @@ module _ {m : Machines} {q : Queues} {rows arcs finals roots : List ℕ} {c sour
         contents r contents′ seen′ queue′
     step-walked {contents} {contents′} {seen′} {queue′} {r} j ls lq lc =
         record {
-          is = λ T p. said-same r contents′ ∙ j .reply ∙ step-is p 0;
+          is = λ T p. j .reply ∙ step-is p 0;
           few =
               few-passed (a .whole) (a .parts .valid) (step c (a .number) (transitionAt rows row)) (a .item) r contents′
-              (said-same r contents′ ∙ j .reply ∙ step-is (a .parts) (a .number)) (few-pairs (a .whole) (a .parts .valid));
+              (j .reply ∙ step-is (a .parts) (a .number)) (few-pairs (a .whole) (a .parts .valid));
           kept =
               kept-front (shownOf (judgedOver arcs finals rows (walkOf q row k) (pairOf (nodeOf k source target)))) contents contents′ (shownBy r)
-              (shown-same r ∙ j .number) (j .shown) lc;
+              (j .number) (j .shown) lc;
           scratch = record { seenLong = ls; queueLong = lq; blank = j .blank };
         }
 
@@ -296,12 +287,12 @@ module _ {q : Queues} {rows arcs finals roots : List ℕ} {control root : ℕ} (
           → Judging Over judged contents r contents′ seen′ queue′
       entry-walked {contents} {contents′} {seen′} {queue′} {r} j ls lq lc =
           record {
-            is = λ T p. said-same r contents′ ∙ j .reply ∙ entry-is p 0;
+            is = λ T p. j .reply ∙ entry-is p 0;
             few =
                 few-passed (a .whole) (a .parts .valid) (entry (a .number) (control, root)) (a .item) r contents′
-                (said-same r contents′ ∙ j .reply ∙ entry-is (a .parts) (a .number)) (entry-few (a .whole) (a .parts .valid));
+                (j .reply ∙ entry-is (a .parts) (a .number)) (entry-few (a .whole) (a .parts .valid));
             kept =
                 kept-front (shownOf (judgedOver arcs finals rows (entryWalkOf q) (pairOf (entryNodeOf source root)))) contents contents′ (shownBy r)
-                (shown-same r ∙ j .number) (j .shown) lc;
+                (j .number) (j .shown) lc;
             scratch = record { seenLong = ls; queueLong = lq; blank = j .blank };
           }

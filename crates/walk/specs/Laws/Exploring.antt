@@ -14,6 +14,7 @@ use Rattle.explore.specs.SearchLaws.{search-end, search-found, search-on}
 use Rattle.session.specs.PartLaws.{one-more}
 use Rattle.model.specs.Verdict.{Pair}
 use Rattle.model.specs.Judge.{same}
+use Rattle.meaning.specs.Tables.{finalAt}
 use Rattle.walk.specs.declared.pairs.Node.{Node}
 use Rattle.walk.specs.declared.search.Outcome.{Outcome}
 use Rattle.walk.specs.declared.search.Outcome.the-variants as Answer
@@ -21,7 +22,7 @@ use Rattle.walk.specs.Pairs.{mostPairs, place, sideOf, decode, pairOf, N
 use Rattle.walk.specs.Laws.Pairs.{place-small, after-side}
 use Rattle.walk.specs.Marks.{foundAt, view, Tables, Pushed, Swept}
 use Rattle.walk.specs.Laws.Marks.{tables-most, view-length, swept-more}
-use Rattle.walk.specs.Over.{finalOver, wrongOver}
+use Rattle.walk.specs.Over.{wrongOver}
 use Rattle.walk.specs.Answers.{Answered}
 
 -- the pair at a place of the queue
@@ -93,26 +94,26 @@ module _ (finals : List ℕ) (entry : Bool) (x : Node) where
 
   module _ (fits : NodeFits x) (far : x .side ≡ 0 → ⊥) where
     fails-after : wrongOver finals entry (pairOf x)
-        ≡ finalOver finals (place (x .source)) && elim entry [ true ↦ finalOver finals (place (x .target)) | false ↦ not (finalOver finals (place (x .target))) ]
+        ≡ finalAt finals (place (x .source)) && elim entry [ true ↦ finalAt finals (place (x .target)) | false ↦ not (finalAt finals (place (x .target))) ]
     unfolding wrongOver
     fails-after =
         ap (λ k. wrongOver finals entry (sideOf k (x .source) (place (x .target)))) (after-side fits far)
-        ∙ ap (λ o. finalOver finals o && elim entry [ true ↦ finalOver finals (place (x .target)) | false ↦ not (finalOver finals (place (x .target))) ])
+        ∙ ap (λ o. finalAt finals o && elim entry [ true ↦ finalAt finals (place (x .target)) | false ↦ not (finalAt finals (place (x .target))) ])
         (sym (place-small (fits .source)))
 
-    pub fails-source : finalOver finals (place (x .source)) ≡ false → wrongOver finals entry (pairOf x) ≡ false
+    pub fails-source : finalAt finals (place (x .source)) ≡ false → wrongOver finals entry (pairOf x) ≡ false
     fails-source e =
-        fails-after ∙ ap (λ b. b && elim entry [ true ↦ finalOver finals (place (x .target)) | false ↦ not (finalOver finals (place (x .target))) ]) e
+        fails-after ∙ ap (λ b. b && elim entry [ true ↦ finalAt finals (place (x .target)) | false ↦ not (finalAt finals (place (x .target))) ]) e
 
-    pub fails-entry : finalOver finals (place (x .source)) ≡ true → entry ≡ true → wrongOver finals entry (pairOf x) ≡ finalOver finals (place (x .target))
+    pub fails-entry : finalAt finals (place (x .source)) ≡ true → entry ≡ true → wrongOver finals entry (pairOf x) ≡ finalAt finals (place (x .target))
     fails-entry e t =
         fails-after
-        ∙ ap₂ (λ b d. b && elim d [ true ↦ finalOver finals (place (x .target)) | false ↦ not (finalOver finals (place (x .target))) ]) e t
+        ∙ ap₂ (λ b d. b && elim d [ true ↦ finalAt finals (place (x .target)) | false ↦ not (finalAt finals (place (x .target))) ]) e t
 
-    pub fails-step : finalOver finals (place (x .source)) ≡ true → entry ≡ false → wrongOver finals entry (pairOf x) ≡ not (finalOver finals (place (x .target)))
+    pub fails-step : finalAt finals (place (x .source)) ≡ true → entry ≡ false → wrongOver finals entry (pairOf x) ≡ not (finalAt finals (place (x .target)))
     fails-step e t =
         fails-after
-        ∙ ap₂ (λ b d. b && elim d [ true ↦ finalOver finals (place (x .target)) | false ↦ not (finalOver finals (place (x .target))) ]) e t
+        ∙ ap₂ (λ b d. b && elim d [ true ↦ finalAt finals (place (x .target)) | false ↦ not (finalAt finals (place (x .target))) ]) e t
 
 -- THE FIRST PAIR is found from no other
 pub begins : {seen queue seen′ queue′ : List ℕ} {r : ℕ} {x y : Pair} → Pushed seen queue 0 0 (some x) seen′ queue′ r → x ≡ y

@@ -6,7 +6,7 @@ use mathlib.Core.List.{List, [], _∷_}
 use Prim.Native.Nat.{ℕ, suc}
 use lib.Dec.{ltb, eqb}
 use Rattle.explore.specs.Search.{searchFrom}
-use Rattle.meaning.specs.Tables.{arcOf}
+use Rattle.meaning.specs.Tables.{arcOf, finalAt}
 use Rattle.model.specs.Diagram.{along, follow, isFinal}
 use Rattle.model.specs.Session.{Session}
 use Rattle.model.specs.Verdict.{Pair, before, after}
@@ -15,7 +15,7 @@ use Rattle.model.specs.Judge.{same, pair, read, jump, go, wrong}
 use Rattle.model.specs.Searched.{settled, searched}
 use Rattle.walk.specs.declared.pairs.Walk.{Walk}
 use Rattle.walk.specs.Pairs.{mostPairs}
-use Rattle.walk.specs.Over.{poolOver, walkOver, jumpOver, goOver, finalOver, wrongOver, searchOver, Over}
+use Rattle.walk.specs.Over.{poolOver, walkOver, jumpOver, goOver, wrongOver, searchOver, Over}
 
 module _ (arcs finals rows : List ℕ) (w : Walk) (S : Session) (o : Over arcs finals (w .sum) S) where
   abbrev W : Judge.Walk
@@ -29,7 +29,7 @@ module _ (arcs finals rows : List ℕ) (w : Walk) (S : Session) (o : Over arcs f
   follow-over t [] = refl
   follow-over t (m ∷ u) = follow-over (along (S .pool) t m) u ∙ ap (λ t. follow (poolOver arcs) t u) (along-over t m)
 
-  final-over : (t : Option ℕ) → isFinal (S .pool) t ≡ finalOver finals t
+  final-over : (t : Option ℕ) → isFinal (S .pool) t ≡ finalAt finals t
   final-over none = refl
   final-over (some s) = ap (λ f. f s) (o .final)
 
