@@ -1,0 +1,140 @@
+/*
+ * Swarmbanner for C and C++: reading session files, membership, and checking.
+ *
+ * Every call takes any bytes as the file, also broken ones, and any lengths. It returns the kind of its reply, and three
+ * numbers that go with it fill the front of `reply`; entries after these keep their values.
+ *
+ *   kind                          reply[0]        reply[1]        reply[2]
+ *   SWARMBANNER_CLOSED            pairs visited   0               0
+ *   SWARMBANNER_OUTSIDE           0               0               0
+ *   SWARMBANNER_LEAVES            control state   transition      messages shown
+ *   SWARMBANNER_BAD               bad entry       messages shown  0
+ *   SWARMBANNER_REFUSED           number          place           0
+ *   SWARMBANNER_READ, _YES, _NO   0               0               0
+ *   SWARMBANNER_NO_ROOM           nothing is written, here or elsewhere
+ *
+ * What the caller answers for: a pointer is valid for its length, for reading or, where it is not const, for reading and
+ * writing; memory that is written to overlaps nothing else that is passed. A pointer with length 0 may be NULL. The
+ * library keeps no state, allocates nothing and calls nothing back, so calls on different memory may run at the same time.
+ */
+#ifndef SWARMBANNER_H
+#define SWARMBANNER_H
+
+#include <stddef.h>
+#include <stdint.h>
+
+#ifdef __cplusplus
+extern "C" {
+#endif
+
+/* Kinds of reply. */
+#define SWARMBANNER_CLOSED 0u
+#define SWARMBANNER_OUTSIDE 1u
+#define SWARMBANNER_LEAVES 2u
+#define SWARMBANNER_BAD 3u
+#define SWARMBANNER_REFUSED 4u
+#define SWARMBANNER_NO_ROOM 5u
+#define SWARMBANNER_READ 6u
+#define SWARMBANNER_YES 7u
+#define SWARMBANNER_NO 8u
+
+/* Numbers of a refusal. */
+#define SWARMBANNER_REFUSED_LONG 1u          /* more than 16,384 bytes; the place is 16,384 */
+#define SWARMBANNER_REFUSED_MEMORY 2u        /* checking: lent memory too short; the place is 0 */
+#define SWARMBANNER_REFUSED_ENDS 3u          /* bytes end before a number or inside one; the place is the file's length */
+#define SWARMBANNER_REFUSED_FORM 4u          /* a number in a form that is not allowed */
+#define SWARMBANNER_REFUSED_RANGE 5u         /* a number outside its field's range */
+#define SWARMBANNER_REFUSED_TOTAL 6u         /* product of states passes 256, or sum of messages passes 32 */
+#define SWARMBANNER_REFUSED_QUEUE 7u         /* message of a transition is in another queue */
+#define SWARMBANNER_REFUSED_ASCENT 8u        /* arc messages do not ascend */
+#define SWARMBANNER_REFUSED_ORDER 9u         /* pool not in queue order; the place is the first after the pool */
+#define SWARMBANNER_REFUSED_MORE 10u         /* bytes after the last field */
+#define SWARMBANNER_REFUSED_CONTROL 11u      /* membership: control state not below their number; the place is 0 */
+#define SWARMBANNER_REFUSED_MESSAGE 12u      /* membership: message not below the sum; its place in the contents */
+#define SWARMBANNER_REFUSED_EARLIER 13u      /* membership: message of an earlier queue than the one before it */
+
+/* The least that a call needs, in entries of the type that is lent. */
+#define SWARMBANNER_REPLY_LEAST 3u
+#define SWARMBANNER_SPACE_LEAST 5873u
+#define SWARMBANNER_TABLE_LEAST 32512u
+#define SWARMBANNER_CONTENTS_LEAST 32768u
+
+/* What a file can have. */
+#define SWARMBANNER_FILE_MOST 16384u
+#define SWARMBANNER_MACHINES_MOST 4u
+#define SWARMBANNER_CONTROL_STATES_MOST 256u
+#define SWARMBANNER_QUEUES_MOST 4u
+#define SWARMBANNER_MESSAGES_MOST 32u
+#define SWARMBANNER_TRANSITIONS_MOST 128u
+#define SWARMBANNER_WORD_MOST 4u
+#define SWARMBANNER_POOL_STATES_MOST 127u
+#define SWARMBANNER_BAD_ENTRIES_MOST 64u
+
+/*
+ * Where the tables lie in the space of `swarmbanner_read`, one byte an entry; entries beyond the counts are 0.
+ *
+ *   AT_COUNTS       6        machines, queues, messages of all queues, transitions, pool states, bad entries
+ *   AT_STATES       4        states of each machine
+ *   AT_STARTS       4        starting state of each machine
+ *   AT_MESSAGES     4        messages of each queue
+ *   AT_TRANSITIONS  128 x 10 machine, from, to, kind (0 local, 1 send, 2 receive), queue, word length, 4 messages
+ *   AT_FINALS       127      1 for a final pool state
+ *   AT_ARCS         127 x 32 for a pool state and a message: 0 for no arc, else 1 plus the target
+ *   AT_ROOTS        256      for a control state: 0 for no root, else 1 plus the root
+ *   AT_BAD          64 x 2   control state, root (as it is, without the 1 added)
+ */
+#define SWARMBANNER_AT_COUNTS 0u
+#define SWARMBANNER_AT_STATES 6u
+#define SWARMBANNER_AT_STARTS 10u
+#define SWARMBANNER_AT_MESSAGES 14u
+#define SWARMBANNER_AT_TRANSITIONS 18u
+#define SWARMBANNER_AT_FINALS 1298u
+#define SWARMBANNER_AT_ARCS 1425u
+#define SWARMBANNER_AT_ROOTS 5489u
+#define SWARMBANNER_AT_BAD 5745u
+#define SWARMBANNER_TRANSITION_ROW 10u
+#define SWARMBANNER_ARC_ROW 32u
+#define SWARMBANNER_BAD_ROW 2u
+
+/*
+ * Reads a file.
+ *
+ * READ: the tables fill the first SWARMBANNER_SPACE_LEAST bytes of `space`, the rest of it keeps its bytes.
+ * REFUSED, 1 and 3 to 10: `space` is as it was.
+ * NO_ROOM: `space` has under SWARMBANNER_SPACE_LEAST bytes or `reply` under SWARMBANNER_REPLY_LEAST entries.
+ */
+size_t swarmbanner_read(const uint8_t *file, size_t file_len,
+                        uint8_t *space, size_t space_len,
+                        size_t *reply, size_t reply_len);
+
+/*
+ * Do these contents, one byte for each message and queue after queue, belong to the set of this control state?
+ *
+ * YES or NO. REFUSED, 1 and 3 to 13: the file or the question is turned away.
+ * NO_ROOM: `reply` has under SWARMBANNER_REPLY_LEAST entries.
+ */
+size_t swarmbanner_member(const uint8_t *file, size_t file_len,
+                          size_t control,
+                          const uint8_t *contents, size_t contents_len,
+                          size_t *reply, size_t reply_len);
+
+/*
+ * Checks a file. `seen` and `queue` are scratch tables of SWARMBANNER_TABLE_LEAST entries or more, `contents` is a buffer
+ * of SWARMBANNER_CONTENTS_LEAST bytes or more; what they hold at entry does not matter.
+ *
+ * CLOSED, OUTSIDE, LEAVES, BAD: `seen` and `queue` are 0 over their whole length. The contents shown after LEAVES and BAD
+ *   fill the front of `contents`, one byte for each message; the rest of it keeps its bytes, after CLOSED and OUTSIDE all.
+ * REFUSED, 1 to 10: `seen`, `queue` and `contents` are as they were.
+ * NO_ROOM: `reply` has under SWARMBANNER_REPLY_LEAST entries.
+ */
+size_t swarmbanner_check(const uint8_t *file, size_t file_len,
+                         uint16_t *seen, size_t seen_len,
+                         uint16_t *queue, size_t queue_len,
+                         uint8_t *contents, size_t contents_len,
+                         size_t *reply, size_t reply_len);
+
+#ifdef __cplusplus
+}
+#endif
+
+#endif
