@@ -1,0 +1,122 @@
+//! The calls as they are, on memory that the caller lends; `include/swarmbanner.h` says what each promises.
+//!
+//! A call returns the kind of its reply and puts the three numbers that go with it into the front of `reply`. All of them
+//! take slices of any length and with anything in them.
+//!
+//! ```
+//! use swarmbanner::lent;
+//!
+//! let mut reply = [7; 3];
+//! assert_eq!(lent::check(&[], &mut [], &mut [], &mut [], &mut reply), lent::REFUSED);
+//! assert_eq!(reply, [2, 0, 0]); // lent memory too short
+//! ```
+
+/// Nothing fails. With it go the pairs visited.
+pub const CLOSED: usize = 0;
+/// Empty queues are not in the set of the starting control state.
+pub const OUTSIDE: usize = 1;
+/// A step leads outside. With it go the control state, the transition and the number of messages shown.
+pub const LEAVES: usize = 2;
+/// Contents of a set are bad. With it go the bad entry and the number of messages shown.
+pub const BAD: usize = 3;
+/// The file or the question is turned away. With it go the number and the place.
+pub const REFUSED: usize = 4;
+/// The space for the reply or the tables is too short. Nothing was written anywhere.
+pub const NO_ROOM: usize = 5;
+/// The file was read.
+pub const READ: usize = 6;
+/// The contents belong to the set.
+pub const YES: usize = 7;
+/// The contents do not belong to the set.
+pub const NO: usize = 8;
+
+/// Entries that `reply` needs.
+pub const REPLY_LEAST: usize = 3;
+/// Bytes that the tables of a file need.
+pub const SPACE_LEAST: usize = 5873;
+/// Entries that each scratch table of a check needs.
+pub const TABLE_LEAST: usize = 32_512;
+/// Bytes that the contents buffer of a check needs.
+pub const CONTENTS_LEAST: usize = 32_768;
+
+mod c {
+    extern "C" {
+        pub fn swarmbanner_read(
+            file: *const u8,
+            file_len: usize,
+            space: *mut u8,
+            space_len: usize,
+            reply: *mut usize,
+            reply_len: usize,
+        ) -> usize;
+        pub fn swarmbanner_member(
+            file: *const u8,
+            file_len: usize,
+            control: usize,
+            contents: *const u8,
+            contents_len: usize,
+            reply: *mut usize,
+            reply_len: usize,
+        ) -> usize;
+        pub fn swarmbanner_check(
+            file: *const u8,
+            file_len: usize,
+            seen: *mut u16,
+            seen_len: usize,
+            queue: *mut u16,
+            queue_len: usize,
+            contents: *mut u8,
+            contents_len: usize,
+            reply: *mut usize,
+            reply_len: usize,
+        ) -> usize;
+    }
+}
+
+/// Reads a file: [`READ`], [`REFUSED`] or [`NO_ROOM`]. The tables fill the front of the space, unless the file is refused.
+pub fn read(file: &[u8], space: &mut [u8], reply: &mut [usize]) -> usize {
+    // SAFETY: each pointer and length are of one slice. Those written to are borrowed exclusively, so they overlap nothing.
+    unsafe {
+        c::swarmbanner_read(file.as_ptr(), file.len(), space.as_mut_ptr(), space.len(), reply.as_mut_ptr(), reply.len())
+    }
+}
+
+/// Asks whether contents belong to a control state: [`YES`], [`NO`], [`REFUSED`] or [`NO_ROOM`].
+pub fn member(file: &[u8], control: usize, contents: &[u8], reply: &mut [usize]) -> usize {
+    // SAFETY: each pointer and length are of one slice. Only `reply` is written to, and it is borrowed exclusively; the
+    // other two may be the same, as both are only read.
+    unsafe {
+        c::swarmbanner_member(
+            file.as_ptr(),
+            file.len(),
+            control,
+            contents.as_ptr(),
+            contents.len(),
+            reply.as_mut_ptr(),
+            reply.len(),
+        )
+    }
+}
+
+/// Checks a file: [`CLOSED`], [`OUTSIDE`], [`LEAVES`], [`BAD`], [`REFUSED`] or [`NO_ROOM`].
+///
+/// After a verdict both tables are 0 over their whole length and the contents shown fill the front of the buffer; after a
+/// refusal all three are as they were.
+pub fn check(file: &[u8], seen: &mut [u16], queue: &mut [u16], contents: &mut [u8], reply: &mut [usize]) -> usize {
+    // SAFETY: each pointer and length are of one slice. The four written to are borrowed exclusively, so they overlap
+    // nothing.
+    unsafe {
+        c::swarmbanner_check(
+            file.as_ptr(),
+            file.len(),
+            seen.as_mut_ptr(),
+            seen.len(),
+            queue.as_mut_ptr(),
+            queue.len(),
+            contents.as_mut_ptr(),
+            contents.len(),
+            reply.as_mut_ptr(),
+            reply.len(),
+        )
+    }
+}

@@ -1,0 +1,44 @@
+//! Swarmbanner judges a proposal about machines that talk through queues of any length: is it *closed*?
+//!
+//! The judging is done by a library that is proved, in Rattle, to give every byte string its defined reply. This crate
+//! calls it, without dependencies, and gives its replies types.
+//!
+//! ```
+//! // One machine sends message 0, another receives it, and any number may wait.
+//! let r = [2, 1, 1, 0, 0, 1, 1, 2, 0, 0, 0, 1, 0, 1, 0, 1, 0, 0, 2, 0, 1, 0, 1, 1, 1, 0, 0, 1, 0];
+//! let reply = swarmbanner::check(&r);
+//! assert_eq!(reply, swarmbanner::Reply::Closed { pairs: 4 });
+//! assert_eq!(reply.to_string(), "closed 4");
+//!
+//! // Three messages may wait, in the only control state.
+//! assert_eq!(swarmbanner::member(&r, 0, &[0, 0, 0]), Ok(true));
+//!
+//! // A file that ends early is refused, with the place.
+//! assert_eq!(swarmbanner::check(&r[..28]).to_string(), "refused 3 at 28");
+//! ```
+//!
+//! | to | use |
+//! |---|---|
+//! | check one file | [`check`] |
+//! | check many files in the same memory | [`Checker`] |
+//! | ask whether contents lie in a set | [`member`] |
+//! | see what a file has in it | [`read`] and [`Session`] |
+//! | lend memory of one's own | [`lent`] |
+//!
+//! Replies, contents shown and tables come from the proved library. What this crate does with them, the methods of
+//! [`Session`] among it, is plain Rust that was tested and not proved.
+
+#![deny(missing_docs)]
+#![deny(unsafe_code)]
+
+mod checker;
+#[allow(unsafe_code)]
+pub mod lent;
+mod refusal;
+mod reply;
+mod session;
+
+pub use checker::{check, member, Checker};
+pub use refusal::Refusal;
+pub use reply::Reply;
+pub use session::{read, Arc, BadEntry, DiagramState, Kind, Machine, PoolState, Queue, Session, Transition};

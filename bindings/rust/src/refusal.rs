@@ -1,0 +1,62 @@
+use std::error::Error;
+use std::fmt;
+
+/// Why a file or a question is turned away.
+///
+/// ```
+/// let refusal = swarmbanner::read(&[]).unwrap_err();
+/// assert_eq!(refusal.to_string(), "refused 3 at 0");
+/// assert_eq!(refusal.explain(), "the bytes end before a number or inside one (at byte 0 of the file)");
+/// ```
+#[derive(Clone, Copy, Debug, PartialEq, Eq, Hash)]
+pub struct Refusal {
+    /// Which cause it is, 1 to 13.
+    pub number: u8,
+    /// A place in the file; for causes 12 and 13 a place in the contents, for 2 and 11 always 0.
+    pub place: usize,
+}
+
+impl Refusal {
+    /// From the first two numbers of a reply.
+    pub(crate) fn told(reply: &[usize; 3]) -> Self {
+        let number = u8::try_from(reply[0]).expect("refusals are numbered 1 to 13");
+        Refusal { number, place: reply[1] }
+    }
+
+    /// The cause in words.
+    pub fn cause(&self) -> &'static str {
+        match self.number {
+            1 => "the file has more than 16,384 bytes",
+            2 => "lent memory is too short",
+            3 => "the bytes end before a number or inside one",
+            4 => "a number is not in its shorter form, or has more than two bytes",
+            5 => "a number is outside its field's range",
+            6 => "the product of the machines' states passes 256, or the sum of the queues' messages passes 32",
+            7 => "a message of a transition is in another queue than the transition's",
+            8 => "the messages of a diagram state's arcs do not ascend",
+            9 => "the pool is not in queue order: a state has an arc in for a queue and an arc out for an earlier one",
+            10 => "bytes follow the last field",
+            11 => "the file has no such control state",
+            12 => "the file has no such message",
+            13 => "a message of an earlier queue follows one of a later queue",
+            _ => "no cause has this number",
+        }
+    }
+
+    /// The cause in words, and where.
+    pub fn explain(&self) -> String {
+        match self.number {
+            2 | 11 => self.cause().to_string(),
+            12 | 13 => format!("{} (at message {} of the contents)", self.cause(), self.place),
+            _ => format!("{} (at byte {} of the file)", self.cause(), self.place),
+        }
+    }
+}
+
+impl fmt::Display for Refusal {
+    fn fmt(&self, f: &mut fmt::Formatter<'_>) -> fmt::Result {
+        write!(f, "refused {} at {}", self.number, self.place)
+    }
+}
+
+impl Error for Refusal {}

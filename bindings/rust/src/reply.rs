@@ -1,0 +1,68 @@
+use std::fmt;
+
+use crate::Refusal;
+
+/// What checking says of a file. Its `Display` is the line that the program prints, without the newline.
+///
+/// Contents shown are the shortest that fail and the lowest of those, queue after queue; [`Session::split`] takes them
+/// apart.
+///
+/// [`Session::split`]: crate::Session::split
+#[derive(Clone, Debug, PartialEq, Eq, Hash)]
+pub enum Reply {
+    /// The start is inside, no step leads out and nothing inside is bad, for queues of any length.
+    Closed {
+        /// The defined count of pairs visited.
+        pairs: usize,
+    },
+    /// Empty queues are not in the set of the starting control state.
+    Outside,
+    /// Contents inside allow a step that leads outside.
+    Leaves {
+        /// The control state before the step.
+        control: usize,
+        /// The number of the transition taken.
+        transition: usize,
+        /// The contents before the step.
+        contents: Vec<u8>,
+    },
+    /// Contents inside are listed as bad.
+    Bad {
+        /// The number of the bad entry.
+        entry: usize,
+        /// The contents that its diagram and the set of its control state both hold.
+        contents: Vec<u8>,
+    },
+    /// The file is turned away.
+    Refused(Refusal),
+}
+
+impl Reply {
+    /// Whether the proposal holds.
+    pub fn is_closed(&self) -> bool {
+        matches!(self, Reply::Closed { .. })
+    }
+}
+
+impl fmt::Display for Reply {
+    fn fmt(&self, f: &mut fmt::Formatter<'_>) -> fmt::Result {
+        match self {
+            Reply::Closed { pairs } => write!(f, "closed {pairs}"),
+            Reply::Outside => write!(f, "outside"),
+            Reply::Leaves { control, transition, contents } => {
+                write!(f, "leaves {control} {transition} ")?;
+                shown(f, contents)
+            }
+            Reply::Bad { entry, contents } => {
+                write!(f, "bad {entry} ")?;
+                shown(f, contents)
+            }
+            Reply::Refused(refusal) => refusal.fmt(f),
+        }
+    }
+}
+
+fn shown(f: &mut fmt::Formatter<'_>, contents: &[u8]) -> fmt::Result {
+    write!(f, "{}:", contents.len())?;
+    contents.iter().try_for_each(|message| write!(f, " {message}"))
+}

@@ -1,0 +1,148 @@
+//! The cases that document 01 gives, by the types of this crate.
+
+use std::path::Path;
+
+use swarmbanner::{check, lent, member, read, Checker, Kind, Refusal, Reply};
+
+const R: &str = "02 01 01 00 00 01 01 02 00 00 00 01 00 01 00 01 00 00 02 00 01 00 01 01 01 00 00 01 00";
+const S: &str = "01 01 00 02 01 01 01 00 00 00 01 00 01 00 02 01 02 00 00 01 01 01 01 01 01 01 00";
+
+const LETTERED: [(&str, &str); 14] = [
+    (R, "closed 4"),
+    ("02 01 01 00 00 01 01 02 00 00 00 01 00 01 00 01 00 00 02 00 01 00 01 01 00 01 00", "leaves 0 0 0:"),
+    ("02 01 01 00 00 01 01 02 00 00 00 01 00 01 00 01 00 00 02 00 01 00 02 01 01 00 01 01 00 01 00", "leaves 0 0 1: 0"),
+    ("02 01 01 00 00 01 01 02 00 00 00 01 00 01 00 01 00 00 02 00 01 00 01 00 01 00 00 01 00", "outside"),
+    ("02 01 01 00 00 01 01 02 00 00 00 01 00 01 00 01 00 00 02 00 01 00 01 01 01 00 00 01 01 00 00", "bad 0 0:"),
+    (S, "closed 3"),
+    ("01 01 00 02 01 01 01 00 00 00 02 01 01 01 02 01 02 00 00 01 01 01 01 01 01 01 00", "closed 3"),
+    ("", "refused 3 at 0"),
+    ("82 00 01 01 00 00 01 01 02 00 00 00 01 00 01 00 01 00 00 02 00 01 00 01 01 01 00 00 01 00", "refused 4 at 0"),
+    ("05 01 01 00 00 01 01 02 00 00 00 01 00 01 00 01 00 00 02 00 01 00 01 01 01 00 00 01 00", "refused 5 at 0"),
+    ("02 01 01 00 00 01 01 02 00 00 00 01 00 01 00 01 00 00 02 00 01 00 01 01 01 00 00 01 00 00", "refused 10 at 29"),
+    ("02 01 01 00 00 01 01 02 00 00 00 01 00 01 00 01 00 00 02 00 01 00 01 01 01 00 00 01", "refused 3 at 28"),
+    ("01 01 00 02 01 01 01 00 00 00 01 00 01 00 01 01 02 00 00 01 00 01 00", "refused 9 at 21"),
+    ("03 10 10 02", "refused 6 at 3"),
+];
+
+fn hex(text: &str) -> Vec<u8> {
+    text.split_whitespace().map(|byte| u8::from_str_radix(byte, 16).expect("two hexadecimal digits")).collect()
+}
+
+#[test]
+fn lettered_cases_print_their_lines() {
+    let mut checker = Checker::new();
+    for (file, line) in LETTERED {
+        assert_eq!(check(&hex(file)).to_string(), line);
+        assert_eq!(checker.check(&hex(file)).to_string(), line, "with memory that was used before");
+    }
+}
+
+#[test]
+fn reading_refuses_what_checking_refuses() {
+    for (file, _) in LETTERED {
+        let refused = match check(&hex(file)) {
+            Reply::Refused(refusal) => Some(refusal),
+            _ => None,
+        };
+        assert_eq!(read(&hex(file)).err(), refused, "{file}");
+    }
+}
+
+#[test]
+fn membership() {
+    let refused = |number, place| Err(Refusal { number, place });
+    assert_eq!(member(&hex(S), 0, &[0, 1]), Ok(true));
+    assert_eq!(member(&hex(S), 0, &[]), Ok(true));
+    assert_eq!(member(&hex(S), 0, &[1, 0]), refused(13, 1));
+    assert_eq!(member(&hex(S), 0, &[0, 2]), refused(12, 1));
+    assert_eq!(member(&hex(S), 1, &[2]), refused(11, 0));
+    assert_eq!(member(&hex(S), usize::MAX, &[]), refused(11, 0));
+    assert_eq!(member(&[], 0, &[]), refused(3, 0));
+    assert_eq!(member(&hex(LETTERED[1].0), 0, &[0]), Ok(false));
+}
+
+#[test]
+fn long_files_are_refused_before_short_memory() {
+    let mut reply = [0; 3];
+    assert_eq!(lent::check(&[1; 16_385], &mut [], &mut [], &mut [], &mut reply), lent::REFUSED);
+    assert_eq!(reply, [1, 16_384, 0]);
+    assert_eq!(check(&[1; 16_385]).to_string(), "refused 1 at 16384");
+}
+
+#[test]
+fn memory_that_is_just_enough_and_one_short() {
+    let lend = |seen: usize, queue: usize, contents: usize| {
+        let mut reply = [0; 3];
+        let (mut seen, mut queue, mut contents) = (vec![1; seen], vec![1; queue], vec![1; contents]);
+        let kind = lent::check(&hex(R), &mut seen, &mut queue, &mut contents, &mut reply);
+        (kind, reply, seen.iter().chain(&queue).all(|&entry| entry == 0))
+    };
+    assert_eq!(lend(32_512, 32_512, 32_768), (lent::CLOSED, [4, 0, 0], true));
+    for (seen, queue, contents) in [(32_511, 32_512, 32_768), (32_512, 32_511, 32_768), (32_512, 32_512, 32_767)] {
+        assert_eq!(lend(seen, queue, contents), (lent::REFUSED, [2, 0, 0], false));
+    }
+}
+
+#[test]
+fn no_room_touches_nothing() {
+    let mut reply = [9; 2];
+    assert_eq!(lent::read(&hex(R), &mut [5; 5873], &mut reply), lent::NO_ROOM);
+    assert_eq!(lent::member(&hex(R), 0, &[], &mut reply), lent::NO_ROOM);
+    assert_eq!(lent::check(&hex(R), &mut [], &mut [], &mut [], &mut reply), lent::NO_ROOM);
+    assert_eq!(reply, [9; 2]);
+    let (mut space, mut reply) = ([5; 5872], [9; 3]);
+    assert_eq!(lent::read(&hex(R), &mut space, &mut reply), lent::NO_ROOM);
+    assert_eq!((space, reply), ([5; 5872], [9; 3]));
+}
+
+#[test]
+fn the_session_of_s() {
+    let session = read(&hex(S)).expect("S is a session file");
+    assert_eq!(session.control_states(), 1);
+    assert_eq!((session.start(), session.control_of(&[0]), session.machine_states(0)), (0, Some(0), Some(vec![0])));
+    assert_eq!((session.control_of(&[1]), session.control_of(&[]), session.machine_states(1)), (None, None, None));
+    assert_eq!(session.queues().iter().map(|queue| queue.messages.clone()).collect::<Vec<_>>(), [0..1, 1..2]);
+    assert_eq!((session.queue_of(0), session.queue_of(1), session.queue_of(2)), (Some(0), Some(1), None));
+    assert_eq!(session.transitions()[0].kind, Kind::Send { queue: 0, word: vec![0] });
+    assert_eq!(session.pool().len(), 2);
+    assert!(session.bad_entries().is_empty());
+    let root = session.root(0).expect("S has a root");
+    let later = session.arc(root, 1).expect("1 may follow");
+    assert_ne!(root, later);
+    assert_eq!((session.arc(root, 0), session.arc(later, 1), session.arc(later, 0)), (Some(root), Some(later), None));
+    assert_eq!(session.split(&[1, 0]), Err(Refusal { number: 13, place: 1 }));
+    assert_eq!(session.split(&[0, 2]), Err(Refusal { number: 12, place: 1 }));
+    assert_eq!(session.step(0, 0, &[0, 1]), Some((0, vec![0, 0, 1])));
+    assert_eq!((session.step(0, 1, &[]), session.step(1, 0, &[]), session.step(0, 0, &[1, 0])), (None, None, None));
+}
+
+#[test]
+fn samples() {
+    let folder = Path::new(env!("CARGO_MANIFEST_DIR")).join("../../samples");
+    let sample = |name: &str| std::fs::read(folder.join(name)).expect("the sample is there");
+    let lines = [
+        ("relay", "closed 4"),
+        ("half-duplex", "closed 48"),
+        ("alternating-bit", "closed 180"),
+        ("producer-consumer", "closed 190"),
+        ("producer-consumer-leaves", "leaves 1 16 1: 0"),
+        ("producer-consumer-bad", "bad 0 1: 4"),
+        ("takeover-two-feeds", "bad 0 4: 0 1 3 2"),
+        ("takeover-sequenced", "closed 173"),
+    ];
+    for (name, line) in lines {
+        assert_eq!(check(&sample(&format!("{name}.session"))).to_string(), line, "{name}");
+    }
+    let takeover = read(&sample("takeover-two-feeds.session")).expect("it is a session file");
+    assert_eq!(takeover.machine_states(15), Some(vec![3, 3, 0, 0]));
+    assert_eq!(takeover.split(&[0, 1, 3, 2]), Ok(vec![&[0, 1][..], &[3, 2]]));
+}
+
+#[test]
+fn every_cause_is_explained() {
+    let causes: std::collections::HashSet<&str> = (1..=13).map(|number| Refusal { number, place: 0 }.cause()).collect();
+    assert_eq!(causes.len(), 13);
+    assert_eq!(Refusal { number: 11, place: 0 }.explain(), "the file has no such control state");
+    let error: Box<dyn std::error::Error> = Box::new(Refusal { number: 5, place: 7 });
+    assert_eq!(error.to_string(), "refused 5 at 7");
+}
