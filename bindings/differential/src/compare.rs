@@ -1,0 +1,280 @@
+//! One file: all three calls, with lengths and dirt chosen for it, beside the reference.
+
+use reference_checker::membership::membership;
+use reference_checker::random::Random;
+use reference_checker::read::{read, Refusal, Tables, LONGEST_FILE};
+use reference_checker::verdict::{line, Reply, Verdict};
+use reference_checker::walk::{check_tables, Scratch};
+use swarmbanner::lent::{self, CONTENTS_LEAST, REPLY_LEAST, SPACE_LEAST, TABLE_LEAST};
+use swarmbanner::Checker;
+
+use crate::flat::flat;
+use crate::lend::Lent;
+use crate::tally::Tally;
+use crate::typed::same_session;
+
+/// Most entries that are lent beyond the least.
+const MORE: usize = 70;
+/// One file in so many goes through the typed calls as well.
+const TYPED: usize = 4;
+
+pub struct Comparer {
+    space: Lent<u8>,
+    seen: Lent<u16>,
+    queue: Lent<u16>,
+    contents: Lent<u8>,
+    reply: Lent<usize>,
+    checker: Checker,
+    scratch: Scratch,
+    pub tally: Tally,
+}
+
+/// A kind and the three numbers that go with it.
+type Told = (usize, [usize; 3]);
+
+fn refused(refusal: &Refusal) -> Told {
+    (lent::REFUSED, [usize::from(refusal.number), refusal.place, 0])
+}
+
+fn told(reply: &Reply) -> Told {
+    match reply {
+        Ok(Verdict::Closed { pairs }) => (lent::CLOSED, [*pairs as usize, 0, 0]),
+        Ok(Verdict::Outside) => (lent::OUTSIDE, [0; 3]),
+        Ok(Verdict::Leaves { control_state, transition, contents }) => {
+            (lent::LEAVES, [*control_state, *transition, contents.len()])
+        }
+        Ok(Verdict::Bad { entry, contents }) => (lent::BAD, [*entry, contents.len(), 0]),
+        Err(refusal) => refused(refusal),
+    }
+}
+
+fn shown(reply: &Reply) -> &[u8] {
+    match reply {
+        Ok(Verdict::Leaves { contents, .. } | Verdict::Bad { contents, .. }) => contents,
+        _ => &[],
+    }
+}
+
+fn demand(holds: bool, what: &str) -> Result<(), String> {
+    if holds {
+        Ok(())
+    } else {
+        Err(what.to_string())
+    }
+}
+
+/// The least or a little more, and now and then too little.
+fn length(random: &mut Random, least: usize) -> usize {
+    match random.below(50) {
+        0 => least - 1,
+        1 => random.below(least),
+        2..15 => least,
+        _ => random.between(least, least + MORE),
+    }
+}
+
+impl Comparer {
+    pub fn new() -> Self {
+        let mut random = Random::new(77);
+        // No entry is 0, so that one set to 0 is seen.
+        Comparer {
+            space: Lent::new(SPACE_LEAST + MORE, || random.between(1, 255) as u8),
+            seen: Lent::new(TABLE_LEAST + MORE, || random.between(1, 65_535) as u16),
+            queue: Lent::new(TABLE_LEAST + MORE, || random.between(1, 65_535) as u16),
+            contents: Lent::new(CONTENTS_LEAST + MORE, || random.between(1, 255) as u8),
+            reply: Lent::new(REPLY_LEAST + MORE, || random.between(1, usize::MAX - 1)),
+            checker: Checker::new(),
+            scratch: Scratch::default(),
+            tally: Tally::default(),
+        }
+    }
+
+    /// Every call on a file; `check` is left out for files that take too long.
+    pub fn compare(&mut self, file: &[u8], random: &mut Random, checks: bool) -> Result<(), String> {
+        let tables = read(file);
+        self.compare_reading(file, &tables, random)?;
+        for _ in 0..2 {
+            self.compare_membership(file, &tables, random)?;
+        }
+        let is_typed = random.below(TYPED) == 0;
+        if is_typed {
+            compare_session(file, &tables)?;
+        }
+        if checks {
+            let reply = tables.map(|tables| check_tables(&tables, &mut self.scratch));
+            self.compare_checking(file, &reply, random)?;
+            if is_typed {
+                self.compare_typed_checking(file, &reply)?;
+            }
+        }
+        Ok(())
+    }
+
+    /// What the call put into the front of `reply`, and that the rest is as it was.
+    fn reply(&self, kind: usize, call: &str) -> Result<Told, String> {
+        demand(self.reply.kept_from(REPLY_LEAST), &format!("{call}: the reply's rest has changed"))?;
+        let numbers = &self.reply.now()[..REPLY_LEAST];
+        Ok((kind, numbers.try_into().expect("a reply has three numbers")))
+    }
+
+    fn compare_reading(
+        &mut self,
+        file: &[u8],
+        tables: &Result<Tables, Refusal>,
+        random: &mut Random,
+    ) -> Result<(), String> {
+        let (space_length, reply_length) = (length(random, SPACE_LEAST), length(random, REPLY_LEAST));
+        let kind = lent::read(file, self.space.lend(space_length), self.reply.lend(reply_length));
+        if space_length < SPACE_LEAST || reply_length < REPLY_LEAST {
+            self.tally.count("read: no room");
+            demand(kind == lent::NO_ROOM, "read: room was found where there is none")?;
+            return demand(self.space.kept() && self.reply.kept(), "read: written to without room");
+        }
+        let told = self.reply(kind, "read")?;
+        match tables {
+            Ok(tables) => {
+                self.tally.count("read: read");
+                demand(told == (lent::READ, [0; 3]), &format!("read: told {told:?} of a file that is read"))?;
+                demand(self.space.now()[..SPACE_LEAST] == flat(tables), "read: other tables")?;
+                demand(self.space.kept_from(SPACE_LEAST), "read: the space's rest has changed")
+            }
+            Err(refusal) => {
+                self.tally.count(&format!("read: refused {}", refusal.number));
+                demand(told == refused(refusal), &format!("read: told {told:?}, the reference {refusal}"))?;
+                demand(self.space.kept(), "read: the space has changed after a refusal")
+            }
+        }
+    }
+
+    fn compare_membership(
+        &mut self,
+        file: &[u8],
+        tables: &Result<Tables, Refusal>,
+        random: &mut Random,
+    ) -> Result<(), String> {
+        let (control, contents) = question(tables.as_ref().ok(), random);
+        let reply_length = length(random, REPLY_LEAST);
+        let kind = lent::member(file, control, &contents, self.reply.lend(reply_length));
+        if reply_length < REPLY_LEAST {
+            self.tally.count("member: no room");
+            return demand(kind == lent::NO_ROOM && self.reply.kept(), "member: written to without room");
+        }
+        let expected = membership(file, control, &contents);
+        let expected_told = match &expected {
+            Ok(true) => (lent::YES, [0; 3]),
+            Ok(false) => (lent::NO, [0; 3]),
+            Err(refusal) => refused(refusal),
+        };
+        let told = self.reply(kind, "member")?;
+        self.tally.count(&match &expected {
+            Ok(true) => "member: yes".to_string(),
+            Ok(false) => "member: no".to_string(),
+            Err(refusal) => format!("member: refused {}", refusal.number),
+        });
+        demand(told == expected_told, &format!("member {control} {contents:?}: told {told:?}, not {expected_told:?}"))?;
+        let typed = swarmbanner::member(file, control, &contents).map_err(|refusal| refusal.to_string());
+        demand(typed == expected.map_err(|refusal| refusal.to_string()), "member: the typed call says something else")
+    }
+
+    fn compare_checking(&mut self, file: &[u8], expected: &Reply, random: &mut Random) -> Result<(), String> {
+        let [seen_length, queue_length] = [(); 2].map(|()| length(random, TABLE_LEAST));
+        let (contents_length, reply_length) = (length(random, CONTENTS_LEAST), length(random, REPLY_LEAST));
+        let kind = lent::check(
+            file,
+            self.seen.lend(seen_length),
+            self.queue.lend(queue_length),
+            self.contents.lend(contents_length),
+            self.reply.lend(reply_length),
+        );
+        let memory_kept = self.seen.kept() && self.queue.kept() && self.contents.kept();
+        if reply_length < REPLY_LEAST {
+            self.tally.count("check: no room");
+            return demand(
+                kind == lent::NO_ROOM && memory_kept && self.reply.kept(),
+                "check: written to without room for a reply",
+            );
+        }
+        let is_short = seen_length < TABLE_LEAST || queue_length < TABLE_LEAST || contents_length < CONTENTS_LEAST;
+        let short = Err(Refusal { number: 2, place: 0 });
+        let expected = if is_short && file.len() <= LONGEST_FILE { &short } else { expected };
+        self.tally.count_reply(expected);
+        let told_here = self.reply(kind, "check")?;
+        demand(told_here == told(expected), &format!("check: told {told_here:?}, the reference {}", line(expected)))?;
+        if expected.is_err() {
+            return demand(memory_kept, "check: lent memory has changed after a refusal");
+        }
+        self.verdict_left(shown(expected))
+    }
+
+    /// What a verdict leaves in lent memory.
+    fn verdict_left(&self, shown: &[u8]) -> Result<(), String> {
+        for (name, table) in [("seen", &self.seen), ("queue", &self.queue)] {
+            demand(table.now().iter().all(|&entry| entry == 0), &format!("check: {name} is not 0 all over"))?;
+            demand(table.kept_from(table.now().len()), &format!("check: memory around {name} has changed"))?;
+        }
+        demand(self.contents.now()[..shown.len()] == *shown, "check: other contents are shown")?;
+        demand(self.contents.kept_from(shown.len()), "check: the rest of the contents buffer has changed")
+    }
+
+    fn compare_typed_checking(&mut self, file: &[u8], expected: &Reply) -> Result<(), String> {
+        let reply = self.checker.check(file);
+        demand(reply.to_string() == line(expected), &format!("check: the binding prints {reply}"))?;
+        self.tally.count("typed");
+        // A witness of the proved library, taken apart by the binding and put to membership.
+        if let swarmbanner::Reply::Leaves { control, transition, contents } = reply {
+            let session = swarmbanner::read(file).map_err(|refusal| refusal.to_string())?;
+            let (target, after) =
+                session.step(control, transition, &contents).ok_or("step: the step shown cannot be taken")?;
+            demand(membership(file, control, &contents) == Ok(true), "leaves: the contents shown are not inside")?;
+            demand(membership(file, target, &after) == Ok(false), "leaves: the step shown does not lead outside")?;
+        }
+        Ok(())
+    }
+}
+
+fn compare_session(file: &[u8], tables: &Result<Tables, Refusal>) -> Result<(), String> {
+    match (swarmbanner::read(file), tables) {
+        (Ok(session), Ok(tables)) => demand(same_session(&session, tables), "read: the typed session differs"),
+        (Err(one), Err(other)) => demand(one.to_string() == other.to_string(), "read: the typed refusal differs"),
+        _ => Err("read: only one side refuses".to_string()),
+    }
+}
+
+/// A control state and contents: mostly a way through the diagram, else anything.
+fn question(tables: Option<&Tables>, random: &mut Random) -> (usize, Vec<u8>) {
+    let Some(tables) = tables else {
+        return (random.below(300), vec![random.byte()]);
+    };
+    let control = match random.below(12) {
+        0 => tables.control_state_count + random.below(3),
+        1 => random.between(256, usize::MAX - 1),
+        _ => random.below(tables.control_state_count),
+    };
+    let mut contents = way(tables, control, random);
+    for _ in 0..random.below(3) {
+        let at = random.below(contents.len() + 1);
+        match random.below(4) {
+            0 => contents.insert(at, random.below(tables.message_sum) as u8),
+            1 if at < contents.len() => contents[at] = random.below(tables.message_sum) as u8,
+            2 if random.chance(20) => contents.insert(at, random.byte()),
+            _ => {}
+        }
+    }
+    (control, contents)
+}
+
+/// Messages along arcs from the root.
+fn way(tables: &Tables, control: usize, random: &mut Random) -> Vec<u8> {
+    let mut contents = Vec::new();
+    let Some(&root) = tables.roots.get(control) else { return contents };
+    let mut entry = usize::from(root);
+    for _ in 0..random.below(9) {
+        let Some(state) = entry.checked_sub(1) else { break };
+        let row = &tables.arcs[state * 32..][..32];
+        let arcs: Vec<u8> = (0..32).filter(|&message| row[usize::from(message)] > 0).collect();
+        let Some(&message) = random.pick(&arcs) else { break };
+        contents.push(message);
+        entry = row[usize::from(message)].into();
+    }
+    contents
+}

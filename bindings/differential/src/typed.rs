@@ -1,0 +1,57 @@
+//! The typed session of the binding beside the reference's tables.
+
+use reference_checker::read::{Kind as ReferenceKind, Tables, Transition as ReferenceTransition, MESSAGES};
+use swarmbanner::{Kind, Session, Transition};
+
+/// Whether a session says what the tables say.
+pub fn same_session(session: &Session, tables: &Tables) -> bool {
+    same_machines(session, tables)
+        && session.queues().len() == tables.queue_count
+        && session.queues().iter().zip(0..).all(|(queue, number)| {
+            let first = tables.first_message(number);
+            usize::from(queue.messages.start) == first && queue.messages.len() == usize::from(tables.messages[number])
+        })
+        && session.transitions().len() == tables.transition_count
+        && session.transitions().iter().zip(tables.used_transitions()).all(|(one, other)| same_transition(one, other))
+        && same_pool(session, tables)
+        && session.bad_entries().len() == tables.bad_count
+        && session.bad_entries().iter().zip(tables.used_bad_entries()).all(|(one, other)| {
+            one.control == usize::from(other.control_state) && one.root.index() == usize::from(other.root)
+        })
+}
+
+fn same_machines(session: &Session, tables: &Tables) -> bool {
+    let machines = session.machines();
+    machines.len() == tables.machine_count
+        && machines.iter().zip(&tables.states).all(|(machine, &states)| machine.states == usize::from(states))
+        && machines.iter().zip(&tables.starts).all(|(machine, &start)| machine.start == usize::from(start))
+        && session.control_states() == tables.control_state_count
+        && (0..session.control_states()).all(|control| {
+            let states = session.machine_states(control).expect("the control state is there");
+            session.control_of(&states) == Some(control)
+        })
+}
+
+fn same_transition(one: &Transition, other: &ReferenceTransition) -> bool {
+    let kind = match other.kind {
+        ReferenceKind::Local => Kind::Local,
+        ReferenceKind::Send => Kind::Send { queue: other.queue.into(), word: other.word().to_vec() },
+        ReferenceKind::Receive => Kind::Receive { queue: other.queue.into(), word: other.word().to_vec() },
+    };
+    *one == Transition { machine: other.machine.into(), from: other.from.into(), to: other.to.into(), kind }
+}
+
+fn same_pool(session: &Session, tables: &Tables) -> bool {
+    let roots = session.roots().iter().map(|root| root.map_or(0, |root| root.index() + 1));
+    session.pool().len() == tables.pool_state_count
+        && session.pool().iter().zip(tables.arcs.chunks(MESSAGES)).zip(&tables.finals).all(
+            |((state, row), &is_final)| {
+                let mut targets = [0; MESSAGES];
+                for arc in &state.arcs {
+                    targets[usize::from(arc.message)] = arc.target.index() as u8 + 1;
+                }
+                state.is_final == is_final && targets == row
+            },
+        )
+        && roots.eq(tables.roots[..tables.control_state_count].iter().map(|&root| usize::from(root)))
+}
