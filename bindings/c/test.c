@@ -1,0 +1,316 @@
+/* What the header promises, call by call: the fourteen cases of document 01, and what is done to lent memory. */
+#define _DEFAULT_SOURCE
+
+#include "lend.h"
+#include "swarmbanner.h"
+
+#define R_HEAD "020101000001010200000001000100010000020001 00"
+#define R R_HEAD "01 01 01 00 00 01 00"
+#define S_HEAD "01010002010101"
+#define S_SEND "00000001000100"
+#define S_POOL "02 01 02 00 00 01 01 01 01 01 01"
+#define S S_HEAD S_SEND S_POOL "01 00"
+
+#define MORE 1000
+
+static struct lend file_lend, member_lend, space_lend, seen_lend, queue_lend, contents_lend, reply_lend;
+static unsigned tests, failures;
+
+static void expect(int holds, const char *what, const char *name)
+{
+    tests++;
+    if (!holds) {
+        failures++;
+        printf("FAILED: %s (%s)\n", what, name);
+    }
+}
+
+/* How many entries of each kind are lent. */
+struct lengths {
+    size_t space, seen, queue, contents, reply;
+};
+
+static const struct lengths least = {SWARMBANNER_SPACE_LEAST, SWARMBANNER_TABLE_LEAST, SWARMBANNER_TABLE_LEAST,
+                                     SWARMBANNER_CONTENTS_LEAST, SWARMBANNER_REPLY_LEAST};
+
+static struct lengths plenty(void)
+{
+    struct lengths more = least;
+
+    more.space += MORE;
+    more.seen += MORE;
+    more.queue += 2 * MORE;
+    more.contents += MORE;
+    more.reply += 5;
+    return more;
+}
+
+/* A null pointer where nothing is lent. */
+static void *lend_or_null(struct lend *lend, size_t bytes)
+{
+    void *lent = lend_bytes(lend, bytes);
+
+    return bytes == 0 ? NULL : lent;
+}
+
+static size_t *lend_reply(struct lengths n)
+{
+    return lend_or_null(&reply_lend, n.reply * sizeof(size_t));
+}
+
+static size_t call_read(const uint8_t *file, size_t length, struct lengths n)
+{
+    return swarmbanner_read(file, length, lend_or_null(&space_lend, n.space), n.space, lend_reply(n), n.reply);
+}
+
+static size_t call_check(const uint8_t *file, size_t length, struct lengths n)
+{
+    uint16_t *seen = lend_or_null(&seen_lend, n.seen * sizeof(uint16_t));
+    uint16_t *queue = lend_or_null(&queue_lend, n.queue * sizeof(uint16_t));
+    uint8_t *contents = lend_or_null(&contents_lend, n.contents);
+
+    return swarmbanner_check(file, length, seen, n.seen, queue, n.queue, contents, n.contents, lend_reply(n), n.reply);
+}
+
+static int replied(size_t first, size_t second, size_t third)
+{
+    size_t reply[SWARMBANNER_REPLY_LEAST];
+
+    memcpy(reply, lend_at(&reply_lend), sizeof reply);
+    return reply[0] == first && reply[1] == second && reply[2] == third && lend_kept_from(&reply_lend, sizeof reply);
+}
+
+static int memory_kept(void)
+{
+    return lend_kept(&seen_lend) && lend_kept(&queue_lend) && lend_kept(&contents_lend);
+}
+
+static int digit(char c)
+{
+    return c <= '9' ? c - '0' : c - 'a' + 10;
+}
+
+/* The bytes of a text in hex, spaces left out, so placed that their end is the end of a page. */
+static const uint8_t *hex(const char *text, size_t *length)
+{
+    static uint8_t bytes[256];
+    size_t digits = 0;
+
+    for (; *text != '\0'; text++) {
+        if (*text == ' ')
+            continue;
+        bytes[digits / 2] = (uint8_t)(bytes[digits / 2] * 16 + digit(*text));
+        digits++;
+    }
+    *length = digits / 2;
+    return lend_copy(&file_lend, bytes, *length);
+}
+
+struct worked {
+    const char *name, *file;
+    size_t kind, first, second, third;
+    const char *shown;
+};
+
+static const struct worked cases[] = {
+    {"a", R, SWARMBANNER_CLOSED, 4, 0, 0, ""},
+    {"b", R_HEAD "01 01 00 01 00", SWARMBANNER_LEAVES, 0, 0, 0, ""},
+    {"c", R_HEAD "02 01 01 00 01 01 00 01 00", SWARMBANNER_LEAVES, 0, 0, 1, "\0"},
+    {"d", R_HEAD "01 00 01 00 00 01 00", SWARMBANNER_OUTSIDE, 0, 0, 0, ""},
+    {"e", R_HEAD "01 01 01 00 00 01 01 00 00", SWARMBANNER_BAD, 0, 0, 0, ""},
+    {"f", S, SWARMBANNER_CLOSED, 3, 0, 0, ""},
+    {"g", S_HEAD "00000002010101" S_POOL "01 00", SWARMBANNER_CLOSED, 3, 0, 0, ""},
+    {"h", "", SWARMBANNER_REFUSED, 3, 0, 0, ""},
+    {"i", "8200 01010000010102000000010001000100000200010001010100000100", SWARMBANNER_REFUSED, 4, 0, 0, ""},
+    {"j", "05 01010000010102000000010001000100000200010001010100000100", SWARMBANNER_REFUSED, 5, 0, 0, ""},
+    {"k", R "00", SWARMBANNER_REFUSED, 10, 29, 0, ""},
+    {"l", R_HEAD "01 01 01 00 00 01", SWARMBANNER_REFUSED, 3, 28, 0, ""},
+    {"m", S_HEAD S_SEND "01 01 02 00 00 01 00 01 00", SWARMBANNER_REFUSED, 9, 21, 0, ""},
+    {"n", "03 10 10 02", SWARMBANNER_REFUSED, 6, 3, 0, ""},
+    /* contents of two messages, and a bad entry that is not the first */
+    {"leaves", S_HEAD S_SEND "04 01 01 00 01 01 02 00 02 01 03 01 01 00 02 01 00" "01 00", SWARMBANNER_LEAVES, 0, 0, 2,
+     "\0\1"},
+    {"bad", "010100020101 00" "06 01 02 00 00 01 01 01 01 01 01 00 00 00 01 00 04 00 01 01 05 01 00" "01 02 00 02 00 03",
+     SWARMBANNER_BAD, 1, 2, 0, "\0\1"},
+};
+
+#define CASES (sizeof cases / sizeof *cases)
+
+static size_t messages_shown(const struct worked *c)
+{
+    return c->kind == SWARMBANNER_LEAVES ? c->third : c->kind == SWARMBANNER_BAD ? c->second : 0;
+}
+
+static void check_case(const struct worked *c, struct lengths n)
+{
+    size_t shown = messages_shown(c);
+    size_t length;
+    const uint8_t *file = hex(c->file, &length);
+
+    expect(call_check(file, length, n) == c->kind, "kind of the reply", c->name);
+    expect(replied(c->first, c->second, c->third), "numbers of the reply, and its rest kept", c->name);
+    if (c->kind == SWARMBANNER_REFUSED) {
+        expect(memory_kept(), "lent memory kept after a refusal", c->name);
+        return;
+    }
+    expect(lend_is_clear(&seen_lend) && lend_is_clear(&queue_lend), "tables 0 over their whole length", c->name);
+    expect(memcmp(lend_at(&contents_lend), c->shown, shown) == 0, "contents shown", c->name);
+    expect(lend_kept_from(&contents_lend, shown), "rest of the contents buffer kept", c->name);
+}
+
+static void read_case(const struct worked *c, struct lengths n)
+{
+    size_t length;
+    const uint8_t *file = hex(c->file, &length);
+    size_t kind = call_read(file, length, n);
+
+    if (c->kind == SWARMBANNER_REFUSED) {
+        expect(kind == SWARMBANNER_REFUSED && replied(c->first, c->second, c->third), "reading refuses", c->name);
+        expect(lend_kept(&space_lend), "space kept after a refusal", c->name);
+        return;
+    }
+    expect(kind == SWARMBANNER_READ && replied(0, 0, 0), "reading reads", c->name);
+    expect(lend_kept_from(&space_lend, SWARMBANNER_SPACE_LEAST), "rest of the space kept", c->name);
+}
+
+/* A call with a reply that has no room for three numbers writes nothing, whatever else it is given. */
+static void no_room(void)
+{
+    static const char *const names[] = {"no entry", "one entry", "two entries"};
+    struct lengths n = plenty();
+    size_t length;
+    const uint8_t *file = hex(R, &length);
+
+    for (n.reply = 0; n.reply < SWARMBANNER_REPLY_LEAST; n.reply++) {
+        expect(call_check(file, length, n) == SWARMBANNER_NO_ROOM, "check has no room", names[n.reply]);
+        expect(memory_kept() && lend_kept(&reply_lend), "check without room touches nothing", names[n.reply]);
+        expect(call_read(file, length, n) == SWARMBANNER_NO_ROOM, "read has no room", names[n.reply]);
+        expect(lend_kept(&space_lend) && lend_kept(&reply_lend), "read without room touches nothing", names[n.reply]);
+        expect(swarmbanner_member(file, length, 0, NULL, 0, lend_reply(n), n.reply) == SWARMBANNER_NO_ROOM,
+               "member has no room", names[n.reply]);
+        expect(lend_kept(&reply_lend), "member without room touches nothing", names[n.reply]);
+    }
+    n = least;
+    n.space = SWARMBANNER_SPACE_LEAST - 1;
+    expect(call_read(file, length, n) == SWARMBANNER_NO_ROOM, "read has no room", "space one short");
+    expect(lend_kept(&space_lend) && lend_kept(&reply_lend), "read without room touches nothing", "space one short");
+    n.space = 0;
+    expect(call_read(file, length, n) == SWARMBANNER_NO_ROOM, "read has no room", "no space");
+}
+
+static void short_memory(void)
+{
+    size_t length;
+    const uint8_t *file = hex(R, &length);
+    struct lengths n[6];
+    size_t i;
+
+    for (i = 0; i < 6; i++)
+        n[i] = least;
+    n[0].seen--;
+    n[1].queue--;
+    n[2].contents--;
+    n[3].seen = 0;
+    n[4].queue = 0;
+    n[5].contents = 0;
+    for (i = 0; i < 6; i++) {
+        expect(call_check(file, length, n[i]) == SWARMBANNER_REFUSED && replied(2, 0, 0), "short memory", "2 at 0");
+        expect(memory_kept(), "short memory is kept", "2 at 0");
+    }
+}
+
+/* A file that is too long is refused before memory that is too short, and a broken file after it. */
+static void long_files(void)
+{
+    static uint8_t bytes[SWARMBANNER_FILE_MOST + 1];
+    struct lengths none = {0, 0, 0, 0, SWARMBANNER_REPLY_LEAST};
+    const uint8_t *file;
+
+    memset(bytes, 5, sizeof bytes);
+    file = lend_copy(&file_lend, bytes, sizeof bytes);
+    expect(call_check(file, sizeof bytes, least) == SWARMBANNER_REFUSED && replied(1, 16384, 0), "too long", "check");
+    expect(call_check(file, sizeof bytes, none) == SWARMBANNER_REFUSED && replied(1, 16384, 0), "1 before 2", "check");
+    expect(call_read(file, sizeof bytes, least) == SWARMBANNER_REFUSED && replied(1, 16384, 0), "too long", "read");
+    expect(call_check(file + 1, sizeof bytes - 1, least) == SWARMBANNER_REFUSED && replied(5, 0, 0), "longest", "check");
+    expect(call_check(file + 1, sizeof bytes - 1, none) == SWARMBANNER_REFUSED && replied(2, 0, 0), "2 before 5", "check");
+}
+
+static void null_with_nothing(void)
+{
+    expect(call_check(NULL, 0, least) == SWARMBANNER_REFUSED && replied(3, 0, 0), "no file", "check");
+    expect(call_read(NULL, 0, least) == SWARMBANNER_REFUSED && replied(3, 0, 0), "no file", "read");
+    expect(swarmbanner_member(NULL, 0, 0, NULL, 0, lend_reply(least), least.reply) == SWARMBANNER_REFUSED &&
+               replied(3, 0, 0), "no file", "member");
+}
+
+static size_t ask(const char *text, size_t control, const uint8_t *contents, size_t count)
+{
+    size_t length;
+    const uint8_t *file = hex(text, &length);
+    const uint8_t *asked = count == 0 ? NULL : lend_copy(&member_lend, contents, count);
+
+    return swarmbanner_member(file, length, control, asked, count, lend_reply(plenty()), plenty().reply);
+}
+
+static void membership(void)
+{
+    static const uint8_t in_order[] = {0, 1}, out_of_order[] = {1, 0}, unknown[] = {0, 2};
+
+    expect(ask(S, 0, in_order, 2) == SWARMBANNER_YES && replied(0, 0, 0), "0 1 belong", "S");
+    expect(ask(S, 0, NULL, 0) == SWARMBANNER_YES && replied(0, 0, 0), "no contents belong", "S");
+    expect(ask(S, 0, out_of_order, 2) == SWARMBANNER_REFUSED && replied(13, 1, 0), "1 0 are refused", "S");
+    expect(ask(S, 0, unknown, 2) == SWARMBANNER_REFUSED && replied(12, 1, 0), "0 2 are refused", "S");
+    expect(ask(S, 1, unknown, 2) == SWARMBANNER_REFUSED && replied(11, 0, 0), "no such control state", "S");
+    expect(ask(S, (size_t)-1, NULL, 0) == SWARMBANNER_REFUSED && replied(11, 0, 0), "highest control state", "S");
+    expect(ask(cases[1].file, 0, in_order, 1) == SWARMBANNER_NO && replied(0, 0, 0), "0 does not belong", "b");
+}
+
+/* The tables of S, byte by byte. */
+static void tables(void)
+{
+    static uint8_t expected[SWARMBANNER_SPACE_LEAST];
+    static const uint8_t counts[] = {1, 2, 2, 1, 2, 0};
+    static const uint8_t transition[] = {0, 0, 0, 1, 0, 1, 0};
+    size_t length;
+    const uint8_t *file = hex(S, &length);
+
+    memcpy(expected + SWARMBANNER_AT_COUNTS, counts, sizeof counts);
+    expected[SWARMBANNER_AT_STATES] = 1;
+    expected[SWARMBANNER_AT_MESSAGES] = expected[SWARMBANNER_AT_MESSAGES + 1] = 1;
+    memcpy(expected + SWARMBANNER_AT_TRANSITIONS, transition, sizeof transition);
+    expected[SWARMBANNER_AT_FINALS] = expected[SWARMBANNER_AT_FINALS + 1] = 1;
+    expected[SWARMBANNER_AT_ARCS] = 1;
+    expected[SWARMBANNER_AT_ARCS + 1] = 2;
+    expected[SWARMBANNER_AT_ARCS + SWARMBANNER_ARC_ROW + 1] = 2;
+    expected[SWARMBANNER_AT_ROOTS] = 1;
+    expect(call_read(file, length, plenty()) == SWARMBANNER_READ, "tables are read", "S");
+    expect(memcmp(lend_at(&space_lend), expected, sizeof expected) == 0, "tables as laid out", "S");
+}
+
+int main(void)
+{
+    struct lengths most = plenty();
+    size_t i;
+
+    lend_make(&file_lend, SWARMBANNER_FILE_MOST + 1);
+    lend_make(&member_lend, 16);
+    lend_make(&space_lend, most.space);
+    lend_make(&seen_lend, most.seen * sizeof(uint16_t));
+    lend_make(&queue_lend, most.queue * sizeof(uint16_t));
+    lend_make(&contents_lend, most.contents);
+    lend_make(&reply_lend, most.reply * sizeof(size_t));
+    for (i = 0; i < CASES; i++) {
+        check_case(&cases[i], least);
+        check_case(&cases[i], plenty());
+        read_case(&cases[i], least);
+        read_case(&cases[i], plenty());
+    }
+    no_room();
+    short_memory();
+    long_files();
+    null_with_nothing();
+    membership();
+    tables();
+    printf("%u tests, %u failures\n", tests, failures);
+    return failures > 0;
+}

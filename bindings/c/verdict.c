@@ -1,0 +1,91 @@
+/*
+ * Prints the verdict on each session file named, with its name before it where there are several.
+ * Exit status, the highest over all files: 0 closed; 1 outside, leaves or bad; 2 refused, or cannot be read.
+ */
+#include "swarmbanner.h"
+
+#include <stdio.h>
+
+static uint16_t seen[SWARMBANNER_TABLE_LEAST];
+static uint16_t queue[SWARMBANNER_TABLE_LEAST];
+static uint8_t contents[SWARMBANNER_CONTENTS_LEAST];
+
+/* One byte more than a file may have, so that a longer one is refused as such. */
+static uint8_t file[SWARMBANNER_FILE_MOST + 1];
+
+static void show(size_t length)
+{
+    size_t i;
+
+    printf(" %zu:", length);
+    for (i = 0; i < length; i++)
+        printf(" %u", (unsigned)contents[i]);
+    printf("\n");
+}
+
+static int verdict(size_t length)
+{
+    size_t reply[SWARMBANNER_REPLY_LEAST];
+
+    switch (swarmbanner_check(file, length, seen, SWARMBANNER_TABLE_LEAST, queue, SWARMBANNER_TABLE_LEAST,
+                              contents, SWARMBANNER_CONTENTS_LEAST, reply, SWARMBANNER_REPLY_LEAST)) {
+    case SWARMBANNER_CLOSED:
+        printf("closed %zu\n", reply[0]);
+        return 0;
+    case SWARMBANNER_OUTSIDE:
+        printf("outside\n");
+        return 1;
+    case SWARMBANNER_LEAVES:
+        printf("leaves %zu %zu", reply[0], reply[1]);
+        show(reply[2]);
+        return 1;
+    case SWARMBANNER_BAD:
+        printf("bad %zu", reply[0]);
+        show(reply[1]);
+        return 1;
+    default:
+        printf("refused %zu at %zu\n", reply[0], reply[1]);
+        return 2;
+    }
+}
+
+static int verdict_of(const char *name)
+{
+    FILE *stream = fopen(name, "rb");
+    size_t length;
+    int failed;
+
+    if (stream == NULL) {
+        perror(name);
+        return 2;
+    }
+    length = fread(file, 1, sizeof file, stream);
+    failed = ferror(stream);
+    fclose(stream);
+    if (failed) {
+        fprintf(stderr, "%s cannot be read\n", name);
+        return 2;
+    }
+    return verdict(length);
+}
+
+int main(int count, char **words)
+{
+    int status = 0;
+    int i;
+
+    if (count < 2) {
+        fprintf(stderr, "usage: verdict FILE..\n");
+        return 2;
+    }
+    for (i = 1; i < count; i++) {
+        int grade;
+
+        if (count > 2)
+            printf("%s: ", words[i]);
+        grade = verdict_of(words[i]);
+        if (grade > status)
+            status = grade;
+    }
+    return status;
+}
