@@ -1,0 +1,134 @@
+/*
+ * A loop of its own for `fuzz.c`, where libFuzzer is not to be had: fuzz_loop SEED COUNT FILE..
+ *
+ * The session files named are changed at random: bytes set, moved, taken out, put in, cut off, or joined with another.
+ */
+#include "swarmbanner.h"
+
+#include <stdio.h>
+#include <stdlib.h>
+#include <string.h>
+
+#define HEAD 4
+#define FILES 64
+#define INPUT_MOST (HEAD + SWARMBANNER_FILE_MOST)
+
+int LLVMFuzzerTestOneInput(const uint8_t *data, size_t size);
+
+static uint8_t files[FILES][SWARMBANNER_FILE_MOST];
+static size_t lengths[FILES];
+static uint8_t input[INPUT_MOST + 1];
+static uint64_t state;
+
+/* splitmix64 */
+static uint64_t next(void)
+{
+    uint64_t z = state += UINT64_C(0x9e3779b97f4a7c15);
+
+    z = (z ^ (z >> 30)) * UINT64_C(0xbf58476d1ce4e5b9);
+    z = (z ^ (z >> 27)) * UINT64_C(0x94d049bb133111eb);
+    return z ^ (z >> 31);
+}
+
+static size_t below(size_t count)
+{
+    return (size_t)(next() % count);
+}
+
+/* Changes one thing in bytes from `from` on; returns the new length. */
+static size_t change(size_t from, size_t length)
+{
+    size_t at = from + below(length - from + 1);
+    size_t other = below(FILES);
+
+    if (at == length && length == INPUT_MOST)
+        return length;
+    switch (below(8)) {
+    case 0:
+        input[at] = (uint8_t)next();
+        return at == length ? length + 1 : length;
+    case 1:
+        input[at] = (uint8_t)below(6);
+        return at == length ? length + 1 : length;
+    case 2:
+        if (length == INPUT_MOST)
+            return length;
+        memmove(input + at + 1, input + at, length - at);
+        input[at] = (uint8_t)below(6);
+        return length + 1;
+    case 3:
+        if (at == length)
+            return length;
+        memmove(input + at, input + at + 1, length - at - 1);
+        return length - 1;
+    case 4:
+        return at;
+    case 5:
+        if (lengths[other] == 0 || at + lengths[other] > INPUT_MOST)
+            return length;
+        memcpy(input + at, files[other], lengths[other]);
+        return at + lengths[other];
+    default:
+        if (at < length)
+            input[at] ^= (uint8_t)(1u << below(8));
+        return length;
+    }
+}
+
+static void one(size_t count)
+{
+    size_t of = below(count), changes = below(4), length, asked, i;
+
+    /* a question of up to three messages, and the file */
+    asked = below(4);
+    input[0] = (uint8_t)next();
+    input[1] = (uint8_t)below(20);
+    input[2] = (uint8_t)(below(50) == 0);
+    input[3] = (uint8_t)asked;
+    for (i = 0; i < asked; i++)
+        input[HEAD + i] = (uint8_t)below(5);
+    length = HEAD + asked;
+    memcpy(input + length, files[of], lengths[of]);
+    length += lengths[of];
+    for (i = 0; i < changes; i++)
+        length = change(HEAD + asked, length);
+    LLVMFuzzerTestOneInput(input, length);
+}
+
+static size_t load(int count, char **names)
+{
+    size_t loaded = 0;
+    int i;
+
+    for (i = 0; i < count && loaded < FILES; i++) {
+        FILE *stream = fopen(names[i], "rb");
+
+        if (stream == NULL) {
+            perror(names[i]);
+            exit(2);
+        }
+        /* room is left for the question before the file */
+        lengths[loaded] = fread(files[loaded], 1, SWARMBANNER_FILE_MOST / 2, stream);
+        fclose(stream);
+        loaded++;
+    }
+    return loaded;
+}
+
+int main(int count, char **words)
+{
+    unsigned long inputs, i;
+    size_t loaded;
+
+    if (count < 4) {
+        fprintf(stderr, "usage: fuzz_loop SEED COUNT FILE..\n");
+        return 2;
+    }
+    state = strtoul(words[1], NULL, 10);
+    inputs = strtoul(words[2], NULL, 10);
+    loaded = load(count - 3, words + 3);
+    for (i = 0; i < inputs; i++)
+        one(loaded);
+    printf("seed %s, %lu inputs, none fails\n", words[1], inputs);
+    return 0;
+}
