@@ -1,0 +1,74 @@
+//! The machines, a cluster for each.
+
+use std::collections::BTreeMap;
+
+use swarmbanner::Session;
+
+use crate::dot::{Attribute, Dot};
+use crate::text::{action, ranges};
+
+const MARKED: &str = "#c62828";
+const MARKED_FILL: &str = "#fbdede";
+
+/// Draws all machines. The states of a control state and a transition are marked, where they are given.
+pub fn draw(session: &Session, marked: Option<(usize, Option<usize>)>) -> (String, usize) {
+    let mut dot = Dot::new(&title(session));
+    let states = marked.and_then(|(control, _)| session.machine_states(control));
+    let transition = marked.and_then(|(_, transition)| transition);
+    // Clusters are laid out from below.
+    for (number, machine) in session.machines().iter().enumerate().rev() {
+        dot.open_cluster(&format!("m{number}"), &format!("machine {number}"));
+        let begin = format!("m{number}_begin");
+        dot.node(&begin, &[("shape", "point"), ("width", "0.08")]);
+        for state in 0..machine.states {
+            let is_marked = states.as_ref().is_some_and(|states| states[number] == state);
+            draw_state(&mut dot, number, state, is_marked);
+        }
+        dot.arrow(&begin, &name(number, machine.start), &[]);
+        draw_transitions(&mut dot, session, number, transition);
+        dot.close();
+    }
+    dot.finish()
+}
+
+/// Says which messages each queue has.
+fn title(session: &Session) -> String {
+    let queues = session.queues().iter().zip(0..).map(|(queue, number)| {
+        let messages: Vec<usize> = queue.messages.clone().map(usize::from).collect();
+        format!("q{number}: {}", ranges(&messages))
+    });
+    format!("messages of the queues   {}", queues.collect::<Vec<_>>().join("   "))
+}
+
+fn name(machine: usize, state: usize) -> String {
+    format!("m{machine}_{state}")
+}
+
+fn draw_state(dot: &mut Dot, machine: usize, state: usize, is_marked: bool) {
+    let label = state.to_string();
+    let mut attributes: Vec<Attribute> = vec![("label", &label)];
+    if is_marked {
+        attributes.extend([("color", MARKED), ("style", "filled"), ("fillcolor", MARKED_FILL), ("penwidth", "2")]);
+    }
+    dot.node(&name(machine, state), &attributes);
+}
+
+/// Transitions between the same states share an arrow, but the marked one has its own.
+fn draw_transitions(dot: &mut Dot, session: &Session, machine: usize, marked: Option<usize>) {
+    let mut shared: BTreeMap<(usize, usize), Vec<String>> = BTreeMap::new();
+    for (number, transition) in session.transitions().iter().enumerate() {
+        if transition.machine != machine {
+            continue;
+        }
+        let label = format!("{number}: {}", action(&transition.kind));
+        if marked == Some(number) {
+            let attributes = [("label", &label[..]), ("color", MARKED), ("fontcolor", MARKED), ("penwidth", "2")];
+            dot.arrow(&name(machine, transition.from), &name(machine, transition.to), &attributes);
+        } else {
+            shared.entry((transition.from, transition.to)).or_default().push(label);
+        }
+    }
+    for ((from, to), labels) in shared {
+        dot.arrow(&name(machine, from), &name(machine, to), &[("label", &labels.join("\n"))]);
+    }
+}

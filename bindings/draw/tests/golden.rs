@@ -1,0 +1,49 @@
+//! Pictures of small files, held to the DOT kept in `tests/golden`.
+
+use swarmbanner_draw::{pictures, Picture};
+
+/// Case c of document 01: `leaves 0 0 1: 0`. One 0 may wait, so a second send is lost.
+const C: &str = "02 01 01 00 00 01 01 02 00 00 00 01 00 01 00 01 00 00 02 00 01 00 02 01 01 00 01 01 00 01 00";
+/// Case e: `bad 0 0:`.
+const E: &str = "02 01 01 00 00 01 01 02 00 00 00 01 00 01 00 01 00 00 02 00 01 00 01 01 01 00 00 01 01 00 00";
+/// File S: `closed 3`.
+const S: &str = "01 01 00 02 01 01 01 00 00 00 01 00 01 00 02 01 02 00 00 01 01 01 01 01 01 01 00";
+
+fn drawn(file: &str, control: Option<usize>) -> Vec<Picture> {
+    let bytes: Vec<u8> =
+        file.split_whitespace().map(|byte| u8::from_str_radix(byte, 16).expect("two hexadecimal digits")).collect();
+    let session = swarmbanner::read(&bytes).expect("it is a session file");
+    pictures(&session, &swarmbanner::check(&bytes), control)
+}
+
+fn assert_drawn(file: &str, control: Option<usize>, expected: &[(&str, &str)]) {
+    let drawn = drawn(file, control);
+    let names: Vec<&str> = drawn.iter().map(|picture| &picture.name[..]).collect();
+    assert_eq!(names, expected.iter().map(|(name, _)| *name).collect::<Vec<_>>());
+    for (picture, (name, dot)) in drawn.iter().zip(expected) {
+        assert_eq!(picture.dot, *dot, "{name}");
+        assert_eq!(picture.arrows, dot.matches(" -> ").count(), "{name}");
+    }
+}
+
+#[test]
+fn a_step_that_leaves() {
+    let machines = include_str!("golden/c-machines.dot");
+    let leaves = include_str!("golden/c-leaves-0-0.dot");
+    assert_drawn(C, None, &[("machines", machines), ("leaves-0-0", leaves)]);
+}
+
+#[test]
+fn a_bad_entry_and_a_control_state() {
+    let machines = include_str!("golden/e-machines.dot");
+    let bad = include_str!("golden/e-bad-0.dot");
+    let control = include_str!("golden/e-control-0.dot");
+    assert_drawn(E, Some(0), &[("machines", machines), ("bad-0", bad), ("control-0", control)]);
+}
+
+#[test]
+fn nothing_fails() {
+    let machines = include_str!("golden/s-machines.dot");
+    let control = include_str!("golden/s-control-0.dot");
+    assert_drawn(S, None, &[("machines", machines), ("control-0", control)]);
+}

@@ -1,0 +1,121 @@
+//! On generated files: the ways that a picture marks are those of the contents shown.
+
+use std::collections::BTreeMap;
+
+use reference_checker::diagram::accepts;
+use reference_checker::generate::verdicts::Plans;
+use reference_checker::read::{read, Tables};
+use swarmbanner::{Checker, Session};
+use swarmbanner_draw::{pictures, End, Failure, Picture, Way};
+
+const FILES: usize = 6_000;
+const SEED: u64 = 20_261_115;
+
+/// A diagram as it stands in a picture.
+struct Drawn {
+    /// The node that the arrow from the beginning leads to.
+    root: String,
+    /// Arrows marked as the way, by the places of their messages.
+    way: BTreeMap<usize, (String, String)>,
+    finals: Vec<String>,
+    is_lost: bool,
+}
+
+impl Drawn {
+    /// Reads back the part of a picture whose nodes have a prefix.
+    fn read(picture: &Picture, prefix: &str) -> Self {
+        let mut drawn = Drawn { root: String::new(), way: BTreeMap::new(), finals: vec![], is_lost: false };
+        for line in picture.dot.lines().map(str::trim).filter(|line| line.starts_with(prefix)) {
+            let (item, attributes) = line.split_once(" [").unwrap_or((line.trim_end_matches(';'), ""));
+            match item.split_once(" -> ") {
+                Some((from, to)) if from.ends_with("_begin") => drawn.root = to.to_string(),
+                Some((from, to)) if attributes.contains("class=\"way\"") => {
+                    for place in places(attributes) {
+                        drawn.way.insert(place, (from.to_string(), to.to_string()));
+                    }
+                }
+                None if attributes.contains("doublecircle") => drawn.finals.push(item.to_string()),
+                _ => {}
+            }
+            drawn.is_lost |= attributes.contains("class=\"lost\"");
+        }
+        drawn
+    }
+
+    /// Where the marked arrows lead from the root, one after the other.
+    fn end(&self) -> &str {
+        let mut node = &self.root;
+        for (number, (&place, (from, to))) in (1..).zip(&self.way) {
+            assert_eq!((number, node), (place, from), "the way has no gap");
+            node = to;
+        }
+        node
+    }
+
+    fn ends_in_a_final_state(&self) -> bool {
+        !self.is_lost && self.finals.iter().any(|name| name == self.end())
+    }
+}
+
+/// The places in a label such as `q0: 3 [1, 4-6]`.
+fn places(attributes: &str) -> Vec<usize> {
+    let (_, label) = attributes.split_once('[').expect("a marked arrow has its places");
+    let (listed, _) = label.split_once(']').expect("the places end");
+    let ends = listed.split(", ").map(|run| {
+        let (first, last) = run.split_once('-').unwrap_or((run, run));
+        let number = |text: &str| text.parse::<usize>().expect("a place is a number");
+        number(first)..=number(last)
+    });
+    ends.flatten().collect()
+}
+
+fn assert_way(tables: &Tables, way: &Way, drawn: &Drawn, is_final: bool) {
+    assert_eq!(way.end == End::Final, is_final);
+    assert_eq!(drawn.ends_in_a_final_state(), is_final);
+    assert_eq!(drawn.way.len(), way.states.len().saturating_sub(1));
+    assert_eq!(drawn.is_lost, way.end == End::Nowhere);
+    let root = way.states.first().map(|state| state.index());
+    assert_eq!(accepts(tables, root, &way.contents), is_final, "by the reference");
+}
+
+fn assert_failure(tables: &Tables, session: &Session, picture: &Picture, failure: &Failure) {
+    let (first, second) = (Drawn::read(picture, "a"), Drawn::read(picture, "b"));
+    match failure {
+        Failure::Leaves { before: (control, before), transition, after: (target, after) } => {
+            assert_eq!(picture.name, format!("leaves-{control}-{transition}"));
+            assert_eq!(session.step(*control, *transition, &before.contents), Some((*target, after.contents.clone())));
+            assert_way(tables, before, &first, true);
+            assert_way(tables, after, &second, false);
+        }
+        Failure::Bad { entry, inside: (_, inside), bad } => {
+            assert_eq!(picture.name, format!("bad-{entry}"));
+            assert_way(tables, inside, &first, true);
+            assert_way(tables, bad, &second, true);
+        }
+    }
+}
+
+#[test]
+fn marked_ways_end_as_the_verdict_says() {
+    let mut plans = Plans::new(SEED);
+    let mut checker = Checker::new();
+    let (mut leaves, mut bad, mut lost) = (0, 0, 0);
+    for _ in 0..FILES {
+        let bytes = plans.small().bytes();
+        let session = swarmbanner::read(&bytes).expect("plans are session files");
+        let reply = checker.check(&bytes);
+        let drawn = pictures(&session, &reply, None);
+        assert_eq!(drawn.len(), 2);
+        let Some(failure) = Failure::shown(&session, &reply) else { continue };
+        assert_failure(&read(&bytes).expect("plans are session files"), &session, &drawn[1], &failure);
+        match failure {
+            Failure::Leaves { after: (_, after), .. } => {
+                leaves += 1;
+                lost += usize::from(after.end == End::Nowhere);
+            }
+            Failure::Bad { .. } => bad += 1,
+        }
+    }
+    println!("{leaves} leave, {lost} of them by a missing arc or root; {bad} are bad");
+    assert!(leaves > 100 && bad > 100 && lost > 100 && lost < leaves, "too few files of some kind");
+}
