@@ -1,0 +1,94 @@
+/*
+ * The library with one fault, FAULT, to see that the tests notice it. Linked with `-Wl,--wrap` for each of the calls, so
+ * that callers come here and `__real_` is the library.
+ */
+#include "swarmbanner.h"
+
+#define SPACE_ARGUMENTS file, file_len, space, space_len, reply, reply_len
+#define MEMBER_ARGUMENTS file, file_len, control, contents, contents_len, reply, reply_len
+#define CHECK_ARGUMENTS file, file_len, seen, seen_len, queue, queue_len, contents, contents_len, reply, reply_len
+
+#define READ(name) \
+    size_t name(const uint8_t *file, size_t file_len, uint8_t *space, size_t space_len, size_t *reply, size_t reply_len)
+#define MEMBER(name) \
+    size_t name(const uint8_t *file, size_t file_len, size_t control, const uint8_t *contents, size_t contents_len, \
+                size_t *reply, size_t reply_len)
+#define CHECK(name) \
+    size_t name(const uint8_t *file, size_t file_len, uint16_t *seen, size_t seen_len, uint16_t *queue, size_t queue_len, \
+                uint8_t *contents, size_t contents_len, size_t *reply, size_t reply_len)
+
+READ(__real_swarmbanner_read);
+READ(__wrap_swarmbanner_read);
+MEMBER(__real_swarmbanner_member);
+MEMBER(__wrap_swarmbanner_member);
+CHECK(__real_swarmbanner_check);
+CHECK(__wrap_swarmbanner_check);
+
+READ(__wrap_swarmbanner_read)
+{
+    size_t kind = __real_swarmbanner_read(SPACE_ARGUMENTS);
+
+    if (FAULT == 1 && kind == SWARMBANNER_REFUSED)
+        space[0] = 0;
+    if (FAULT == 2 && kind == SWARMBANNER_READ && space_len > SWARMBANNER_SPACE_LEAST)
+        space[SWARMBANNER_SPACE_LEAST] = 0;
+    if (FAULT == 3 && kind == SWARMBANNER_READ)
+        space[SWARMBANNER_AT_ARCS] = 0;
+    if (FAULT == 4 && kind == SWARMBANNER_REFUSED && reply[0] == SWARMBANNER_REFUSED_ORDER)
+        reply[1]++;
+    /* the byte after the file */
+    if (FAULT == 5 && file_len > 0 && ((const volatile uint8_t *)file)[file_len] == 0)
+        return kind;
+    return kind;
+}
+
+MEMBER(__wrap_swarmbanner_member)
+{
+    size_t kind = __real_swarmbanner_member(MEMBER_ARGUMENTS);
+
+    if (FAULT == 6 && kind == SWARMBANNER_NO && contents_len > 0)
+        kind = SWARMBANNER_YES;
+    if (FAULT == 7 && kind == SWARMBANNER_REFUSED && reply[0] == SWARMBANNER_REFUSED_EARLIER)
+        reply[0] = SWARMBANNER_REFUSED_MESSAGE;
+    return kind;
+}
+
+static size_t shown(size_t kind, const size_t *reply)
+{
+    return kind == SWARMBANNER_LEAVES ? reply[2] : kind == SWARMBANNER_BAD ? reply[1] : 0;
+}
+
+static int is_verdict(size_t kind)
+{
+    return kind <= SWARMBANNER_BAD;
+}
+
+CHECK(__wrap_swarmbanner_check)
+{
+    size_t kind;
+
+    if (FAULT == 8 && seen_len == SWARMBANNER_TABLE_LEAST - 1)
+        seen_len++;
+    kind = __real_swarmbanner_check(CHECK_ARGUMENTS);
+    if (FAULT == 9 && is_verdict(kind))
+        seen[seen_len - 1] = 1;
+    if (FAULT == 10 && is_verdict(kind))
+        queue[queue_len - 1] = 1;
+    if (FAULT == 11 && kind == SWARMBANNER_REFUSED && queue_len > 0)
+        queue[queue_len - 1] = 0;
+    if (FAULT == 12 && is_verdict(kind))
+        contents[shown(kind, reply)] = 0;
+    if (FAULT == 13 && is_verdict(kind))
+        contents[-1] = 0;
+    if (FAULT == 14 && is_verdict(kind) && shown(kind, reply) > 1)
+        contents[1] = contents[0];
+    if (FAULT == 15 && kind == SWARMBANNER_CLOSED)
+        reply[0]++;
+    if (FAULT == 16 && kind == SWARMBANNER_LEAVES && reply[2] > 1)
+        kind = SWARMBANNER_CLOSED;
+    if (FAULT == 17 && kind == SWARMBANNER_NO_ROOM && reply_len > 0)
+        reply[0] = 0;
+    if (FAULT == 18 && kind != SWARMBANNER_NO_ROOM && reply_len > SWARMBANNER_REPLY_LEAST)
+        reply[SWARMBANNER_REPLY_LEAST] = 0;
+    return kind;
+}
