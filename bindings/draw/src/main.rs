@@ -1,7 +1,8 @@
 //! Draws a session file: swarmbanner-draw FILE [-o DIR] [--control C]
 
+use std::fmt::Display;
 use std::fs;
-use std::io;
+use std::io::{self, Write};
 use std::path::{Path, PathBuf};
 use std::process::{Command, ExitCode};
 
@@ -57,7 +58,7 @@ fn run(options: &Options) -> Result<(), String> {
     };
     let bytes = fs::read(&options.file).map_err(about(&options.file))?;
     let reply = swarmbanner::check(&bytes);
-    println!("{reply}");
+    say(&reply)?;
     let session = swarmbanner::read(&bytes).map_err(|refusal| refusal.explain())?;
     if let Some(control) = options.control.filter(|&control| control >= session.control_states()) {
         return Err(format!("there is no control state {control}, only 0 to {}", session.control_states() - 1));
@@ -67,10 +68,15 @@ fn run(options: &Options) -> Result<(), String> {
     for picture in pictures(&session, &reply, options.control) {
         let path = options.folder.join(format!("{stem}-{}.dot", picture.name));
         fs::write(&path, &picture.dot).map_err(about(&path))?;
-        println!("{}", path.display());
+        say(&path.display())?;
         render(&picture, &path)?;
     }
     Ok(())
+}
+
+/// A line on standard output, which may have been closed.
+fn say(line: &dyn Display) -> Result<(), String> {
+    writeln!(io::stdout(), "{line}").map_err(|error| format!("standard output: {error}"))
 }
 
 /// An SVG beside the DOT, where Graphviz is installed.
@@ -85,10 +91,7 @@ fn render(picture: &Picture, dot: &Path) -> Result<(), String> {
         return Ok(());
     }
     match Command::new("dot").arg("-Tsvg").arg("-o").arg(&svg).arg(dot).status() {
-        Ok(status) if status.success() => {
-            println!("{}", svg.display());
-            Ok(())
-        }
+        Ok(status) if status.success() => say(&svg.display()),
         Ok(status) => Err(format!("dot fails on {}: {status}", dot.display())),
         Err(error) if error.kind() == io::ErrorKind::NotFound => {
             eprintln!("swarmbanner-draw: dot (Graphviz) is not installed, so there is no {}", svg.display());

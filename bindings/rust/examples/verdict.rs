@@ -3,6 +3,7 @@
 
 use std::env;
 use std::fs;
+use std::io::{self, Write};
 use std::process::ExitCode;
 
 use swarmbanner::{Checker, Reply};
@@ -20,7 +21,9 @@ fn main() -> ExitCode {
         status = status.max(match fs::read(name) {
             Ok(file) => {
                 let reply = checker.check(&file);
-                println!("{prefix}{reply}");
+                if writeln!(io::stdout(), "{prefix}{reply}").is_err() {
+                    return ExitCode::from(2);
+                }
                 grade(&reply)
             }
             Err(error) => {
