@@ -6,6 +6,7 @@ use crate::moves::step;
 use crate::pairs::Node;
 use crate::pairs::Walk;
 use crate::pairs::node_of;
+use session::kinds::Message;
 ghost use mathlib.Core.Path.{_≡_};
 ghost use Prim.Native.Nat.{_<_, _≤_};
 ghost use Rattle.explore.specs.Search.{leadsTo};
@@ -40,7 +41,7 @@ fn leads(arcs: &[u8], rows: &[u8], w: Walk, x: Node, m: u8, code: usize) -> bool
 {
     if x.side == 0 {
         if m < w.cut {
-            return meets(read(arcs, w.entry, x, m), code);
+            return meets(read(arcs, w.entry, x, Message(m)), code);
         }
         if m < w.sum {
             return false;
@@ -51,7 +52,7 @@ fn leads(arcs: &[u8], rows: &[u8], w: Walk, x: Node, m: u8, code: usize) -> bool
         return false;
     }
     if m < w.sum {
-        return meets(read(arcs, w.entry, x, m), code);
+        return meets(read(arcs, w.entry, x, Message(m)), code);
     }
     false
 }

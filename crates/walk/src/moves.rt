@@ -5,6 +5,7 @@ use crate::pairs::Node;
 use crate::pairs::Walk;
 use crate::pairs::code_of;
 use session::kinds::DiagramState;
+use session::kinds::Message;
 use session::pool::Arc;
 use session::tables::ARCS;
 ghost use mathlib.Core.Option.{some};
@@ -25,11 +26,11 @@ pub enum Next {
 }
 
 // The arc of a state for a message. The entry is in the table, so no walk tests for its end.
-fn arc_at(arcs: &[u8], s: u8, m: u8) -> Arc
-    requires { ⌜ s * 32 + m < length (now arcs) ⌝ }
-    ensures { λ r. ⌜ saidArc r ≡ arcAt (now (arcs .entry)) s m ⌝ }
+fn arc_at(arcs: &[u8], s: DiagramState, m: Message) -> Arc
+    requires { ⌜ s .0 * 32 + m .0 < length (now arcs) ⌝ }
+    ensures { λ r. ⌜ saidArc r ≡ arcAt (now (arcs .entry)) (s .0) (m .0) ⌝ }
 {
-    let target = arcs[s as usize * ARCS + m as usize];
+    let target = arcs[s.0 as usize * ARCS + m.0 as usize];
     if target == 0 {
         return Arc::Nowhere;
     }
@@ -37,16 +38,16 @@ fn arc_at(arcs: &[u8], s: u8, m: u8) -> Arc
 }
 
 // Where a place is after a message. A missing arc has nowhere to go, and nowhere stays nowhere.
-pub fn along(arcs: &[u8], t: u8, m: u8) -> u8
+pub fn along(arcs: &[u8], t: u8, m: Message) -> u8
     requires { ⌜ ArcsSmall (now arcs) ⌝ }
     requires { ⌜ t ≤ 127 ⌝ }
-    requires { ⌜ m < 32 ⌝ }
-    ensures { λ r. ⌜ Reads (now (arcs .entry)) t m r ⌝ }
+    requires { ⌜ m .0 < 32 ⌝ }
+    ensures { λ r. ⌜ Reads (now (arcs .entry)) t (m .0) r ⌝ }
 {
     if t == NOWHERE {
         return NOWHERE;
     }
-    let Arc::Target(next) = arc_at(arcs, t, m) else {
+    let Arc::Target(next) = arc_at(arcs, DiagramState(t), m) else {
         return NOWHERE;
     };
     next.0
@@ -62,7 +63,7 @@ pub fn follow(arcs: &[u8], rows: &[u8], at: usize, n: usize, t: u8) -> u8
     let mut s = t;
     let mut i: usize = 0;
     while i < n {
-        s = along(arcs, s, rows[at + i]);
+        s = along(arcs, s, Message(rows[at + i]));
         i += 1;
     }
     s
@@ -85,13 +86,13 @@ fn pair_to(entry: bool, y: Node) -> Next
 }
 
 // Both places read a message. The pair is dropped where the source has nowhere to go.
-pub fn read(arcs: &[u8], entry: bool, x: Node, m: u8) -> Next
+pub fn read(arcs: &[u8], entry: bool, x: Node, m: Message) -> Next
     requires { ⌜ ArcsSmall (now arcs) ⌝ }
     requires { ⌜ NodeFits x ⌝ }
-    requires { ⌜ m < 32 ⌝ }
-    ensures { λ r. ⌜ LeadsTo r (readOver (now (arcs .entry)) entry (x .side) (x .source) (place (x .target)) m) ⌝ }
+    requires { ⌜ m .0 < 32 ⌝ }
+    ensures { λ r. ⌜ LeadsTo r (readOver (now (arcs .entry)) entry (x .side) (x .source) (place (x .target)) (m .0)) ⌝ }
 {
-    let Arc::Target(source) = arc_at(arcs, x.source, m) else {
+    let Arc::Target(source) = arc_at(arcs, DiagramState(x.source), m) else {
         return Next::Nowhere;
     };
     let target = along(arcs, x.target, m);

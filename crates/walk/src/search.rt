@@ -9,6 +9,7 @@ use crate::pairs::Node;
 use crate::pairs::Walk;
 use crate::pairs::code_of;
 use crate::pairs::node_of;
+use session::kinds::Message;
 ghost use mathlib.Core.Path.{_≡_};
 ghost use Prim.Native.Nat.{suc, _-_, _<_, _≤_};
 ghost use lib.ListN.{length};
@@ -64,7 +65,7 @@ fn sweep(
     let mut tail = found;
     let mut m = first;
     while m < end {
-        let next = read(arcs, entry, x, m);
+        let next = read(arcs, entry, x, Message(m));
         tail = mark_next(next, from, seen, queue, tail);
         m += 1;
     }

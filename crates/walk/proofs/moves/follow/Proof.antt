@@ -19,12 +19,12 @@ loop-holds : tie.Need-loop-holds Inv-loop μ-loop
 loop-holds c = (follow-begin (c .before .before .pre .1 .1), omega arith)
 
 -- src/moves.rt:47:33
-add-along : tie.Need-add-along Inv-loop μ-loop
-add-along c = omega (arith, c .before .before .before .before .pre .1 .0 .within)
+add-t9 : tie.Need-add-t9 Inv-loop μ-loop
+add-t9 c = omega (arith, c .before .before .before .before .pre .1 .0 .within)
 
 -- src/moves.rt:47:28
-shared-slice-read-along : tie.Need-shared-slice-read-along Inv-loop μ-loop
-shared-slice-read-along c = omega (arith, c .before .before .before .before .before .pre .1 .0 .within)
+shared-slice-read-t11 : tie.Need-shared-slice-read-t11 Inv-loop μ-loop
+shared-slice-read-t11 c = omega (arith, c .before .before .before .before .before .pre .1 .0 .within)
 
 -- src/moves.rt:47:9
 along-requires : tie.Need-along-requires Inv-loop μ-loop
@@ -53,8 +53,8 @@ follow-spec =
     Inv-loop
     μ-loop
     loop-holds
-    add-along
-    shared-slice-read-along
+    add-t9
+    shared-slice-read-t11
     along-requires
     add-i
     loop-less

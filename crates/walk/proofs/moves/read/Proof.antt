@@ -28,7 +28,7 @@ enum-told c = search needs
 returns : tie.Need-returns
 returns c =
     let a = c .before .before .before .before .args in
-    leads-nowhere (read-missing (now (a .arcs)) (a .entry) (a .x .side) (a .x .source) (place (a .x .target)) (a .m) (c .before .before .before .before .pre .1 .1) (sym (c .before .before .arc-at .ensures) ∙ ap saidArc (c .enum-told .given .1)))
+    leads-nowhere (read-missing (now (a .arcs)) (a .entry) (a .x .side) (a .x .source) (place (a .x .target)) (a .m .0) (c .before .before .before .before .pre .1 .1) (sym (c .before .before .arc-at .ensures) ∙ ap saidArc (c .enum-told .given .1)))
 
 -- src/moves.rt:82:9
 along-requires : tie.Need-along-requires
@@ -42,7 +42,7 @@ pair-to-requires c κs = record { side = c .before .before .before .before .befo
 returns-2 : tie.Need-returns-2
 returns-2 c =
     let a = c .before .before .before .before .before .before .before .args in
-    leads-as (read-is (a .entry) (a .x .side) (a .x .source) (a .m) (c .before .before .before .before .before .before .before .pre .1 .1) (sym (c .before .before .before .before .before .arc-at .ensures) ∙ ap saidArc (c .before .before .before .source .given .1)) (c .before .along .ensures)) (c .pair-to .ensures)
+    leads-as (read-is (a .entry) (a .x .side) (a .x .source) (a .m .0) (c .before .before .before .before .before .before .before .pre .1 .1) (sym (c .before .before .before .before .before .arc-at .ensures) ∙ ap saidArc (c .before .before .before .source .given .1)) (c .before .along .ensures)) (c .pair-to .ensures)
 
 pub read-spec : {M : Type 1} → statement M
 read-spec =
