@@ -8,6 +8,7 @@ pub mod Clearing
 pub mod Exploring
 pub mod Over
 pub mod Valid
+pub mod Lowest
 pub mod Edges
 pub mod Shown
 pub mod Turning

@@ -8,11 +8,11 @@ use crate::pairs::Walk;
 use crate::pairs::node_of;
 use session::kinds::Message;
 ghost use mathlib.Core.Path.{_≡_};
-ghost use Prim.Native.Nat.{_<_, _≤_};
-ghost use Rattle.explore.specs.Search.{leadsTo};
+ghost use Prim.Native.Nat.{_-_, _<_, _≤_};
+ghost use Rattle.explore.specs.Search.{leadsTo, lowestFrom};
 ghost use Rattle.model.specs.Judge.{same};
 ghost use Rattle.walk.specs.Pairs.{mostPairs, pairOf, decode, NodeFits};
-ghost use Rattle.walk.specs.Over.{goOver, Lent};
+ghost use Rattle.walk.specs.Over.{readFrom, ArcsSmall, Lent};
 ghost use Rattle.walk.specs.Leads.{saidNext};
 ghost use Rattle.walk.specs.Shown.{letterOver, Placed, EdgeOf};
 
@@ -32,46 +32,45 @@ fn meets(next: Next, code: usize) -> bool
     own == code
 }
 
-// Does this letter lead from one pair to the other?
-fn leads(arcs: &[u8], rows: &[u8], w: Walk, x: Node, m: u8, code: usize) -> bool
-    requires { ⌜ Lent (now arcs) (now rows) w ⌝ }
+// The lowest message from first on and below end that leads from one pair to the other, or end.
+fn message_to(arcs: &[u8], entry: bool, x: Node, first: u8, end: u8, code: usize) -> u8
+    requires { ⌜ ArcsSmall (now arcs) ⌝ }
     requires { ⌜ NodeFits x ⌝ }
-    requires { ⌜ m ≤ w .sum ⌝ }
-    ensures { λ r. ⌜ r ≡ leadsTo same (goOver (now (arcs .entry)) (now (rows .entry)) w (pairOf x) m) (decode code) ⌝ }
+    requires { ⌜ end ≤ 32 ⌝ }
+    ensures { λ r. ⌜ r ≡ lowestFrom (readFrom (now (arcs .entry)) entry x) same (pairOf x) (decode code) (end - first) first ⌝ }
 {
-    if x.side == 0 {
-        if m < w.cut {
-            return meets(read(arcs, w.entry, x, Message(m)), code);
+    let mut m = first;
+    while m < end {
+        if meets(read(arcs, entry, x, Message(m)), code) {
+            return m;
         }
-        if m < w.sum {
-            return false;
-        }
-        return meets(step(arcs, rows, w, x), code);
+        m += 1;
     }
-    if m < w.cut {
-        return false;
-    }
-    if m < w.sum {
-        return meets(read(arcs, w.entry, x, Message(m)), code);
-    }
-    false
+    m
 }
 
-// The lowest letter that leads from one pair to the other.
+// The lowest letter that leads from one pair to the other, or one past them all. Only those of the pair's side are tried.
 fn letter_of(arcs: &[u8], rows: &[u8], w: Walk, from: usize, code: usize) -> u8
     requires { ⌜ Lent (now arcs) (now rows) w ⌝ }
     requires { ⌜ from < mostPairs ⌝ }
     ensures { λ r. ⌜ r ≡ letterOver (now (arcs .entry)) (now (rows .entry)) w from code ⌝ }
 {
     let x = node_of(from);
-    let mut m: u8 = 0;
-    while m <= w.sum {
-        if leads(arcs, rows, w, x, m, code) {
+    if x.side == 0 {
+        let m = message_to(arcs, w.entry, x, 0, w.cut, code);
+        if m < w.cut {
             return m;
         }
-        m += 1;
+        if meets(step(arcs, rows, w, x), code) {
+            return w.sum;
+        }
+        return w.sum + 1;
     }
-    m
+    let m = message_to(arcs, w.entry, x, w.cut, w.sum, code);
+    if m < w.sum {
+        return m;
+    }
+    w.sum + 1
 }
 
 // The edge that a pair was found along; the first pair has none.
