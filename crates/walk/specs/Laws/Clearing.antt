@@ -1,28 +1,26 @@
--- Clearing: what is still marked is in the part of the queue that is still to be cleared.
+-- Clearing: what is still marked is in the part of the queue that is still to be visited.
 use mathlib.Core.Path.{_≡_, refl, sym, ap, _∙_}
 use mathlib.Core.Logic.{_⊎_, inl, inr, ⊎-elim}
 use mathlib.Core.Bool.{Bool, true, false, not, true≢false}
 use mathlib.Core.List.{List, [], _∷_}
-use Prim.Native.Nat.{ℕ, zero, suc, _+_, _≤_, _<_}
+use Prim.Native.Nat.{ℕ, zero, suc, _-_, _≤_, _<_}
 use native.Mathlib.Omega.{arith}
-use native.Mathlib.Decide.{decLt}
 use lib.Dec.{eqb}
 use lib.ListN.{length, getD, set, take, replicate, length-set, length-replicate, getD-replicate}
 use lib.Seq.{getD-set-same, getD-set-other, ext-getD}
 use borrow.Author.Tests.{eqb-true, eqb-false}
 use Rattle.walk.specs.Pairs.{mostPairs}
-use Rattle.walk.specs.Marks.{mem, Tables, Blank, count}
-use Rattle.walk.specs.Laws.Marks.{tables-most}
+use Rattle.walk.specs.Marks.{mem, Tables, Zeros, ZerosFrom, Blank, count}
 
--- the entries of the queue before k are cleared
-pub record Clearing (seen queue : List ℕ) (tail k : ℕ) : Type 0 where
-  pub seenLong : length seen ≡ mostPairs
-  pub queueLong : length queue ≡ mostPairs
-  pub most : tail ≤ mostPairs
-  pub marks : (c : ℕ) → (getD seen c 0 ≡ 0) ⊎ ((j : ℕ) × (k ≤ j) × (j < tail) × (getD queue j 0 ≡ c))
-  pub codes : (j : ℕ) → getD queue j 0 < mostPairs
-  pub done : (j : ℕ) → j < k → getD queue j 0 ≡ 0
-  pub rest : (j : ℕ) → tail ≤ j → getD queue j 0 ≡ 0
+all-zero : (l : List ℕ) → ((c : ℕ) → getD l c 0 ≡ 0) → l ≡ replicate (length l) 0
+all-zero l e =
+    ext-getD 0 l (replicate (length l) 0) (sym (length-replicate (length l) 0))
+    (λ i h. e i ∙ sym (getD-replicate (length l) i 0 0 h))
+
+-- THE MARKS of the places below k are left
+pub record Unmarking (seen queue : List ℕ) (k : ℕ) : Type 0 where
+  pub long : length seen ≡ mostPairs
+  pub marks : (c : ℕ) → (getD seen c 0 ≡ 0) ⊎ ((j : ℕ) × (j < k) × (getD queue j 0 ≡ c))
 
 -- a member of the front has its place there
 mem-place : (c n : ℕ) (l : List ℕ) → mem c (take n l) ≡ true → (j : ℕ) × (j < n) × (getD l j 0 ≡ c)
@@ -35,85 +33,62 @@ mem-place c (suc n) (a ∷ l) e = byTest (eqb a c) refl e (mem-place c n l)
     byTest true t e below = (0, omega arith, eqb-true a c t)
     byTest false t e below = let r = below e in (suc (r .0), omega (arith, r .1), r .2)
 
-pub clearing-begin : {seen queue : List ℕ} {tail : ℕ} → Tables seen queue tail → Clearing seen queue tail 0
-clearing-begin {seen} {queue} {tail} T =
-    record {
-      seenLong = T .seenLong;
-      queueLong = T .queueLong;
-      most = tables-most T;
-      marks = λ c. byTest c (eqb (getD seen c 0) 0) refl;
-      codes = T .codes;
-      done = λ j l. absurd (omega arith);
-      rest = T .rest;
-    }
+pub unmark-begin : {seen queue : List ℕ} {tail : ℕ} → Tables seen queue tail → Unmarking seen queue tail
+unmark-begin {seen} {queue} {tail} T = record { long = T .seenLong; marks = λ c. byTest c (eqb (getD seen c 0) 0) refl }
   where
-    byTest : (c : ℕ) (b : Bool) → eqb (getD seen c 0) 0 ≡ b → (getD seen c 0 ≡ 0) ⊎ ((j : ℕ) × (0 ≤ j) × (j < tail) × (getD queue j 0 ≡ c))
+    byTest : (c : ℕ) (b : Bool) → eqb (getD seen c 0) 0 ≡ b → (getD seen c 0 ≡ 0) ⊎ ((j : ℕ) × (j < tail) × (getD queue j 0 ≡ c))
     byTest c true t = inl (eqb-true (getD seen c 0) 0 t)
-    byTest c false t =
-        let r = mem-place c tail queue (T .known c ∙ ap not t) in
-        inr (r .0, omega arith, r .1, r .2)
+    byTest c false t = inr (mem-place c tail queue (T .known c ∙ ap not t))
 
-module _ {seen queue : List ℕ} {tail k : ℕ} (C : Clearing seen queue tail k) (l : k < tail) where
-  abbrev code : ℕ
-  code = getD queue k 0
-
-  in-seen : code < length seen
-  in-seen = omega (arith, C .codes k, C .seenLong)
-
-  in-queue : k < length queue
-  in-queue = omega (arith, C .most, C .queueLong)
-
-  at-place : (P : ℕ → Type 0) (j : ℕ) → (j ≡ k → P 0) → ((j ≡ k → ⊥) → P (getD queue j 0)) → P (getD (set queue k 0) j 0)
-  at-place P j here there = byTest (eqb j k) refl
+module _ {seen queue : List ℕ} {k : ℕ} (U : Unmarking seen queue k) where
+  pub unmark-next : {code : ℕ} → 0 < k → code ≡ getD queue (k - 1) 0 → code < mostPairs → Unmarking (set seen code 0) queue (k - 1)
+  unmark-next {code} l e small =
+      record { long = length-set seen code 0 ∙ U .long; marks = λ c. byTest c (eqb c code) refl }
     where
-      byTest : (b : Bool) → eqb j k ≡ b → P (getD (set queue k 0) j 0)
-      byTest true t = let z = eqb-true j k t in rw (z, getD-set-same queue k 0 0 in-queue) (here z)
-      byTest false t = let z = eqb-false j k t in rw (getD-set-other queue k j 0 0 z) (there z)
-
-  marks-next : (c : ℕ) → (getD (set seen code 0) c 0 ≡ 0) ⊎ ((j : ℕ) × (k + 1 ≤ j) × (j < tail) × (getD (set queue k 0) j 0 ≡ c))
-  marks-next c = byTest (eqb c code) refl
-    where
-      other : (c ≡ code → ⊥) → (getD seen c 0 ≡ 0) ⊎ ((j : ℕ) × (k ≤ j) × (j < tail) × (getD queue j 0 ≡ c))
-          → (getD (set seen code 0) c 0 ≡ 0) ⊎ ((j : ℕ) × (k + 1 ≤ j) × (j < tail) × (getD (set queue k 0) j 0 ≡ c))
-      other n (inl e) = inl (getD-set-other seen code c 0 0 n ∙ e)
-      other n (inr r) =
+      other : (c : ℕ) → (c ≡ code → ⊥) → (getD seen c 0 ≡ 0) ⊎ ((j : ℕ) × (j < k) × (getD queue j 0 ≡ c))
+          → (getD (set seen code 0) c 0 ≡ 0) ⊎ ((j : ℕ) × (j < k - 1) × (getD queue j 0 ≡ c))
+      other c n (inl z) = inl (getD-set-other seen code c 0 0 n ∙ z)
+      other c n (inr r) =
           let j : ℕ = r .0 in
-          let apart : (j ≡ k → ⊥) = λ e. n (sym (r .3) ∙ ap (λ i. getD queue i 0) e) in
-          let below : k ≤ j = r .1 in
-          inr (j, omega arith, r .2, getD-set-other queue k j 0 0 apart ∙ r .3)
+          let below : j < k = r .1 in
+          let apart : (j ≡ k - 1 → ⊥) = λ z. n (sym (r .2) ∙ ap (λ i. getD queue i 0) z ∙ sym e) in
+          inr (j, omega arith, r .2)
 
-      byTest : (b : Bool) → eqb c code ≡ b → (getD (set seen code 0) c 0 ≡ 0) ⊎ ((j : ℕ) × (k + 1 ≤ j) × (j < tail) × (getD (set queue k 0) j 0 ≡ c))
-      byTest true t =
-          inl (ap (λ d. getD (set seen code 0) d 0) (eqb-true c code t) ∙ getD-set-same seen code 0 0 in-seen)
-      byTest false t = other (eqb-false c code t) (C .marks c)
+      byTest : (c : ℕ) (b : Bool) → eqb c code ≡ b
+          → (getD (set seen code 0) c 0 ≡ 0) ⊎ ((j : ℕ) × (j < k - 1) × (getD queue j 0 ≡ c))
+      byTest c true t =
+          inl (ap (λ d. getD (set seen code 0) d 0) (eqb-true c code t) ∙ getD-set-same seen code 0 0 (omega (arith, U .long)))
+      byTest c false t = other c (eqb-false c code t) (U .marks c)
 
-  pub clearing-next : Clearing (set seen code 0) (set queue k 0) tail (k + 1)
-  clearing-next =
+  pub unmark-end : k ≤ 0 → Zeros seen
+  unmark-end h =
+      record { is = all-zero seen (λ c. ⊎-elim (λ z. z) (λ r. absurd (let below : r .0 < k = r .1 in omega arith)) (U .marks c)) }
+
+-- THE ENTRIES of the places below k are left
+pub record Emptying (queue : List ℕ) (n k : ℕ) : Type 0 where
+  pub long : length queue ≡ n
+  pub most : k ≤ n
+  pub zeros : ZerosFrom queue k
+
+module _ {queue : List ℕ} {n k : ℕ} (E : Emptying queue n k) where
+  pub empty-next : 0 < k → Emptying (set queue (k - 1) 0) n (k - 1)
+  empty-next l =
       record {
-        seenLong = length-set seen code 0 ∙ C .seenLong;
-        queueLong = length-set queue k 0 ∙ C .queueLong;
-        most = C .most;
-        marks = marks-next;
-        codes = λ j. at-place (λ a. a < mostPairs) j (λ z. omega arith) (λ z. C .codes j);
-        done = λ j g. at-place (λ a. a ≡ 0) j (λ z. refl) (λ z. C .done j (omega arith));
-        rest = λ j g. at-place (λ a. a ≡ 0) j (λ z. refl) (λ z. C .rest j g);
+        long = length-set queue (k - 1) 0 ∙ E .long;
+        most = omega (arith, E .most);
+        zeros = record { each = λ j h. byTest j h (eqb j (k - 1)) refl };
       }
+    where
+      byTest : (j : ℕ) → k - 1 ≤ j → (b : Bool) → eqb j (k - 1) ≡ b → getD (set queue (k - 1) 0) j 0 ≡ 0
+      byTest j h true t =
+          ap (λ i. getD (set queue (k - 1) 0) i 0) (eqb-true j (k - 1) t)
+          ∙ getD-set-same queue (k - 1) 0 0 (omega (arith, E .long, E .most))
+      byTest j h false t =
+          let apart = eqb-false j (k - 1) t in
+          getD-set-other queue (k - 1) j 0 0 apart ∙ E .zeros .each j (omega arith)
 
-all-zero : (l : List ℕ) → ((c : ℕ) → getD l c 0 ≡ 0) → l ≡ replicate (length l) 0
-all-zero l e =
-    ext-getD 0 l (replicate (length l) 0) (sym (length-replicate (length l) 0))
-    (λ i h. e i ∙ sym (getD-replicate (length l) i 0 0 h))
-
-pub clearing-end : {seen queue : List ℕ} {tail k : ℕ} → Clearing seen queue tail k → tail ≤ k → Blank seen queue
-clearing-end {seen} {queue} {tail} {k} C h =
-    record {
-      seenBlank = all-zero seen (λ c. ⊎-elim (λ e. e) (λ r. absurd (let a : k ≤ r .0 = r .1 in let b : r .0 < tail = r .2 in omega arith)) (C .marks c));
-      queueBlank = all-zero queue (λ j. byPlace j (decLt j k));
-    }
-  where
-    byPlace : (j : ℕ) → Dec (j < k) → getD queue j 0 ≡ 0
-    byPlace j (yes l) = C .done j l
-    byPlace j (no g) = C .rest j (omega arith)
+  pub empty-end : k ≤ 0 → Zeros queue
+  empty-end h = record { is = all-zero queue (λ j. E .zeros .each j (omega arith)) }
 
 -- and tables that are all 0 show nothing
 blank-entry : (l : List ℕ) → l ≡ replicate (length l) 0 → (c : ℕ) → getD l c 0 ≡ 0
