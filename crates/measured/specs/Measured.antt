@@ -11,11 +11,11 @@ use Rattle.verdict.specs.Check.{saidVerdict}
 use Rattle.verdict.specs.declared.check.Verdict.{Verdict}
 use Rattle.verdict.specs.declared.check.Verdict.the-variants.{Closed, Outside, Leaves, Bad, Refused, ShortMemory}
 
-abbrev pub together : List ℕ → List ℕ → List ℕ → ℕ → ℕ
-together rows arcs roots i = cond (ltb i 256) (getD rows i 0 + getD arcs i 0 + getD roots i 0) 0
+abbrev pub together : List ℕ → List ℕ → ℕ → ℕ
+together finals roots i = cond (ltb i 127) (getD finals i 0 + getD roots i 0) 0
 
 abbrev pub sampled : Tables → ℕ → ℕ
-sampled T i = together (T .transitions .rows) (T .pool .arcs) (T .map .roots) i
+sampled T i = together (T .pool .finals) (T .map .roots) i
 
 abbrev pub toldOf : Verdict → ℕ
 toldOf (Closed pairs) = pairs

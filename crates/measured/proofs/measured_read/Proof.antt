@@ -9,17 +9,17 @@ use Rattle.measured.proofs.measured_read.Lts as lts
 use Rattle.measured.proofs.sample.Reads as sample-reads
 use Rattle.session.proofs.reading.read.Reads as read-reads
 
--- src/lib.rt:24:9
+-- src/lib.rt:25:9
 read-requires : tie.Need-read-requires
 read-requires c κs = search needs
 
--- src/lib.rt:32:5
+-- src/lib.rt:31:5
 sample-requires : tie.Need-sample-requires
 sample-requires c κs = search needs
 
--- src/lib.rt:20:1
+-- src/lib.rt:21:1
 returns : tie.Need-returns
-returns c = c .sample .ensures ∙ ap (λ (T : Tables). sampled T (c .before .before .before .before .before .before .before .before .before .before .args .i)) (c .before .before .before .before .before .before .before .before .read .ensures .tables)
+returns c = c .sample .ensures ∙ ap (λ (T : Tables). sampled T (c .before .before .before .before .before .before .before .before .args .i)) (c .before .before .before .before .before .before .read .ensures .tables)
 
 pub measured-read-spec : {M : Type 1} → statement M
 measured-read-spec = tie.close (tie.spec read-requires sample-requires returns)

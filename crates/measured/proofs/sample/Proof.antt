@@ -14,11 +14,11 @@ array-read-wide c = search needs
 wide-requires : tie.Need-wide-requires
 wide-requires c κs = search needs
 
--- src/lib.rt:14:37
+-- src/lib.rt:14:39
 array-read-wide-2 : tie.Need-array-read-wide-2
 array-read-wide-2 c = search needs
 
--- src/lib.rt:14:32
+-- src/lib.rt:14:34
 wide-requires-2 : tie.Need-wide-requires-2
 wide-requires-2 c κs = search needs
 
@@ -26,21 +26,9 @@ wide-requires-2 c κs = search needs
 add-result : tie.Need-add-result
 add-result c = search needs
 
--- src/lib.rt:14:53
-array-read-wide-3 : tie.Need-array-read-wide-3
-array-read-wide-3 c = search needs
-
--- src/lib.rt:14:48
-wide-requires-3 : tie.Need-wide-requires-3
-wide-requires-3 c κs = search needs
-
--- src/lib.rt:14:16
-add-result-2 : tie.Need-add-result-2
-add-result-2 c = search needs
-
 -- src/lib.rt:14:9
 returns : tie.Need-returns
-returns c = rw (lt-ltb _ _ (c .before .before .before .if1 .taken), c .wide3 .ensures .same, c .before .wide2 .ensures .same, c .before .before .wide .ensures .same)
+returns c = rw (lt-ltb _ _ (c .before .before .if1 .taken), c .wide2 .ensures .same, c .before .wide .ensures .same)
 
 -- src/lib.rt:10:1
 returns-2 : tie.Need-returns-2
@@ -55,8 +43,5 @@ sample-spec =
     array-read-wide-2
     wide-requires-2
     add-result
-    array-read-wide-3
-    wide-requires-3
-    add-result-2
     returns
     returns-2)
