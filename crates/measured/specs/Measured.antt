@@ -1,10 +1,10 @@
 -- What the benchmark's calls answer.
+use mathlib.Core.Bool.{cond}
 use Prim.Native.Nat.{ℕ, _+_, _%_}
 use mathlib.Core.Path.{_≡_}
 use mathlib.Core.List.{List}
 use lib.ListN.{getD}
 use lib.Dec.{ltb}
-use Rattle.session.specs.Part.{cond}
 use Rattle.session.specs.declared.tables.Tables.{Tables}
 use Rattle.meaning.specs.Checking.{Checks}
 use Rattle.verdict.specs.Check.{saidVerdict}

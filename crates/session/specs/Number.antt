@@ -1,9 +1,10 @@
 -- The numbers of a session file (document 01, "The session file"): groups of seven bits, low group first.
+use mathlib.Core.Bool.{cond}
 use Prim.Native.Nat.{ℕ, _+_, _-_, _*_}
 use mathlib.Core.List.{List}
 use lib.ListN.{length, getD}
 use lib.Dec.{ltb, leb}
-use Rattle.session.specs.Part.{Part, got, refused, cond, provided, andThen}
+use Rattle.session.specs.Part.{Part, got, refused, provided, andThen}
 
 -- one byte below 128, or two: the first with its top bit set, the second neither 0 nor with its top bit set
 unfoldable pub readNumber : List ℕ → ℕ → Part ℕ

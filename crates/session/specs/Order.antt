@@ -2,12 +2,11 @@
 -- earlier queue. The messages before a queue are those below its first.
 use Prim.Native.Nat.{ℕ, zero, suc, _+_, _*_}
 use mathlib.Core.List.{List}
-use mathlib.Core.Bool.{Bool, true, false}
+use mathlib.Core.Bool.{Bool, true, false, cond}
 use mathlib.Core.Option.{none, some}
 use lib.ListN.{getD, set, replicate}
 use lib.Dec.{leb}
 use Rattle.session.specs.Limits.{mostPool}
-use Rattle.session.specs.Part.{cond}
 use Rattle.session.specs.Pool.{arcAt}
 use Rattle.session.specs.declared.tables.Queues.{Queues}
 use Rattle.session.specs.declared.tables.Pool.{Pool}

@@ -8,10 +8,6 @@ pub data Part (A : Type 0) : Type 0 where
   refused : ℕ → ℕ → Part A
 
 module _ {A : Type 0} where
-  abbrev pub cond : Bool → A → A → A
-  cond true x y = x
-  cond false x y = y
-
   -- the part, if the test holds; else refusal k at place p
   abbrev pub provided : Bool → ℕ → ℕ → Part A → Part A
   provided true k p x = x

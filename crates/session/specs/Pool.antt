@@ -1,11 +1,12 @@
 -- Field 4: the pool of diagram states, with a dense table of arcs: state · 32 + message holds 0 for none, else 1 plus the target.
+use mathlib.Core.Bool.{cond}
 use Prim.Native.Nat.{ℕ, zero, suc, _+_, _-_, _*_}
 use mathlib.Core.List.{List}
 use mathlib.Core.Option.{Option, none, some}
 use lib.ListN.{getD, set, replicate}
 use lib.Dec.{leb, eqb}
 use Rattle.session.specs.Limits.{mostPool, mostMessages}
-use Rattle.session.specs.Part.{Part, got, cond, provided, andThen}
+use Rattle.session.specs.Part.{Part, got, provided, andThen}
 use Rattle.session.specs.Number.{readWithin, readBelow}
 use Rattle.session.specs.declared.tables.Pool.{Pool}
 

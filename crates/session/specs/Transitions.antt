@@ -1,10 +1,11 @@
 -- Field 3: the transitions. Each has a row of the table: machine, from, to, kind, queue, word length, and the word's messages.
+use mathlib.Core.Bool.{cond}
 use Prim.Native.Nat.{ℕ, zero, suc, _+_, _*_}
 use mathlib.Core.List.{List}
 use lib.ListN.{getD, set, replicate}
 use lib.Dec.{ltb, leb, eqb}
 use Rattle.session.specs.Limits.{mostTransitions, mostWord}
-use Rattle.session.specs.Part.{Part, got, cond, provided, andThen}
+use Rattle.session.specs.Part.{Part, got, provided, andThen}
 use Rattle.session.specs.Number.{readWithin, readBelow, readTwo}
 use Rattle.session.specs.Queues.{firstOf}
 use Rattle.session.specs.declared.tables.Machines.{Machines}

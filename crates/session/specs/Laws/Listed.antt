@@ -1,7 +1,7 @@
 -- The pool as the file lists it, state after state, and that the tables of the pool are this list.
 use Prim.Native.Nat.{ℕ, zero, suc, _+_, _-_, _*_, _≤_, _<_}
 use mathlib.Core.Path.{_≡_, refl, sym, ap, subst, _∙_}
-use mathlib.Core.Bool.{Bool, true, false}
+use mathlib.Core.Bool.{Bool, true, false, cond}
 use mathlib.Core.List.{List, [], _∷_}
 use mathlib.Core.Option.{Option, none, some}
 use lib.ListN.{length, getD, set, replicate, length-set, length-replicate, List·getD-eq-default}
@@ -11,7 +11,7 @@ use borrow.Author.Tests.{eq-eqb, ltb-true, ltb-false}
 use native.Mathlib.Omega.{arith}
 use native.Mathlib.Nat.{zero-add, add-zero}
 use Rattle.session.specs.Limits.{mostPool, mostMessages}
-use Rattle.session.specs.Part.{Part, got, cond, andThen}
+use Rattle.session.specs.Part.{Part, got, andThen}
 use Rattle.session.specs.PartLaws.{andThen-got, same-value, same-place}
 use Rattle.session.specs.Number.{readWithin, readBelow}
 use Rattle.session.specs.Pool.{arcAt, readState, readStates, readPool}

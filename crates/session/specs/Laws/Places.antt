@@ -1,7 +1,7 @@
 -- Where reading is, and where it refuses: places only grow and stay within the file, and a part refuses by 3 to 8.
 use Prim.Native.Nat.{ℕ, zero, suc, _+_, _-_, _*_, _≤_}
 use mathlib.Core.Path.{_≡_, refl, sym, ap, subst, _∙_}
-use mathlib.Core.Bool.{Bool, true, false}
+use mathlib.Core.Bool.{Bool, true, false, cond}
 use mathlib.Core.Logic.{_⊎_, inl, inr}
 use mathlib.Core.List.{List}
 use lib.ListN.{length, getD, set, replicate}
@@ -9,7 +9,7 @@ use lib.Dec.{ltb, leb, eqb}
 use borrow.Author.Tests.{ltb-true}
 use native.Mathlib.Omega.{arith}
 use Rattle.session.specs.Limits.{mostMachines, mostStates, mostControls, mostQueues, mostMessages, mostTransitions, mostWord, mostPool, mostBad}
-use Rattle.session.specs.Part.{Part, got, refused, cond, provided, andThen}
+use Rattle.session.specs.Part.{Part, got, refused, provided, andThen}
 use Rattle.session.specs.Number.{readNumber, readWithin, readBelow, readTwo}
 use Rattle.session.specs.Machines.{readFactor, readSizes, readStarts, countedMachines, readMachines}
 use Rattle.session.specs.Queues.{readTerm, readCounts, readQueues, firstOf}

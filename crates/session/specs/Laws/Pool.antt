@@ -1,7 +1,7 @@
 -- What holds of the pool that was read (field 4), and what an arc of it says.
 use Prim.Native.Nat.{ℕ, zero, suc, _+_, _-_, _*_, _≤_, _<_}
 use mathlib.Core.Path.{_≡_, refl, ap, subst, _∙_}
-use mathlib.Core.Bool.{Bool, true, false}
+use mathlib.Core.Bool.{Bool, true, false, cond}
 use mathlib.Core.List.{List}
 use mathlib.Core.Option.{none, some}
 use lib.ListN.{length, getD, set, replicate, length-set, length-replicate}
@@ -11,7 +11,7 @@ use borrow.Author.Tests.{eqb-false, ne-eqb, ltb-true, ltb-false}
 use native.Mathlib.Omega.{arith}
 use native.Mathlib.Nat.{zero-add}
 use Rattle.session.specs.Limits.{mostPool, mostMessages}
-use Rattle.session.specs.Part.{got, cond}
+use Rattle.session.specs.Part.{got}
 use Rattle.session.specs.PartLaws.{andThen-got, same-value}
 use Rattle.session.specs.Number.{readWithin, readBelow}
 use Rattle.session.specs.Pool.{arcAt, readArc, readArcs, readState, readStates, readPool}

@@ -1,10 +1,11 @@
 -- What the promise of reading says to whoever holds an answer: there is one reading, and what it means.
+use mathlib.Core.Bool.{cond}
 use Prim.Native.Nat.{ℕ}
 use mathlib.Core.Path.{_≡_, refl, sym, ap, _∙_}
 use mathlib.Core.List.{List}
 use lib.Dec.{eqb}
 use native.Mathlib.Omega.{arith}
-use Rattle.session.specs.Part.{Part, got, refused, cond}
+use Rattle.session.specs.Part.{Part, got, refused}
 use Rattle.session.specs.Said.{Reply, read, refusal, saidAnswer}
 use Rattle.session.specs.File.{readFile, empty, replyOf, tablesOf, Reads}
 use Rattle.session.specs.Laws.Valid.{Valid, valid}

@@ -1,7 +1,7 @@
 -- What holds of the transitions that were read (field 3): each has a row of its own.
 use Prim.Native.Nat.{ℕ, suc, _+_, _*_, _≤_, _<_}
 use mathlib.Core.Path.{_≡_, refl, sym, subst, subst₂, _∙_}
-use mathlib.Core.Bool.{Bool, true, false}
+use mathlib.Core.Bool.{Bool, true, false, cond}
 use mathlib.Core.List.{List}
 use lib.ListN.{length, getD, set, replicate, length-set, length-replicate}
 use lib.Seq.{getD-set-same, getD-set-other}
@@ -10,7 +10,7 @@ use borrow.Author.Tests.{eqb-false}
 use native.Mathlib.Omega.{arith}
 use native.Mathlib.Nat.{zero-add}
 use Rattle.session.specs.Limits.{mostTransitions, mostWord}
-use Rattle.session.specs.Part.{got, cond, andThen}
+use Rattle.session.specs.Part.{got, andThen}
 use Rattle.session.specs.PartLaws.{andThen-got, same-value}
 use Rattle.session.specs.Number.{readWithin, readBelow, readTwo}
 use Rattle.session.specs.Queues.{firstOf}
