@@ -89,7 +89,9 @@ fn bad(h: u64, b: BadList) -> u64
     mix_all(mix_byte(h, b.count), &rows)
 }
 
-pub fn digest(t: Tables) -> u64 {
+pub fn digest(t: Tables) -> u64
+    ensures { λ r. ⌜ r < 16777213 ⌝ }
+{
     let front = transitions(queues(machines(0, t.machines), t.queues), t.transitions);
     bad(map(pool(front, t.pool), t.map), t.bad)
 }
