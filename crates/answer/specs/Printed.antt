@@ -1,5 +1,5 @@
 -- What is printed of a verdict: for each case of the code's enum the values of document 01, of a refusal its number and its place.
-use Rattle.session.specs.Said.{numberOf, placeOf}
+use Rattle.numbers.specs.Said.{numberOf, placeOf}
 use Rattle.verdict.specs.declared.check.Verdict.{Verdict}
 use Rattle.verdict.specs.declared.check.Verdict.the-variants.{Closed, Outside, Leaves, Bad, Refused, ShortMemory}
 use Rattle.line.specs.declared.verdict.Verdict.{Verdict as Line}

@@ -1,9 +1,9 @@
 // The answer to a file: the verdict on it, as the line that the program prints.
 use line::verdict::Verdict as Printed;
 use line::verdict::write_line;
-use session::number::wide;
-use session::refusal::number;
-use session::refusal::place;
+use numbers::number::wide;
+use numbers::refusal::number;
+use numbers::refusal::place;
 use verdict::check::Verdict;
 use verdict::check::check;
 ghost use Prim.Native.Nat.{_≤_};

@@ -6,7 +6,7 @@ use mathlib.Core.Bool.{Bool, true, false, _&&_}
 use mathlib.Core.List.{List, _++_}
 use lib.ListN.{length, drop}
 use lib.Dec.{leb}
-use Rattle.session.specs.Part.{Part, got, refused}
+use Rattle.numbers.specs.Part.{Part, got, refused}
 use Rattle.session.specs.File.{readFile, replyOf}
 use Rattle.session.specs.declared.tables.Tables.{Tables}
 use Rattle.meaning.specs.Checking.{checkOf}

@@ -7,7 +7,7 @@ use lib.ListN.{length, drop, set, length-append}
 use lib.Dec.{leb}
 use borrow.Author.Tests.{le-leb, lt-leb}
 use native.Mathlib.Omega.{arith}
-use Rattle.session.specs.Part.{Part, got, refused}
+use Rattle.numbers.specs.Part.{Part, got, refused}
 use Rattle.session.specs.Said.{Reply, read, refusal, saidAnswer}
 use Rattle.session.specs.File.{readFile, replyOf, tablesOf, Reads}
 use Rattle.session.specs.Laws.Valid.{Valid}
@@ -21,8 +21,8 @@ use Rattle.diagram.specs.Member.{memberOf}
 use Rattle.diagram.specs.Said.{saidMember}
 use Rattle.diagram.specs.Laws.Asking.{read-valid}
 use Rattle.diagram.specs.declared.reply.Member.{Member}
-use Rattle.line.specs.Put.{Put}
-use Rattle.line.specs.Laws.Put.{put-then, put-front}
+use Rattle.numbers.specs.Put.{Put}
+use Rattle.numbers.specs.Laws.Put.{put-then, put-front}
 use Rattle.line.specs.Said.{said, shownBy}
 use Rattle.line.specs.declared.verdict.Verdict.{Verdict as Line}
 use Rattle.line.specs.declared.verdict.Verdict.the-variants.{Closed, Outside, Leaves, Bad, Refused}

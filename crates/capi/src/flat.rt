@@ -4,7 +4,7 @@ use session::tables::Tables;
 ghost use Prim.Native.Nat.{_+_, _≤_};
 ghost use lib.ListN.{length};
 ghost use Rattle.session.specs.Laws.Valid.{Valid};
-ghost use Rattle.line.specs.Put.{Put};
+ghost use Rattle.numbers.specs.Put.{Put};
 ghost use Rattle.capi.specs.Flat.{four, fourLong, small, large, flat};
 
 // Bytes that the tables need.

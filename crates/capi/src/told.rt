@@ -1,13 +1,13 @@
 // What a call tells: the kind of its reply, and up to three numbers that go with it.
 use diagram::reply::Member;
 use line::verdict::Verdict;
-use session::refusal::Refusal;
-use session::refusal::number;
-use session::refusal::place;
+use numbers::refusal::Refusal;
+use numbers::refusal::number;
+use numbers::refusal::place;
 ghost use mathlib.Core.Path.{_≡_};
 ghost use Prim.Native.Nat.{_≤_};
 ghost use lib.ListN.{length};
-ghost use Rattle.session.specs.Said.{numberOf, placeOf};
+ghost use Rattle.numbers.specs.Said.{numberOf, placeOf};
 ghost use Rattle.diagram.specs.Said.{saidMember};
 ghost use Rattle.capi.specs.Told.{toldOf, toldLine, toldMember, toldRefusal, Tells};
 

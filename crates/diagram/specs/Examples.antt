@@ -2,7 +2,7 @@
 use Prim.Native.Nat.{ℕ}
 use mathlib.Core.Path.{_≡_, refl}
 use mathlib.Core.List.{List, [], _∷_}
-use Rattle.session.specs.Number.{readNumber, readWithin, readBelow, readTwo}
+use Rattle.numbers.specs.Number.{readNumber, readWithin, readBelow, readTwo}
 use Rattle.session.specs.Machines.{readFactor, readSizes, readStarts, countedMachines, readMachines}
 use Rattle.session.specs.Queues.{readTerm, readCounts, readQueues, firstOf}
 use Rattle.session.specs.Transitions.{readMessage, readWord, readAction, readTransition, readRows, readTransitions}

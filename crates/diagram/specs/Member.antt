@@ -4,7 +4,7 @@ use mathlib.Core.Bool.{Bool, true, false}
 use mathlib.Core.Option.{Option}
 use mathlib.Core.List.{List, [], _∷_}
 use lib.Dec.{ltb, leb}
-use Rattle.session.specs.Part.{got, refused}
+use Rattle.numbers.specs.Part.{got, refused}
 use Rattle.session.specs.File.{readFile}
 use Rattle.model.specs.Model.{total, queueOf, controls}
 use Rattle.model.specs.Diagram.{Pool, along, isFinal}

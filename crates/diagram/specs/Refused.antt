@@ -4,7 +4,7 @@ use mathlib.Core.Path.{_≡_}
 use mathlib.Core.Logic.{_⊎_}
 use mathlib.Core.List.{List, [], _∷_, _++_}
 use lib.ListN.{length}
-use Rattle.session.specs.Part.{got, refused}
+use Rattle.numbers.specs.Part.{got, refused}
 use Rattle.session.specs.File.{readFile}
 use Rattle.session.specs.declared.tables.Tables.{Tables}
 use Rattle.model.specs.Model.{total, queueOf, controls, Own}

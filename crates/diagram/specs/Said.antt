@@ -1,7 +1,7 @@
 -- What the code's enums say: for each case the number and the values of document 01.
 use Prim.Native.Nat.{ℕ}
 use mathlib.Core.Option.{Option, none, some}
-use Rattle.session.specs.Said.{numberOf, placeOf}
+use Rattle.numbers.specs.Said.{numberOf, placeOf}
 use Rattle.diagram.specs.Member.{Reply, yes, no, refusal}
 use Rattle.diagram.specs.declared.follow.Root.{Root}
 use Rattle.diagram.specs.declared.follow.Root.the-variants.{At, NoRoot}

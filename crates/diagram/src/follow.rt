@@ -1,9 +1,9 @@
 // Following a word through the pool: from a control state's root, message by message.
+use numbers::number::entry;
+use numbers::number::wide;
 use session::kinds::ControlState;
 use session::kinds::DiagramState;
 use session::kinds::Message;
-use session::number::entry;
-use session::number::wide;
 use session::pool::Arc;
 use session::pool::arc_of;
 ghost use mathlib.Core.Path.{_≡_};

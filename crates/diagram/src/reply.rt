@@ -1,5 +1,5 @@
 // What membership answers.
-use session::refusal::Refusal;
+use numbers::refusal::Refusal;
 
 pub enum Member {
     Yes,

@@ -5,7 +5,6 @@ pub mod Order
 pub mod Explore
 pub mod Search
 pub mod Cases
-pub mod Lists
 pub mod MemLaws
 pub mod SizeLaws
 pub mod OrderLaws

@@ -1,4 +1,4 @@
 -- The line that the program prints, in a buffer: what its verdict says, and what writing it promises. The laws are proved from that.
-pub mod Put
+pub mod Shown
 pub mod Said
 pub mod Laws

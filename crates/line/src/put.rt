@@ -1,11 +1,12 @@
 // Bytes, words and numbers, each put into a buffer from a place on. Each function answers the place after what it put.
-use session::number::wide;
+use numbers::number::wide;
 ghost use Prim.Native.Nat.{_+_, _*_, _≤_, _<_};
 ghost use mathlib.Core.Path.{_≡_};
 ghost use mathlib.Core.List.{_∷_, []};
 ghost use lib.ListN.{length, take};
 ghost use Rattle.model.specs.Line.{digits, spacedAll};
-ghost use Rattle.line.specs.Put.{Put, shownFrom};
+ghost use Rattle.numbers.specs.Put.{Put};
+ghost use Rattle.line.specs.Shown.{shownFrom};
 
 // The byte of a decimal digit.
 pub fn digit(n: usize) -> u8

@@ -9,8 +9,8 @@ use mathlib.Core.Bool.{Bool, true, false}
 use mathlib.Core.List.{List, [], _∷_, _++_, map}
 use lib.Dec.{ltb}
 use Rattle.explore.specs.Explore.{explore, rounds, expand, fresh, starts, childrenFrom}
-use Rattle.session.specs.Part.{Part, got, refused}
-use Rattle.session.specs.Number.{readNumber, readWithin, readBelow, readTwo}
+use Rattle.numbers.specs.Part.{Part, got, refused}
+use Rattle.numbers.specs.Number.{readNumber, readWithin, readBelow, readTwo}
 use Rattle.session.specs.Machines.{readFactor, readSizes, readStarts, countedMachines, readMachines}
 use Rattle.session.specs.Queues.{readTerm, readCounts, readQueues, firstOf}
 use Rattle.session.specs.Transitions.{readMessage, readWord, readAction, readTransition, readRows, readTransitions}

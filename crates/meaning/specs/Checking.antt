@@ -6,8 +6,8 @@ use mathlib.Core.Bool.{Bool, _&&_}
 use mathlib.Core.List.{List, _++_}
 use lib.ListN.{length, drop, replicate}
 use lib.Dec.{leb}
-use Rattle.session.specs.Limits.{mostBytes}
-use Rattle.session.specs.Part.{Part, provided}
+use Rattle.numbers.specs.Limits.{mostBytes}
+use Rattle.numbers.specs.Part.{Part, provided}
 use Rattle.session.specs.File.{readFile}
 use Rattle.session.specs.declared.tables.Tables.{Tables}
 use Rattle.meaning.specs.Reply.{FileReply, refused, verdict, replyTo, shownOf}

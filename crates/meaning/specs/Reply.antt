@@ -1,7 +1,7 @@
 -- The reply to a file (document 01): its refusal, or the verdict on the session that it describes; and the line that the program prints.
 use Prim.Native.Nat.{ℕ}
 use mathlib.Core.List.{List, []}
-use Rattle.session.specs.Part as Part
+use Rattle.numbers.specs.Part as Part
 use Rattle.session.specs.File.{readFile}
 use Rattle.session.specs.declared.tables.Tables.{Tables}
 use Rattle.model.specs.Verdict.{Reply, closed, outside, leaves, bad}

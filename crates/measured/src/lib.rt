@@ -1,5 +1,5 @@
 // What the benchmark calls: the services as C functions.
-use session::number::wide;
+use numbers::number::wide;
 use session::reading::read;
 use verdict::check::Verdict;
 use verdict::check::check;

@@ -3,8 +3,8 @@ use Prim.Native.Nat.{ℕ, zero, suc, _+_, _*_}
 use mathlib.Core.List.{List}
 use lib.ListN.{set, replicate}
 use Rattle.session.specs.Limits.{mostBad}
-use Rattle.session.specs.Part.{Part, got, andThen}
-use Rattle.session.specs.Number.{readWithin, readTwo}
+use Rattle.numbers.specs.Part.{Part, got, andThen}
+use Rattle.numbers.specs.Number.{readWithin, readTwo}
 use Rattle.session.specs.declared.tables.BadList.{BadList}
 
 -- the entries from number b on: entry b has its control state at 2 · b and its root after it

@@ -4,8 +4,9 @@ use mathlib.Core.Path.{_≡_}
 use mathlib.Core.List.{List}
 use lib.ListN.{length, replicate}
 use lib.Dec.{leb}
-use Rattle.session.specs.Limits.{mostBytes, mostMachines, mostControls, mostQueues, mostMessages, mostTransitions, mostPool, mostBad}
-use Rattle.session.specs.Part.{Part, got, refused, provided, andThen}
+use Rattle.numbers.specs.Limits.{mostBytes}
+use Rattle.session.specs.Limits.{mostMachines, mostControls, mostQueues, mostMessages, mostTransitions, mostPool, mostBad}
+use Rattle.numbers.specs.Part.{Part, got, refused, provided, andThen}
 use Rattle.session.specs.Said.{Reply, saidAnswer, read, refusal}
 use Rattle.session.specs.Machines.{readMachines}
 use Rattle.session.specs.Queues.{readQueues}

@@ -1,7 +1,6 @@
 -- The laws of what was read, each proved once from the definition.
-pub mod Parts
-pub mod Written
-pub mod Rounds
+pub mod Ranges
+pub mod Lowest
 pub mod Machines
 pub mod Queues
 pub mod Map

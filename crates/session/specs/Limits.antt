@@ -1,10 +1,6 @@
 -- The limits of a session file (document 01, "The session file"), each by name.
 use Prim.Native.Nat.{ℕ}
 
--- bytes of a file
-abbrev pub mostBytes : ℕ
-mostBytes = 16384
-
 abbrev pub mostMachines : ℕ
 mostMachines = 4
 

@@ -4,8 +4,8 @@ use mathlib.Core.List.{List}
 use lib.ListN.{getD, set, replicate}
 use lib.Dec.{leb}
 use Rattle.session.specs.Limits.{mostMachines, mostStates, mostControls}
-use Rattle.session.specs.Part.{Part, got, provided, andThen}
-use Rattle.session.specs.Number.{readWithin, readBelow}
+use Rattle.numbers.specs.Part.{Part, got, provided, andThen}
+use Rattle.numbers.specs.Number.{readWithin, readBelow}
 use Rattle.session.specs.declared.tables.Machines.{Machines}
 
 -- how many states a machine has: with those before it the product passes no limit

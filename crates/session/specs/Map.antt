@@ -3,8 +3,8 @@ use Prim.Native.Nat.{ℕ, zero, suc, _+_}
 use mathlib.Core.List.{List}
 use lib.ListN.{set, replicate}
 use Rattle.session.specs.Limits.{mostControls}
-use Rattle.session.specs.Part.{Part, got, andThen}
-use Rattle.session.specs.Number.{readWithin}
+use Rattle.numbers.specs.Part.{Part, got, andThen}
+use Rattle.numbers.specs.Number.{readWithin}
 use Rattle.session.specs.declared.tables.Map.{Map}
 
 -- the roots of the control states from number i on

@@ -6,8 +6,8 @@ use mathlib.Core.Option.{Option, none, some}
 use lib.ListN.{getD, set, replicate}
 use lib.Dec.{leb, eqb}
 use Rattle.session.specs.Limits.{mostPool, mostMessages}
-use Rattle.session.specs.Part.{Part, got, provided, andThen}
-use Rattle.session.specs.Number.{readWithin, readBelow}
+use Rattle.numbers.specs.Part.{Part, got, provided, andThen}
+use Rattle.numbers.specs.Number.{readWithin, readBelow}
 use Rattle.session.specs.declared.tables.Pool.{Pool}
 
 -- where the arc of state s for message m leads; a missing arc has nowhere to go

@@ -5,8 +5,8 @@ use mathlib.Core.Path.{_≡_}
 use lib.ListN.{getD, set, replicate}
 use lib.Dec.{leb}
 use Rattle.session.specs.Limits.{mostQueues, mostMessages}
-use Rattle.session.specs.Part.{Part, got, provided, andThen}
-use Rattle.session.specs.Number.{readWithin}
+use Rattle.numbers.specs.Part.{Part, got, provided, andThen}
+use Rattle.numbers.specs.Number.{readWithin}
 use Rattle.session.specs.declared.tables.Queues.{Queues}
 use Rattle.session.specs.declared.queues.Span.{Span}
 

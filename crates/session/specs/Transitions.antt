@@ -5,8 +5,8 @@ use mathlib.Core.List.{List}
 use lib.ListN.{getD, set, replicate}
 use lib.Dec.{ltb, leb, eqb}
 use Rattle.session.specs.Limits.{mostTransitions, mostWord}
-use Rattle.session.specs.Part.{Part, got, provided, andThen}
-use Rattle.session.specs.Number.{readWithin, readBelow, readTwo}
+use Rattle.numbers.specs.Part.{Part, got, provided, andThen}
+use Rattle.numbers.specs.Number.{readWithin, readBelow, readTwo}
 use Rattle.session.specs.Queues.{firstOf}
 use Rattle.session.specs.declared.tables.Machines.{Machines}
 use Rattle.session.specs.declared.tables.Queues.{Queues}

@@ -1,15 +1,15 @@
 // Field 6: the bad entries.
-use crate::number::Field;
-use crate::number::Filled;
-use crate::number::Pair;
-use crate::number::read_two;
-use crate::number::read_within;
-use crate::number::wide;
 use crate::tables::BadList;
 use crate::tables::MOST_BAD;
+use numbers::number::Field;
+use numbers::number::Filled;
+use numbers::number::Pair;
+use numbers::number::read_two;
+use numbers::number::read_within;
+use numbers::number::wide;
 ghost use mathlib.Core.Path.{_≡_};
 ghost use Prim.Native.Nat.{_≤_};
-ghost use Rattle.session.specs.Said.{filledWith};
+ghost use Rattle.numbers.specs.Said.{filledWith};
 ghost use Rattle.session.specs.Bad.{readEntries, readBad};
 
 pub struct BadRead {

@@ -1,18 +1,18 @@
 // Field 1: the machines.
-use crate::number::Field;
-use crate::number::Filled;
-use crate::number::Number;
-use crate::number::read_below;
-use crate::number::read_within;
-use crate::number::wide;
-use crate::refusal::Refusal;
 use crate::tables::MOST_CONTROLS;
 use crate::tables::MOST_MACHINES;
 use crate::tables::MOST_STATES;
 use crate::tables::Machines;
+use numbers::number::Field;
+use numbers::number::Filled;
+use numbers::number::Number;
+use numbers::number::read_below;
+use numbers::number::read_within;
+use numbers::number::wide;
+use numbers::refusal::Refusal;
 ghost use mathlib.Core.Path.{_≡_};
 ghost use Prim.Native.Nat.{_≤_};
-ghost use Rattle.session.specs.Said.{saidField, numberWith, filledWith};
+ghost use Rattle.numbers.specs.Said.{saidField, numberWith, filledWith};
 ghost use Rattle.session.specs.Machines.{readFactor, readSizes, readStarts, countedMachines, readMachines};
 
 pub struct MachinesRead {

@@ -1,11 +1,11 @@
 // Field 5: the root of each control state.
-use crate::number::Field;
-use crate::number::Filled;
-use crate::number::read_within;
 use crate::tables::Map;
+use numbers::number::Field;
+use numbers::number::Filled;
+use numbers::number::read_within;
 ghost use mathlib.Core.Path.{_≡_};
 ghost use Prim.Native.Nat.{_≤_};
-ghost use Rattle.session.specs.Said.{filledWith};
+ghost use Rattle.numbers.specs.Said.{filledWith};
 ghost use Rattle.session.specs.Map.{readRoots, readMap};
 
 pub struct MapRead {

@@ -1,11 +1,11 @@
 // Queue order: no state has an arc in for a message of some queue and an arc out for a message of an earlier queue.
 use crate::kinds::DiagramState;
 use crate::kinds::Message;
-use crate::number::entry;
-use crate::number::wide;
 use crate::pool::Arc;
 use crate::pool::arc_of;
 use crate::tables::Queues;
+use numbers::number::entry;
+use numbers::number::wide;
 ghost use mathlib.Core.Path.{_≡_};
 ghost use Prim.Native.Nat.{_-_, _≤_};
 ghost use Rattle.session.specs.Queues.{firstOf};

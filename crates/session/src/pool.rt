@@ -1,19 +1,20 @@
 // Field 4: the pool of diagram states, and arc lookup.
 use crate::kinds::DiagramState;
 use crate::kinds::Message;
-use crate::number::Field;
-use crate::number::Filled;
-use crate::number::Pair;
-use crate::number::read_below;
-use crate::number::read_within;
-use crate::number::wide;
-use crate::refusal::Refusal;
 use crate::tables::ARCS;
 use crate::tables::MOST_POOL;
 use crate::tables::Pool;
+use numbers::number::Field;
+use numbers::number::Filled;
+use numbers::number::Pair;
+use numbers::number::read_below;
+use numbers::number::read_within;
+use numbers::number::wide;
+use numbers::refusal::Refusal;
 ghost use mathlib.Core.Path.{_≡_};
 ghost use Prim.Native.Nat.{_≤_};
-ghost use Rattle.session.specs.Said.{saidField, saidPair, fieldWith, filledWith, saidArc};
+ghost use Rattle.numbers.specs.Said.{saidField, saidPair, fieldWith, filledWith};
+ghost use Rattle.session.specs.Said.{saidArc};
 ghost use Rattle.session.specs.Pool.{arcAt, readAscending, readArc, readArcs, readState, readStates, readPool};
 
 // Where an arc leads.

@@ -1,16 +1,16 @@
 // Field 2: the queues.
-use crate::number::Field;
-use crate::number::Filled;
-use crate::number::entry;
-use crate::number::read_within;
-use crate::number::wide;
-use crate::refusal::Refusal;
 use crate::tables::MOST_MESSAGES;
 use crate::tables::MOST_QUEUES;
 use crate::tables::Queues;
+use numbers::number::Field;
+use numbers::number::Filled;
+use numbers::number::entry;
+use numbers::number::read_within;
+use numbers::number::wide;
+use numbers::refusal::Refusal;
 ghost use mathlib.Core.Path.{_≡_};
 ghost use Prim.Native.Nat.{_≤_};
-ghost use Rattle.session.specs.Said.{saidField, fieldWith, filledWith};
+ghost use Rattle.numbers.specs.Said.{saidField, fieldWith, filledWith};
 ghost use Rattle.session.specs.Queues.{readTerm, readCounts, readQueues, Spans};
 
 pub struct QueuesRead {

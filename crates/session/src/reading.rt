@@ -3,13 +3,10 @@
 use crate::bad::read_bad;
 use crate::machines::read_machines;
 use crate::map::read_map;
-use crate::number::Filled;
 use crate::order::in_queue_order;
 use crate::pool::read_pool;
 use crate::queues::read_queues;
-use crate::refusal::Refusal;
 use crate::tables::BadList;
-use crate::tables::MOST_BYTES;
 use crate::tables::Machines;
 use crate::tables::Map;
 use crate::tables::Pool;
@@ -17,9 +14,12 @@ use crate::tables::Queues;
 use crate::tables::Tables;
 use crate::tables::Transitions;
 use crate::transitions::read_transitions;
+use numbers::number::Filled;
+use numbers::refusal::MOST_BYTES;
+use numbers::refusal::Refusal;
 ghost use Prim.Native.Nat.{_≤_};
-ghost use Rattle.session.specs.Part.{refused};
-ghost use Rattle.session.specs.Said.{numberOf, placeOf};
+ghost use Rattle.numbers.specs.Part.{refused};
+ghost use Rattle.numbers.specs.Said.{numberOf, placeOf};
 ghost use Rattle.session.specs.Queues.{firstOf};
 ghost use Rattle.session.specs.File.{Reads, fromBad, fromMap, fromPool, fromTransitions, fromQueues, readFile};
 

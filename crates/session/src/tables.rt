@@ -1,7 +1,5 @@
 // The tables of a session, one for each field of the file. Entries beyond the counts are 0.
 
-pub const MOST_BYTES: usize = 16384;
-
 pub const MOST_MACHINES: u8 = 4;
 
 pub const MOST_STATES: u8 = 16;

@@ -1,24 +1,24 @@
 // Field 3: the transitions, each in a row of the table.
-use crate::number::Field;
-use crate::number::Filled;
-use crate::number::Pair;
-use crate::number::entry;
-use crate::number::read_below;
-use crate::number::read_two;
-use crate::number::read_within;
-use crate::number::wide;
 use crate::queues::messages_of;
-use crate::refusal::Refusal;
 use crate::tables::MOST_TRANSITIONS;
 use crate::tables::MOST_WORD;
 use crate::tables::Machines;
 use crate::tables::Queues;
 use crate::tables::ROW;
 use crate::tables::Transitions;
+use numbers::number::Field;
+use numbers::number::Filled;
+use numbers::number::Pair;
+use numbers::number::entry;
+use numbers::number::read_below;
+use numbers::number::read_two;
+use numbers::number::read_within;
+use numbers::number::wide;
+use numbers::refusal::Refusal;
 ghost use mathlib.Core.Path.{_≡_};
 ghost use Prim.Native.Nat.{_-_, _≤_};
 ghost use lib.ListN.{getD};
-ghost use Rattle.session.specs.Said.{saidField, filledWith};
+ghost use Rattle.numbers.specs.Said.{saidField, filledWith};
 ghost use Rattle.session.specs.Transitions.{readMessage, readWord, readAction, readTransition, readRows, readTransitions};
 
 pub struct TransitionsRead {

@@ -1,6 +1,6 @@
 // A stream of files on standard input, each its length in three bytes, low byte first, and then its bytes.
 use crate::fill_front;
-use session::number::wide;
+use numbers::number::wide;
 ghost use Prim.Native.Nat.{_≤_};
 ghost use lib.ListN.{length};
 ghost use Rattle.streams.specs.Counts.{fileLong};

@@ -3,8 +3,8 @@
 mod report;
 
 use diagram::member::member;
+use numbers::number::wide;
 use report::report;
-use session::number::wide;
 use streams::files::Next;
 use streams::files::next_file;
 use streams::fill_front;

@@ -1,7 +1,7 @@
 // The line of one reply.
 use diagram::reply::Member;
-use session::refusal::number;
-use session::refusal::place;
+use numbers::refusal::number;
+use numbers::refusal::place;
 
 fn refused(cause: usize, at: usize) {
     io::write_all(1, b"refused ");

@@ -1,10 +1,10 @@
 // The line of one file.
 use crate::digest::digest;
+use numbers::refusal::Refusal;
+use numbers::refusal::number;
+use numbers::refusal::place;
 use session::reading::Answer;
 use session::reading::read;
-use session::refusal::Refusal;
-use session::refusal::number;
-use session::refusal::place;
 use session::tables::Tables;
 
 fn spaced(x: u64) {

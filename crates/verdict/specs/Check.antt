@@ -3,7 +3,7 @@ use Prim.Native.Nat.{ℕ, _≤_}
 use mathlib.Core.Path.{_≡_}
 use mathlib.Core.List.{List}
 use lib.ListN.{length, take, replicate}
-use Rattle.session.specs.Said.{numberOf, placeOf}
+use Rattle.numbers.specs.Said.{numberOf, placeOf}
 use Rattle.session.specs.declared.tables.Tables.{Tables}
 use Rattle.model.specs.Verdict.{closed, outside, leaves, bad}
 use Rattle.model.specs.Judge as Model

@@ -1,8 +1,8 @@
 // The start: the control state that a run begins in, and whether empty queues are in its set.
 use crate::controls::product_from;
 use crate::start::place_of;
+use numbers::number::wide;
 use session::kinds::ControlState;
-use session::number::wide;
 use session::tables::Machines;
 ghost use mathlib.Core.Path.{_≡_};
 ghost use lib.ListN.{take};

@@ -2,12 +2,12 @@
 use crate::begin::begins_inside;
 use crate::items::judge_items;
 use crate::judged::Progress;
+use numbers::number::wide;
+use numbers::refusal::MOST_BYTES;
+use numbers::refusal::Refusal;
 use session::kinds::ControlState;
-use session::number::wide;
 use session::reading::Answer;
 use session::reading::read;
-use session::refusal::Refusal;
-use session::tables::MOST_BYTES;
 use session::tables::Machines;
 use session::tables::Queues;
 use session::tables::Tables;

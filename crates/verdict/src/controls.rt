@@ -1,6 +1,6 @@
 // Control states: the state of one machine, and the control state after that machine has moved.
+use numbers::number::wide;
 use session::kinds::ControlState;
-use session::number::wide;
 use session::tables::Machines;
 ghost use mathlib.Core.Path.{_≡_};
 ghost use Prim.Native.Nat.{_<_, _≤_};

@@ -1,8 +1,8 @@
 // Where the walk of an item starts: how its action parts the contents, and where source and target stand.
 use crate::controls::part_at;
+use numbers::number::entry;
+use numbers::number::wide;
 use session::kinds::ControlState;
-use session::number::entry;
-use session::number::wide;
 use session::queues::messages_of;
 use session::tables::Machines;
 use session::tables::Queues;

@@ -1,5 +1,5 @@
 // A walk, and its pairs as numbers: the side, the source state, and the target state or nowhere.
-use session::number::wide;
+use numbers::number::wide;
 ghost use Prim.Native.Nat.{_<_};
 ghost use Rattle.walk.specs.Pairs.{mostPairs, NodeOf, NodeFits, Coded};
 

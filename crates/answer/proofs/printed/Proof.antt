@@ -5,9 +5,9 @@ use Rattle.answer.proofs.printed.Statement.{statement}
 use Rattle.answer.proofs.printed.Tie as tie
 use Rattle.answer.proofs.printed.Reads as reads
 use Rattle.answer.proofs.printed.Lts as lts
-use Rattle.session.proofs.number.wide.Reads as wide-reads
-use Rattle.session.proofs.refusal.number.Reads as number-reads
-use Rattle.session.proofs.refusal.place.Reads as place-reads
+use Rattle.numbers.proofs.number.wide.Reads as wide-reads
+use Rattle.numbers.proofs.refusal.number.Reads as number-reads
+use Rattle.numbers.proofs.refusal.place.Reads as place-reads
 
 -- src/lib.rt:16:25
 enum-known-v : tie.Need-enum-known-v

@@ -7,7 +7,7 @@ use lib.ListN.{take}
 use lib.Dec.{ltb}
 use borrow.Author.Tests.{lt-ltb, le-ltb}
 use native.Mathlib.Omega.{arith}
-use Rattle.session.specs.Part.{Part, got, refused}
+use Rattle.numbers.specs.Part.{Part, got, refused}
 use Rattle.session.specs.Said.{read, refusal as turnedAway}
 use Rattle.session.specs.File.{readFile, replyOf, tablesOf}
 use Rattle.session.specs.Laws.Valid.{Valid, valid}

@@ -13,8 +13,9 @@ use Rattle.model.specs.Verdict.{closed, outside, leaves, bad}
 use Rattle.model.specs.Line.{spaced, spacedAll, newline, closedWord, outsideWord, leavesWord, badWord, refusedWord, atWord, line, refusedLine}
 use Rattle.model.specs.Laws.Basics.{and-is}
 use Rattle.meaning.specs.Reply.{lineOf}
-use Rattle.line.specs.Put.{Put, shownFrom}
-use Rattle.line.specs.Laws.Put.{put-then, put-front}
+use Rattle.numbers.specs.Put.{Put}
+use Rattle.line.specs.Shown.{shownFrom}
+use Rattle.numbers.specs.Laws.Put.{put-then, put-front}
 use Rattle.line.specs.Said.{said, shownBy, holds, Room, given, Lined, Writes}
 use Rattle.line.specs.declared.verdict.Verdict.{Verdict}
 use Rattle.line.specs.declared.verdict.Verdict.the-variants.{Closed, Outside, Leaves, Bad, Refused}

@@ -8,10 +8,10 @@ use lib.ListN.{length}
 use lib.Dec.{leb}
 use borrow.Author.Tests.{leb-true, leb-false, le-leb, lt-leb}
 use native.Mathlib.Omega.{arith}
-use Rattle.session.specs.Limits.{mostBytes}
-use Rattle.session.specs.Part.{Part, got, provided}
-use Rattle.session.specs.Part as Part
-use Rattle.session.specs.PartLaws.{not-refused}
+use Rattle.numbers.specs.Limits.{mostBytes}
+use Rattle.numbers.specs.Part.{Part, got, provided}
+use Rattle.numbers.specs.Part as Part
+use Rattle.numbers.specs.Laws.Parts.{not-refused}
 use Rattle.session.specs.File.{fromMachines, readFile}
 use Rattle.session.specs.Laws.Refusals.{refusal-number}
 use Rattle.session.specs.Laws.Valid.{Valid, valid}

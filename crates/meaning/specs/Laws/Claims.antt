@@ -4,8 +4,8 @@ use mathlib.Core.Path.{_≡_, refl, sym, ap, subst, _∙_}
 use mathlib.Core.Logic.{_↔_}
 use mathlib.Core.List.{List}
 use native.Mathlib.Omega.{arith}
-use Rattle.session.specs.Part as Part
-use Rattle.session.specs.PartLaws.{not-refused, same-value}
+use Rattle.numbers.specs.Part as Part
+use Rattle.numbers.specs.Laws.Parts.{not-refused, same-value}
 use Rattle.session.specs.File.{readFile}
 use Rattle.session.specs.Laws.Valid.{Valid, valid}
 use Rattle.session.specs.declared.tables.Tables.{Tables}

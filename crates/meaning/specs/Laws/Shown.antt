@@ -6,7 +6,7 @@ use lib.ListN.{length, drop, take, getD, length-append, length-drop, length-take
 use lib.Seq.{take-append-seam}
 use native.Mathlib.Omega.{arith}
 use native.Mathlib.Nat.{mul-le-mul}
-use Rattle.session.specs.Part as Part
+use Rattle.numbers.specs.Part as Part
 use Rattle.session.specs.Limits.{mostWord, mostMessages}
 use Rattle.session.specs.Transitions.{rowLength}
 use Rattle.session.specs.Laws.Valid.{Valid}

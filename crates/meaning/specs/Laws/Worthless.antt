@@ -5,7 +5,7 @@ use mathlib.Core.Bool.{Bool, true, false, false≢true}
 use mathlib.Core.List.{List, [], _∷_, List·Memᴰ·not-nil, Memᴰ·of-map}
 use lib.ListN.{length, drop, replicate}
 use native.Mathlib.Omega.{arith}
-use Rattle.session.specs.Part as Part
+use Rattle.numbers.specs.Part as Part
 use Rattle.session.specs.File.{readFile}
 use Rattle.session.specs.declared.tables.Tables.{Tables}
 use Rattle.explore.specs.Mem.{Mem, here, there}

@@ -4,7 +4,7 @@ use Rattle.measured.proofs.sample.Statement.{statement}
 use Rattle.measured.proofs.sample.Tie as tie
 use Rattle.measured.proofs.sample.Reads as reads
 use Rattle.measured.proofs.sample.Lts as lts
-use Rattle.session.proofs.number.wide.Reads as wide-reads
+use Rattle.numbers.proofs.number.wide.Reads as wide-reads
 
 -- src/lib.rt:14:21
 array-read-wide : tie.Need-array-read-wide

@@ -10,12 +10,12 @@ use lib.Seq.{getD-set-same, getD-set-other}
 use lib.Dec.{eqb}
 use borrow.Author.Tests.{eqb-true, eqb-false, eq-eqb, ne-eqb}
 use native.Mathlib.Omega.{arith}
-use Rattle.session.specs.Part.{Part, got, andThen}
-use Rattle.session.specs.PartLaws.{andThen-got, same-value, same-place}
+use Rattle.numbers.specs.Part.{Part, got, andThen}
+use Rattle.numbers.specs.Laws.Parts.{andThen-got, same-value, same-place}
 use Rattle.session.specs.Pool.{readArc, readArcs}
-use Rattle.session.specs.Ranges.{arc-range}
-use Rattle.session.specs.Laws.Parts.{andThen-assoc, andThen-same}
-use Rattle.session.specs.Laws.Written.{Changed, changed-none, changed-set, changed-then}
+use Rattle.session.specs.Laws.Ranges.{arc-range}
+use Rattle.numbers.specs.Laws.Parts.{andThen-assoc, andThen-same}
+use Rattle.numbers.specs.Laws.Written.{Changed, changed-none, changed-set, changed-then}
 
 -- the arcs that are left of a state, each a message and a target
 unfoldable pub listArcs : List ℕ → ℕ → ℕ → ℕ → ℕ → ℕ → Part (List (ℕ × ℕ))

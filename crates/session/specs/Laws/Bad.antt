@@ -7,13 +7,13 @@ use lib.Seq.{getD-set-same, getD-set-other}
 use native.Mathlib.Omega.{arith}
 use native.Mathlib.Nat.{zero-add}
 use Rattle.session.specs.Limits.{mostBad}
-use Rattle.session.specs.Part.{got}
-use Rattle.session.specs.PartLaws.{andThen-got, same-value}
-use Rattle.session.specs.Number.{readWithin, readTwo}
+use Rattle.numbers.specs.Part.{got}
+use Rattle.numbers.specs.Laws.Parts.{andThen-got, same-value}
+use Rattle.numbers.specs.Number.{readWithin, readTwo}
 use Rattle.session.specs.Bad.{readEntries, readBad}
-use Rattle.session.specs.Ranges.{within-range, two-range}
-use Rattle.session.specs.Laws.Written.{changed-set, changed-then, Written, written-none, written-more, zeros-hold}
-use Rattle.session.specs.Laws.Rounds.{Rounds, rounds-keep}
+use Rattle.numbers.specs.Laws.Ranges.{within-range, two-range}
+use Rattle.numbers.specs.Laws.Written.{changed-set, changed-then, Written, written-none, written-more, zeros-hold}
+use Rattle.numbers.specs.Laws.Rounds.{Rounds, rounds-keep}
 use Rattle.session.specs.declared.tables.BadList.{BadList}
 
 -- of product control states, over a pool of n states

@@ -8,9 +8,9 @@ use lib.ListN.{length}
 use lib.Dec.{leb}
 use borrow.Author.Tests.{leb-true, le-leb}
 use native.Mathlib.Omega.{arith}
-use Rattle.session.specs.Limits.{mostBytes}
-use Rattle.session.specs.Part.{Part, got, refused, provided, andThen}
-use Rattle.session.specs.PartLaws.{provided-got, same-value, same-place}
+use Rattle.numbers.specs.Limits.{mostBytes}
+use Rattle.numbers.specs.Part.{Part, got, refused, provided, andThen}
+use Rattle.numbers.specs.Laws.Parts.{provided-got, same-value, same-place}
 use Rattle.session.specs.Machines.{readMachines}
 use Rattle.session.specs.Queues.{readQueues}
 use Rattle.session.specs.Transitions.{readTransitions}
@@ -19,7 +19,8 @@ use Rattle.session.specs.Order.{inQueueOrder}
 use Rattle.session.specs.Map.{readMap}
 use Rattle.session.specs.Bad.{readBad}
 use Rattle.session.specs.File.{fromBad, fromMap, fromPool, fromTransitions, fromQueues, fromMachines, readFile}
-use Rattle.session.specs.Laws.Places.{Fair, machines-fair, queues-fair, transitions-fair, pool-fair, map-fair, bad-fair}
+use Rattle.numbers.specs.Laws.Places.{Fair}
+use Rattle.session.specs.Laws.Places.{machines-fair, queues-fair, transitions-fair, pool-fair, map-fair, bad-fair}
 use Rattle.session.specs.declared.tables.Machines.{Machines}
 use Rattle.session.specs.declared.tables.Queues.{Queues}
 use Rattle.session.specs.declared.tables.Transitions.{Transitions}

@@ -11,13 +11,13 @@ use borrow.Author.Tests.{eq-eqb, ltb-true, ltb-false}
 use native.Mathlib.Omega.{arith}
 use native.Mathlib.Nat.{zero-add, add-zero}
 use Rattle.session.specs.Limits.{mostPool, mostMessages}
-use Rattle.session.specs.Part.{Part, got, andThen}
-use Rattle.session.specs.PartLaws.{andThen-got, same-value, same-place}
-use Rattle.session.specs.Number.{readWithin, readBelow}
+use Rattle.numbers.specs.Part.{Part, got, andThen}
+use Rattle.numbers.specs.Laws.Parts.{andThen-got, same-value, same-place}
+use Rattle.numbers.specs.Number.{readWithin, readBelow}
 use Rattle.session.specs.Pool.{arcAt, readState, readStates, readPool}
-use Rattle.session.specs.Ranges.{within-range}
-use Rattle.session.specs.Laws.Parts.{andThen-assoc, andThen-same}
-use Rattle.session.specs.Laws.Written.{Changed, zeros-hold}
+use Rattle.numbers.specs.Laws.Ranges.{within-range}
+use Rattle.numbers.specs.Laws.Parts.{andThen-assoc, andThen-same}
+use Rattle.numbers.specs.Laws.Written.{Changed, zeros-hold}
 use Rattle.session.specs.Laws.Pool.{PoolValid, pool-valid, entry-arc}
 use Rattle.session.specs.Laws.Arcs.{listArcs, putArcs, arcOf, Ascends, entryOf, arcs-listed, arcs-ascend, arcs-changed, arcs-entered}
 use Rattle.session.specs.declared.tables.Pool.{Pool}

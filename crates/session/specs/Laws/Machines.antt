@@ -8,13 +8,14 @@ use native.Mathlib.Omega.{arith}
 use native.Mathlib.Nat.{mul-le-mul, zero-add}
 use native.Mathlib.Numerals.{add-one}
 use Rattle.session.specs.Limits.{mostMachines, mostStates, mostControls}
-use Rattle.session.specs.Part.{got}
-use Rattle.session.specs.PartLaws.{andThen-got, same-value}
-use Rattle.session.specs.Number.{readWithin, readBelow}
+use Rattle.numbers.specs.Part.{got}
+use Rattle.numbers.specs.Laws.Parts.{andThen-got, same-value}
+use Rattle.numbers.specs.Number.{readWithin, readBelow}
 use Rattle.session.specs.Machines.{readFactor, readSizes, readStarts, countedMachines, readMachines}
-use Rattle.session.specs.Ranges.{below-range, within-range, factor-range, factor-within}
-use Rattle.session.specs.Laws.Written.{Entries, entries-none, entries-more, zeros-hold}
-use Rattle.session.specs.Laws.Rounds.{Rounds, rounds-keep}
+use Rattle.numbers.specs.Laws.Ranges.{below-range, within-range}
+use Rattle.session.specs.Laws.Ranges.{factor-range, factor-within}
+use Rattle.numbers.specs.Laws.Written.{Entries, entries-none, entries-more, zeros-hold}
+use Rattle.numbers.specs.Laws.Rounds.{Rounds, rounds-keep}
 use Rattle.session.specs.declared.tables.Machines.{Machines}
 
 -- the product of the first entries, as many as are asked for

@@ -9,13 +9,13 @@ use borrow.Author.Tests.{ltb-true, ltb-false}
 use native.Mathlib.Omega.{arith}
 use native.Mathlib.Nat.{zero-add}
 use Rattle.session.specs.Limits.{mostControls}
-use Rattle.session.specs.Part.{got}
-use Rattle.session.specs.PartLaws.{andThen-got, same-value}
-use Rattle.session.specs.Number.{readWithin}
+use Rattle.numbers.specs.Part.{got}
+use Rattle.numbers.specs.Laws.Parts.{andThen-got, same-value}
+use Rattle.numbers.specs.Number.{readWithin}
 use Rattle.session.specs.Map.{readRoots, readMap}
-use Rattle.session.specs.Ranges.{within-range}
-use Rattle.session.specs.Laws.Written.{Entries, entries-none, entries-more, zeros-hold}
-use Rattle.session.specs.Laws.Rounds.{Rounds, rounds-keep}
+use Rattle.numbers.specs.Laws.Ranges.{within-range}
+use Rattle.numbers.specs.Laws.Written.{Entries, entries-none, entries-more, zeros-hold}
+use Rattle.numbers.specs.Laws.Rounds.{Rounds, rounds-keep}
 use Rattle.session.specs.declared.tables.Map.{Map}
 
 -- of product control states, over a pool of n states: an entry is 0 for no root, or 1 plus the root

@@ -15,7 +15,7 @@ use Rattle.session.specs.Limits.{mostPool}
 use Rattle.session.specs.Queues.{firstOf}
 use Rattle.session.specs.Pool.{arcAt}
 use Rattle.session.specs.Order.{lowest, lowests, arcsOrdered, statesOrdered, queuesOrdered, ordered, inQueueOrder}
-use Rattle.session.specs.Laws.Written.{at-or-other}
+use Rattle.numbers.specs.Laws.Written.{at-or-other}
 use Rattle.session.specs.Laws.Queues.{OfQueue, QueuesValid, first-ascends, of-queue-below-sum, below-sum-of-queue}
 use Rattle.session.specs.Laws.Pool.{PoolValid, arc-valid}
 use Rattle.session.specs.declared.tables.Queues.{Queues}

@@ -1,4 +1,4 @@
--- Where reading is, and where it refuses: places only grow and stay within the file, and a part refuses by 3 to 8.
+-- Each field is fair: its places only grow and stay within the file, and it refuses by 3 to 8.
 use Prim.Native.Nat.{ℕ, zero, suc, _+_, _-_, _*_, _≤_}
 use mathlib.Core.Path.{_≡_, refl, sym, ap, subst, _∙_}
 use mathlib.Core.Bool.{Bool, true, false, cond}
@@ -9,16 +9,16 @@ use lib.Dec.{ltb, leb, eqb}
 use borrow.Author.Tests.{ltb-true}
 use native.Mathlib.Omega.{arith}
 use Rattle.session.specs.Limits.{mostMachines, mostStates, mostControls, mostQueues, mostMessages, mostTransitions, mostWord, mostPool, mostBad}
-use Rattle.session.specs.Part.{Part, got, refused, provided, andThen}
-use Rattle.session.specs.Number.{readNumber, readWithin, readBelow, readTwo}
+use Rattle.numbers.specs.Part.{Part, got, refused, provided, andThen}
+use Rattle.numbers.specs.Number.{readNumber, readWithin, readBelow, readTwo}
 use Rattle.session.specs.Machines.{readFactor, readSizes, readStarts, countedMachines, readMachines}
 use Rattle.session.specs.Queues.{readTerm, readCounts, readQueues, firstOf}
 use Rattle.session.specs.Transitions.{rowLength, readMessage, readAction, readTransition, readRows, readTransitions}
 use Rattle.session.specs.Pool.{readAscending, readArc, readArcs, readState, readStates, readPool}
 use Rattle.session.specs.Map.{readRoots, readMap}
 use Rattle.session.specs.Bad.{readEntries, readBad}
-use Rattle.session.specs.Ranges.{below-number, within-number}
-use Rattle.session.specs.Laws.Rounds.{Rounds}
+use Rattle.numbers.specs.Laws.Ranges.{below-number, within-number}
+use Rattle.numbers.specs.Laws.Rounds.{Rounds}
 use Rattle.session.specs.Laws.Machines.{sizes-rounds, starts-rounds}
 use Rattle.session.specs.Laws.Queues.{counts-rounds}
 use Rattle.session.specs.Laws.Transitions.{word-rounds, rows-rounds}
@@ -27,189 +27,37 @@ use Rattle.session.specs.Laws.Map.{roots-rounds}
 use Rattle.session.specs.Laws.Bad.{entries-rounds}
 use Rattle.session.specs.declared.tables.Machines.{Machines}
 use Rattle.session.specs.declared.tables.Queues.{Queues}
-
--- What a refusal by 3 to 8 says of its place: the end of the input, a number in no allowed form, or a number that is refused for
--- what it says.
-pub record Placed (s : List ℕ) (k p : ℕ) : Type 0 where
-  pub ends : k ≡ 3 → p ≡ length s
-  pub malformed : k ≡ 4 → readNumber s p ≡ refused 4 p
-  pub number : 5 ≤ k → k ≤ 8 → (v : ℕ) × (next : ℕ) × (readNumber s p ≡ got v next)
-
--- a refusal at place at or after it, by a number from 3 to top
-pub record Refuses (s : List ℕ) (top at k p : ℕ) : Type 0 where
-  pub least : 3 ≤ k
-  pub most : k ≤ top
-  pub from : at ≤ p
-  pub inside : p ≤ length s
-  pub placed : Placed s k p
-
-refuses-here : (s : List ℕ) (top at k : ℕ) → 3 ≤ k → k ≤ top → at ≤ length s → Placed s k at → Refuses s top at k at
-refuses-here s top at k a b h placed = record { least = a; most = b; from = omega arith; inside = h; placed = placed }
-
--- a number that is well formed is refused for what it says
-refuses-number : (s : List ℕ) (at k : ℕ) {v next : ℕ} → 5 ≤ k → k ≤ 8 → at ≤ length s → readNumber s at ≡ got v next → Refuses s 8 at k at
-refuses-number s at k {v} {next} a b h e =
-    refuses-here s 8 at k (omega arith) b h
-    (record { ends = λ n. absurd (omega arith); malformed = λ n. absurd (omega arith); number = λ _ _. (v, next, e) })
-
--- 9 and 10 are no part's
-pub refuses-late : (s : List ℕ) (at k : ℕ) → 9 ≤ k → k ≤ 10 → at ≤ length s → Refuses s 10 at k at
-refuses-late s at k a b h =
-    refuses-here s 10 at k (omega arith) b h
-    (record { ends = λ n. absurd (omega arith); malformed = λ n. absurd (omega arith); number = λ _ g. absurd (omega arith) })
-
--- a part that begins at place at: it goes on from a place between at and the end, or it refuses there
-module _ {A : Type 0} where
-  abbrev pub Fair : List ℕ → ℕ → ℕ → Part A → Type 0
-  Fair s top at (got v next) = (at ≤ next) × (next ≤ length s)
-  Fair s top at (refused k p) = Refuses s top at k p
-
-  fair-earlier : (s : List ℕ) (top at at′ : ℕ) (x : Part A) → at ≤ at′ → Fair s top at′ x → Fair s top at x
-  fair-earlier s top at at′ (got v next) h f = (omega arith, f .1)
-  fair-earlier s top at at′ (refused k p) h f =
-      record { least = f .least; most = f .most; from = omega (arith, f .from); inside = f .inside; placed = f .placed }
-
-  pub fair-more : (s : List ℕ) (top more at : ℕ) (x : Part A) → top ≤ more → Fair s top at x → Fair s more at x
-  fair-more s top more at (got v next) h f = f
-  fair-more s top more at (refused k p) h f =
-      record { least = f .least; most = omega (arith, f .most); from = f .from; inside = f .inside; placed = f .placed }
-
-  pub fair-provided : (s : List ℕ) (top at : ℕ) (b : Bool) (k p : ℕ) (x : Part A) → Refuses s top at k p → Fair s top at x
-      → Fair s top at (provided b k p x)
-  fair-provided s top at true k p x h f = f
-  fair-provided s top at false k p x h f = h
-
-  fair-cond : (s : List ℕ) (top at : ℕ) (b : Bool) (x y : Part A) → Fair s top at x → Fair s top at y
-      → Fair s top at (cond b x y)
-  fair-cond s top at true x y f g = f
-  fair-cond s top at false x y f g = g
-
-module _ {A B : Type 0} where
-  pub fair-then : (s : List ℕ) (top at : ℕ) (x : Part A) (f : A → ℕ → Part B) → Fair s top at x
-      → ((v : A) (next : ℕ) → next ≤ length s → Fair s top next (f v next)) → Fair s top at (andThen x f)
-  fair-then s top at (got v next) f h g = fair-earlier s top at next (f v next) (h .0) (g v next (h .1))
-  fair-then s top at (refused k p) f h g = h
-
-  -- what follows may refuse at the place of the part itself, where it tests what was read
-  fair-tested : (s : List ℕ) (top at : ℕ) (x : Part A) (f : A → ℕ → Part B) → Fair s top at x
-      → ((v : A) (next : ℕ) → x ≡ got v next → at ≤ next → next ≤ length s → Fair s top at (f v next)) → Fair s top at (andThen x f)
-  fair-tested s top at (got v next) f h g = g v next refl (h .0) (h .1)
-  fair-tested s top at (refused k p) f h g = h
-
-module _ {S B : Type 0} where
-  pub rounds-fair : (s : List ℕ) (top : ℕ) {loop : ℕ → ℕ → ℕ → S → Part S} {read : ℕ → ℕ → S → Part B} {put : ℕ → B → S → S}
-      → Rounds loop read put → ((i at : ℕ) (x : S) → at ≤ length s → Fair s top at (read i at x))
-      → (left i at : ℕ) (x : S) → at ≤ length s → Fair s top at (loop left i at x)
-  rounds-fair s top r f zero i at x h = subst (Fair s top at) (sym (r .stop i at x)) (omega arith, h)
-  rounds-fair s top {loop} {read} {put} r f (suc left) i at x h =
-      subst (Fair s top at) (sym (r .round left i at x))
-      (fair-then s top at (read i at x) (λ v next. loop left (i + 1) next (put i v x)) (f i at x h)
-      (λ v next h′. rounds-fair s top r f left (i + 1) next (put i v x) h′))
-
--- how a number is read or refused: 3 at the end of the input, 4 at its first byte
-abbrev Told : List ℕ → ℕ → Part ℕ → Type 0
-Told s at (got v next) = (at ≤ next) × (next ≤ length s)
-Told s at (refused k p) = ((k ≡ 3) × (p ≡ length s)) ⊎ ((k ≡ 4) × (p ≡ at))
-
-told-provided : (s : List ℕ) (at : ℕ) (b : Bool) (k p : ℕ) (x : Part ℕ) → ((k ≡ 3) × (p ≡ length s)) ⊎ ((k ≡ 4) × (p ≡ at))
-    → (b ≡ true → Told s at x) → Told s at (provided b k p x)
-told-provided s at true k p x h f = f refl
-told-provided s at false k p x h f = h
-
-told-cond : (s : List ℕ) (at : ℕ) (b : Bool) (x y : Part ℕ) → Told s at x → Told s at y → Told s at (cond b x y)
-told-cond s at true x y f g = f
-told-cond s at false x y f g = g
+use Rattle.numbers.specs.Laws.Places.{Fair, fair-provided, fair-cond, fair-then, fair-tested, rounds-fair, refuses-number, tested-fair, within-fair, below-fair, two-fair}
 
 module _ (s : List ℕ) where
-  number-told : (at : ℕ) → Told s at (readNumber s at)
-  unfolding readNumber
-  number-told at =
-      told-provided s at (ltb at (length s)) 3 (length s) _ (inl (refl, refl)) (λ e₁.
-      let h₁ = ltb-true at (length s) e₁ in
-      told-cond s at (ltb (getD s at 0) 128) (got (getD s at 0) (at + 1)) _ (omega arith)
-      (told-provided s at (ltb (at + 1) (length s)) 3 (length s) _ (inl (refl, refl)) (λ e₂.
-      let h₂ = ltb-true (at + 1) (length s) e₂ in
-      told-provided s at (ltb 0 (getD s (at + 1) 0)) 4 at _ (inr (refl, refl)) (λ _.
-      told-provided s at (ltb (getD s (at + 1) 0) 128) 4 at (got (getD s at 0 - 128 + 128 * getD s (at + 1) 0) (at + 2))
-      (inr (refl, refl)) (λ _. omega arith)))))
-
-  pub number-fair : (at : ℕ) → at ≤ length s → Fair s 8 at (readNumber s at)
-  number-fair at h = go (readNumber s at) refl (number-told at)
-    where
-      why : (k p : ℕ) → readNumber s at ≡ refused k p → ((k ≡ 3) × (p ≡ length s)) ⊎ ((k ≡ 4) × (p ≡ at)) → Placed s k p
-      why k p e (inl t) =
-          record { ends = λ n. t .1; malformed = λ n. absurd (omega arith); number = λ a b. absurd (omega arith) }
-      why k p e (inr t) =
-          record {
-            ends = λ n. absurd (omega arith);
-            malformed = λ n. ap (readNumber s) (t .1) ∙ e ∙ ap (λ j. refused j p) n;
-            number = λ a b. absurd (omega arith);
-          }
-
-      where-to : (k p : ℕ) → ((k ≡ 3) × (p ≡ length s)) ⊎ ((k ≡ 4) × (p ≡ at)) → (3 ≤ k) × (k ≤ 8) × (at ≤ p) × (p ≤ length s)
-      where-to k p (inl t) = omega arith
-      where-to k p (inr t) = omega arith
-
-      go : (x : Part ℕ) → readNumber s at ≡ x → Told s at x → Fair s 8 at x
-      go (got v next) e t = t
-      go (refused k p) e t =
-          let b = where-to k p t in
-          record { least = b .0; most = b .1; from = b .2; inside = b .3; placed = why k p e t }
-
-  -- a number that was read and is then tested
-  tested-fair : (at : ℕ) (x : Part ℕ) (test : ℕ → Bool) (k : ℕ) → 5 ≤ k → k ≤ 8 → at ≤ length s
-      → ((v next : ℕ) → x ≡ got v next → readNumber s at ≡ got v next) → Fair s 8 at x
-      → Fair s 8 at (andThen x (λ v next. provided (test v) k at (got v next)))
-  tested-fair at x test k a b h number f =
-      fair-tested s 8 at x _ f (λ v next e l g.
-      fair-provided s 8 at (test v) k at (got v next) (refuses-number s at k a b h (number v next e)) (l, g))
-
-  within-fair : (at least most : ℕ) → at ≤ length s → Fair s 8 at (readWithin s at least most)
-  unfolding readWithin
-  within-fair at least most h =
-      fair-tested s 8 at (readNumber s at) _ (number-fair at h) (λ v next e l g.
-      let r = refuses-number s at 5 (omega arith) (omega arith) h e in
-      fair-provided s 8 at (leb least v) 5 at _ r (fair-provided s 8 at (leb v most) 5 at (got v next) r (l, g)))
-
-  below-fair : (at limit : ℕ) → at ≤ length s → Fair s 8 at (readBelow s at limit)
-  unfolding readBelow
-  below-fair at limit h =
-      tested-fair at (readNumber s at) (λ v. ltb v limit) 5 (omega arith) (omega arith) h (λ v next e. e) (number-fair at h)
-
-  two-fair : (at a b : ℕ) → at ≤ length s → Fair s 8 at (readTwo s at a b)
-  unfolding readTwo
-  two-fair at a b h =
-      fair-then s 8 at (readBelow s at a) _ (below-fair at a h) (λ x p h₁.
-      fair-then s 8 p (readBelow s p b) (λ y next. got (x, y) next) (below-fair p b h₁) (λ y next h₂. (omega arith, h₂)))
-
   factor-fair : (at product : ℕ) → at ≤ length s → Fair s 8 at (readFactor s at product)
   unfolding readFactor
   factor-fair at product h =
-      tested-fair at (readWithin s at 1 mostStates) (λ v. leb (product * v) mostControls) 6 (omega arith) (omega arith) h
-      (λ v next e. within-number s at 1 mostStates e) (within-fair at 1 mostStates h)
+      tested-fair s at (readWithin s at 1 mostStates) (λ v. leb (product * v) mostControls) 6 (omega arith) (omega arith) h
+      (λ v next e. within-number s at 1 mostStates e) (within-fair s at 1 mostStates h)
 
   pub machines-fair : (at : ℕ) → at ≤ length s → Fair s 8 at (readMachines s at)
   unfolding readMachines countedMachines
   machines-fair at h =
-      fair-then s 8 at (readWithin s at 1 mostMachines) _ (within-fair at 1 mostMachines h) (λ count p h₁.
+      fair-then s 8 at (readWithin s at 1 mostMachines) _ (within-fair s at 1 mostMachines h) (λ count p h₁.
       fair-then s 8 p (readSizes s count 0 p 1 (replicate mostMachines 0)) _
       (rounds-fair s 8 (sizes-rounds s) (λ i at′ x h′. factor-fair at′ (x .0) h′) count 0 p (1, replicate mostMachines 0) h₁) (λ sized p₁ h₂.
       fair-then s 8 p₁ (readStarts s (sized .1) count 0 p₁ (replicate mostMachines 0))
       (λ starts p₂. got (record { count = count; product = sized .0; states = sized .1; starts = starts }) p₂)
-      (rounds-fair s 8 (starts-rounds s (sized .1)) (λ i at′ x h′. below-fair at′ (getD (sized .1) i 0) h′) count 0 p₁
+      (rounds-fair s 8 (starts-rounds s (sized .1)) (λ i at′ x h′. below-fair s at′ (getD (sized .1) i 0) h′) count 0 p₁
       (replicate mostMachines 0) h₂)
       (λ starts p₂ h₃. (omega arith, h₃))))
 
   term-fair : (at sum : ℕ) → at ≤ length s → Fair s 8 at (readTerm s at sum)
   unfolding readTerm
   term-fair at sum h =
-      tested-fair at (readWithin s at 1 mostMessages) (λ v. leb (sum + v) mostMessages) 6 (omega arith) (omega arith) h
-      (λ v next e. within-number s at 1 mostMessages e) (within-fair at 1 mostMessages h)
+      tested-fair s at (readWithin s at 1 mostMessages) (λ v. leb (sum + v) mostMessages) 6 (omega arith) (omega arith) h
+      (λ v next e. within-number s at 1 mostMessages e) (within-fair s at 1 mostMessages h)
 
   pub queues-fair : (at : ℕ) → at ≤ length s → Fair s 8 at (readQueues s at)
   unfolding readQueues
   queues-fair at h =
-      fair-then s 8 at (readWithin s at 1 mostQueues) _ (within-fair at 1 mostQueues h) (λ count p₁ h₁.
+      fair-then s 8 at (readWithin s at 1 mostQueues) _ (within-fair s at 1 mostQueues h) (λ count p₁ h₁.
       fair-then s 8 p₁ (readCounts s count 0 p₁ 0 (replicate mostQueues 0))
       (λ counted p₂. got (record { count = count; sum = counted .0; messages = counted .1 }) p₂)
       (rounds-fair s 8 (counts-rounds s) (λ i at′ x h′. term-fair at′ (x .0) h′) count 0 p₁ (0, replicate mostQueues 0) h₁)
@@ -218,15 +66,15 @@ module _ (s : List ℕ) where
   message-fair : (at sum lo hi : ℕ) → at ≤ length s → Fair s 8 at (readMessage s at sum lo hi)
   unfolding readMessage
   message-fair at sum lo hi h =
-      fair-tested s 8 at (readBelow s at sum) _ (below-fair at sum h) (λ m next e l g.
+      fair-tested s 8 at (readBelow s at sum) _ (below-fair s at sum h) (λ m next e l g.
       let r = refuses-number s at 7 (omega arith) (omega arith) h (below-number s at sum e) in
       fair-provided s 8 at (leb lo m) 7 at _ r (fair-provided s 8 at (ltb m hi) 7 at (got m next) r (l, g)))
 
   action-fair : (q : Queues) (row at : ℕ) (rows : List ℕ) → at ≤ length s → Fair s 8 at (readAction s q row at rows)
   unfolding readAction
   action-fair q row at rows h =
-      fair-then s 8 at (readBelow s at (q .count)) _ (below-fair at (q .count) h) (λ queue p₁ h₁.
-      fair-then s 8 p₁ (readWithin s p₁ 0 mostWord) _ (within-fair p₁ 0 mostWord h₁) (λ len p₂ h₂.
+      fair-then s 8 at (readBelow s at (q .count)) _ (below-fair s at (q .count) h) (λ queue p₁ h₁.
+      fair-then s 8 p₁ (readWithin s p₁ 0 mostWord) _ (within-fair s p₁ 0 mostWord h₁) (λ len p₂ h₂.
       rounds-fair s 8 (word-rounds s (q .sum) (firstOf (q .messages) queue) (firstOf (q .messages) (suc queue)))
       (λ j at′ x h′. message-fair at′ (q .sum) (firstOf (q .messages) queue) (firstOf (q .messages) (suc queue)) h′) len (row + 6) p₂
       (set (set rows (row + 4) queue) (row + 5) len) h₂))
@@ -235,17 +83,17 @@ module _ (s : List ℕ) where
       → Fair s 8 at (readTransition s m q row at rows)
   unfolding readTransition
   transition-fair m q row at rows h =
-      fair-then s 8 at (readBelow s at (m .count)) _ (below-fair at (m .count) h) (λ machine p₁ h₁.
+      fair-then s 8 at (readBelow s at (m .count)) _ (below-fair s at (m .count) h) (λ machine p₁ h₁.
       fair-then s 8 p₁ (readTwo s p₁ (getD (m .states) machine 0) (getD (m .states) machine 0)) _
-      (two-fair p₁ (getD (m .states) machine 0) (getD (m .states) machine 0) h₁) (λ move p₂ h₂.
-      fair-then s 8 p₂ (readBelow s p₂ 3) _ (below-fair p₂ 3 h₂) (λ kind p₃ h₃.
+      (two-fair s p₁ (getD (m .states) machine 0) (getD (m .states) machine 0) h₁) (λ move p₂ h₂.
+      fair-then s 8 p₂ (readBelow s p₂ 3) _ (below-fair s p₂ 3 h₂) (λ kind p₃ h₃.
       fair-cond s 8 p₃ (eqb kind 0) (got _ p₃) (readAction s q row p₃ _) (omega arith, h₃)
       (action-fair q row p₃ (set (set (set (set rows row machine) (row + 1) (move .0)) (row + 2) (move .1)) (row + 3) kind) h₃))))
 
   pub transitions-fair : (m : Machines) (q : Queues) (at : ℕ) → at ≤ length s → Fair s 8 at (readTransitions s m q at)
   unfolding readTransitions
   transitions-fair m q at h =
-      fair-then s 8 at (readWithin s at 0 mostTransitions) _ (within-fair at 0 mostTransitions h) (λ count p₁ h₁.
+      fair-then s 8 at (readWithin s at 0 mostTransitions) _ (within-fair s at 0 mostTransitions h) (λ count p₁ h₁.
       fair-then s 8 p₁ (readRows s m q count 0 p₁ (replicate (mostTransitions * rowLength) 0))
       (λ rows p₂. got (record { count = count; rows = rows }) p₂)
       (rounds-fair s 8 (rows-rounds s m q) (λ t at′ x h′. transition-fair m q (t * rowLength) at′ x h′) count 0 p₁
@@ -256,10 +104,10 @@ module _ (s : List ℕ) where
   unfolding readArc readAscending
   arc-fair at n sum least h =
       fair-then s 8 at (readAscending s at sum least) _
-      (tested-fair at (readBelow s at sum) (λ m. leb least m) 8 (omega arith) (omega arith) h (λ v next e. below-number s at sum e)
-      (below-fair at sum h))
+      (tested-fair s at (readBelow s at sum) (λ m. leb least m) 8 (omega arith) (omega arith) h (λ v next e. below-number s at sum e)
+      (below-fair s at sum h))
       (λ m p h₁.
-      fair-then s 8 p (readBelow s p n) (λ t next. got (m, t) next) (below-fair p n h₁) (λ t next h₂. (omega arith, h₂)))
+      fair-then s 8 p (readBelow s p n) (λ t next. got (m, t) next) (below-fair s p n h₁) (λ t next h₂. (omega arith, h₂)))
 
   arcs-fair : (n sum row left at least : ℕ) (arcs : List ℕ) → at ≤ length s → Fair s 8 at (readArcs s n sum row left at least arcs)
   unfolding readArcs
@@ -271,15 +119,15 @@ module _ (s : List ℕ) where
   state-fair : (n sum row at : ℕ) (arcs : List ℕ) → at ≤ length s → Fair s 8 at (readState s n sum row at arcs)
   unfolding readState
   state-fair n sum row at arcs h =
-      fair-then s 8 at (readBelow s at 2) _ (below-fair at 2 h) (λ final p₁ h₁.
-      fair-then s 8 p₁ (readWithin s p₁ 0 sum) _ (within-fair p₁ 0 sum h₁) (λ count p₂ h₂.
+      fair-then s 8 at (readBelow s at 2) _ (below-fair s at 2 h) (λ final p₁ h₁.
+      fair-then s 8 p₁ (readWithin s p₁ 0 sum) _ (within-fair s p₁ 0 sum h₁) (λ count p₂ h₂.
       fair-then s 8 p₂ (readArcs s n sum row count p₂ 0 arcs) (λ arcs′ p₃. got (final, arcs′) p₃)
       (arcs-fair n sum row count p₂ 0 arcs h₂) (λ arcs′ p₃ h₃. (omega arith, h₃))))
 
   pub pool-fair : (sum at : ℕ) → at ≤ length s → Fair s 8 at (readPool s sum at)
   unfolding readPool
   pool-fair sum at h =
-      fair-then s 8 at (readWithin s at 1 mostPool) _ (within-fair at 1 mostPool h) (λ n p₁ h₁.
+      fair-then s 8 at (readWithin s at 1 mostPool) _ (within-fair s at 1 mostPool h) (λ n p₁ h₁.
       fair-then s 8 p₁ (readStates s n sum n 0 p₁ (replicate mostPool 0) (replicate (mostPool * mostMessages) 0))
       (λ states p₂. got (record { count = n; finals = states .0; arcs = states .1 }) p₂)
       (rounds-fair s 8 (states-rounds s n sum) (λ i at′ x h′. state-fair n sum (i * mostMessages) at′ (x .1) h′) n 0 p₁
@@ -290,14 +138,14 @@ module _ (s : List ℕ) where
   unfolding readMap
   map-fair product n at h =
       fair-then s 8 at (readRoots s n product 0 at (replicate mostControls 0)) (λ roots next. got (record { roots = roots }) next)
-      (rounds-fair s 8 (roots-rounds s n) (λ i at′ x h′. within-fair at′ 0 n h′) product 0 at (replicate mostControls 0) h)
+      (rounds-fair s 8 (roots-rounds s n) (λ i at′ x h′. within-fair s at′ 0 n h′) product 0 at (replicate mostControls 0) h)
       (λ roots next h₁. (omega arith, h₁))
 
   pub bad-fair : (product n at : ℕ) → at ≤ length s → Fair s 8 at (readBad s product n at)
   unfolding readBad
   bad-fair product n at h =
-      fair-then s 8 at (readWithin s at 0 mostBad) _ (within-fair at 0 mostBad h) (λ count p₁ h₁.
+      fair-then s 8 at (readWithin s at 0 mostBad) _ (within-fair s at 0 mostBad h) (λ count p₁ h₁.
       fair-then s 8 p₁ (readEntries s product n count 0 p₁ (replicate (mostBad * 2) 0))
       (λ rows p₂. got (record { count = count; rows = rows }) p₂)
-      (rounds-fair s 8 (entries-rounds s product n) (λ b at′ x h′. two-fair at′ product n h′) count 0 p₁ (replicate (mostBad * 2) 0) h₁)
+      (rounds-fair s 8 (entries-rounds s product n) (λ b at′ x h′. two-fair s at′ product n h′) count 0 p₁ (replicate (mostBad * 2) 0) h₁)
       (λ rows p₂ h₂. (omega arith, h₂)))

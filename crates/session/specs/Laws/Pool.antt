@@ -11,13 +11,14 @@ use borrow.Author.Tests.{eqb-false, ne-eqb, ltb-true, ltb-false}
 use native.Mathlib.Omega.{arith}
 use native.Mathlib.Nat.{zero-add}
 use Rattle.session.specs.Limits.{mostPool, mostMessages}
-use Rattle.session.specs.Part.{got}
-use Rattle.session.specs.PartLaws.{andThen-got, same-value}
-use Rattle.session.specs.Number.{readWithin, readBelow}
+use Rattle.numbers.specs.Part.{got}
+use Rattle.numbers.specs.Laws.Parts.{andThen-got, same-value}
+use Rattle.numbers.specs.Number.{readWithin, readBelow}
 use Rattle.session.specs.Pool.{arcAt, readArc, readArcs, readState, readStates, readPool}
-use Rattle.session.specs.Ranges.{below-range, within-range, arc-range}
-use Rattle.session.specs.Laws.Written.{at-or-other, Changed, changed-none, changed-set, changed-then, changed-wider, Entries, entries-none, entries-more, Written, written-none, written-more, zeros-hold}
-use Rattle.session.specs.Laws.Rounds.{Rounds, rounds-keep}
+use Rattle.numbers.specs.Laws.Ranges.{below-range, within-range}
+use Rattle.session.specs.Laws.Ranges.{arc-range}
+use Rattle.numbers.specs.Laws.Written.{at-or-other, Changed, changed-none, changed-set, changed-then, changed-wider, Entries, entries-none, entries-more, Written, written-none, written-more, zeros-hold}
+use Rattle.numbers.specs.Laws.Rounds.{Rounds, rounds-keep}
 use Rattle.session.specs.declared.tables.Pool.{Pool}
 
 -- over messages below sum: an entry of the arcs is 0 for none, or 1 plus the target

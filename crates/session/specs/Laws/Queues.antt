@@ -11,13 +11,14 @@ use native.Mathlib.Omega.{arith}
 use native.Mathlib.Nat.{zero-add}
 use native.Mathlib.Numerals.{add-one}
 use Rattle.session.specs.Limits.{mostQueues, mostMessages}
-use Rattle.session.specs.Part.{got}
-use Rattle.session.specs.PartLaws.{andThen-got, same-value}
-use Rattle.session.specs.Number.{readWithin}
+use Rattle.numbers.specs.Part.{got}
+use Rattle.numbers.specs.Laws.Parts.{andThen-got, same-value}
+use Rattle.numbers.specs.Number.{readWithin}
 use Rattle.session.specs.Queues.{readTerm, readCounts, readQueues, firstOf}
-use Rattle.session.specs.Ranges.{within-range, term-within, term-range}
-use Rattle.session.specs.Laws.Written.{Entries, entries-none, entries-more, zeros-hold}
-use Rattle.session.specs.Laws.Rounds.{Rounds, rounds-keep}
+use Rattle.numbers.specs.Laws.Ranges.{within-range}
+use Rattle.session.specs.Laws.Ranges.{term-within, term-range}
+use Rattle.numbers.specs.Laws.Written.{Entries, entries-none, entries-more, zeros-hold}
+use Rattle.numbers.specs.Laws.Rounds.{Rounds, rounds-keep}
 use Rattle.session.specs.declared.tables.Queues.{Queues}
 
 pub first-same : (t u : List ℕ) (i : ℕ) → ((k : ℕ) → k < i → getD u k 0 ≡ getD t k 0) → firstOf u i ≡ firstOf t i

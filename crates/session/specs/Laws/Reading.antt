@@ -5,11 +5,11 @@ use mathlib.Core.Path.{_≡_, refl, sym, ap, _∙_}
 use mathlib.Core.List.{List}
 use lib.Dec.{eqb}
 use native.Mathlib.Omega.{arith}
-use Rattle.session.specs.Part.{Part, got, refused}
+use Rattle.numbers.specs.Part.{Part, got, refused}
 use Rattle.session.specs.Said.{Reply, read, refusal, saidAnswer}
 use Rattle.session.specs.File.{readFile, empty, replyOf, tablesOf, Reads}
 use Rattle.session.specs.Laws.Valid.{Valid, valid}
-use Rattle.session.specs.declared.refusal.Refusal.the-variants.{TooLong, Ends, NotShortest, OutOfRange, PassesLimit, OtherQueue, NotAscending, NotInQueueOrder, Trailing}
+use Rattle.numbers.specs.declared.refusal.Refusal.the-variants.{TooLong, Ends, NotShortest, OutOfRange, PassesLimit, OtherQueue, NotAscending, NotInQueueOrder, Trailing}
 use Rattle.session.specs.declared.reading.Answer.{Answer}
 use Rattle.session.specs.declared.reading.Answer.the-variants.{Read, Refused}
 use Rattle.session.specs.declared.tables.Tables.{Tables}

@@ -9,8 +9,8 @@ use lib.ListN.{length}
 use lib.Dec.{leb}
 use borrow.Author.Tests.{leb-true, leb-false, lt-leb}
 use native.Mathlib.Omega.{arith}
-use Rattle.session.specs.Limits.{mostBytes}
-use Rattle.session.specs.Part.{Part, got, refused, provided}
+use Rattle.numbers.specs.Limits.{mostBytes}
+use Rattle.numbers.specs.Part.{Part, got, refused, provided}
 use Rattle.session.specs.Machines.{readMachines}
 use Rattle.session.specs.Queues.{readQueues}
 use Rattle.session.specs.Transitions.{readTransitions}
@@ -20,7 +20,8 @@ use Rattle.session.specs.Map.{readMap}
 use Rattle.session.specs.Bad.{readBad}
 use Rattle.session.specs.File.{fromBad, fromMap, fromPool, fromTransitions, fromQueues, fromMachines, readFile}
 use Rattle.session.specs.Laws.Order.{QueueOrdered, ordered-is}
-use Rattle.session.specs.Laws.Places.{Placed, refuses-late, Fair, fair-more, fair-provided, fair-then, machines-fair, queues-fair, transitions-fair, pool-fair, map-fair, bad-fair}
+use Rattle.numbers.specs.Laws.Places.{Placed, refuses-late, Fair, fair-more, fair-provided, fair-then}
+use Rattle.session.specs.Laws.Places.{machines-fair, queues-fair, transitions-fair, pool-fair, map-fair, bad-fair}
 use Rattle.session.specs.Laws.Fields.{ToPool, to-pool, Fields, to-end, Late, Reached, reached, Ended, ended}
 use Rattle.session.specs.Laws.Valid.{pool-ready}
 use Rattle.session.specs.declared.tables.Machines.{Machines}

@@ -10,14 +10,15 @@ use borrow.Author.Tests.{eqb-false}
 use native.Mathlib.Omega.{arith}
 use native.Mathlib.Nat.{zero-add}
 use Rattle.session.specs.Limits.{mostTransitions, mostWord}
-use Rattle.session.specs.Part.{got, andThen}
-use Rattle.session.specs.PartLaws.{andThen-got, same-value}
-use Rattle.session.specs.Number.{readWithin, readBelow, readTwo}
+use Rattle.numbers.specs.Part.{got, andThen}
+use Rattle.numbers.specs.Laws.Parts.{andThen-got, same-value}
+use Rattle.numbers.specs.Number.{readWithin, readBelow, readTwo}
 use Rattle.session.specs.Queues.{firstOf}
 use Rattle.session.specs.Transitions.{rowLength, readMessage, readWord, readAction, readTransition, readRows, readTransitions}
-use Rattle.session.specs.Ranges.{below-range, within-range, two-range, message-range}
-use Rattle.session.specs.Laws.Written.{Changed, changed-none, changed-set, changed-then, changed-wider, Entries, entries-none, entries-more, Written, written-none, written-more, zeros-hold}
-use Rattle.session.specs.Laws.Rounds.{Rounds, rounds-keep}
+use Rattle.numbers.specs.Laws.Ranges.{below-range, within-range, two-range}
+use Rattle.session.specs.Laws.Ranges.{message-range}
+use Rattle.numbers.specs.Laws.Written.{Changed, changed-none, changed-set, changed-then, changed-wider, Entries, entries-none, entries-more, Written, written-none, written-more, zeros-hold}
+use Rattle.numbers.specs.Laws.Rounds.{Rounds, rounds-keep}
 use Rattle.session.specs.Laws.Queues.{OfQueue}
 use Rattle.session.specs.declared.tables.Machines.{Machines}
 use Rattle.session.specs.declared.tables.Queues.{Queues}

@@ -2,7 +2,7 @@
 use Prim.Native.Nat.{ℕ}
 use mathlib.Core.Path.{_≡_}
 use mathlib.Core.List.{List}
-use Rattle.session.specs.Part.{got}
+use Rattle.numbers.specs.Part.{got}
 use Rattle.session.specs.File.{readFile}
 use Rattle.session.specs.Laws.Machines.{MachinesValid, machines-valid}
 use Rattle.session.specs.Laws.Queues.{QueuesValid, queues-valid}

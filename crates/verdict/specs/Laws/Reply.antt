@@ -6,14 +6,15 @@ use mathlib.Core.List.{List, _++_}
 use native.Mathlib.Omega.{arith}
 use lib.ListN.{length, take, drop, replicate, length-replicate, take-append-drop}
 use lib.Seq.{length-take-le}
-use Rattle.session.specs.Part as Part
-use Rattle.session.specs.Said.{numberOf, placeOf, saidAnswer}
+use Rattle.numbers.specs.Part as Part
+use Rattle.numbers.specs.Said.{numberOf, placeOf}
+use Rattle.session.specs.Said.{saidAnswer}
 use Rattle.session.specs.File.{Reads, readFile}
 use Rattle.session.specs.Laws.Reading.{answer-refused, answer-read, answer-valid}
 use Rattle.session.specs.Laws.Valid.{Valid}
 use Rattle.session.specs.declared.reading.Reading.{Reading}
 use Rattle.session.specs.declared.reading.Answer.the-variants.{Read, Refused as AnswerRefused}
-use Rattle.session.specs.declared.refusal.Refusal.{Refusal}
+use Rattle.numbers.specs.declared.refusal.Refusal.{Refusal}
 use Rattle.session.specs.declared.tables.Tables.{Tables}
 use Rattle.model.specs.Judge as Model
 use Rattle.meaning.specs.Tables.{sessionOf}

@@ -11,7 +11,7 @@ use lib.ListN.{length, getD, getElem?}
 use Rattle.explore.specs.Search as Search
 use Rattle.explore.specs.Search.{Found, search, sweep}
 use Rattle.explore.specs.SearchLaws.{search-end, search-found, search-on}
-use Rattle.session.specs.PartLaws.{one-more}
+use Rattle.numbers.specs.Laws.Parts.{one-more}
 use Rattle.model.specs.Verdict.{Pair}
 use Rattle.model.specs.Judge.{same}
 use Rattle.meaning.specs.Tables.{finalAt}

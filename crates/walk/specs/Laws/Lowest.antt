@@ -8,7 +8,7 @@ use native.Mathlib.Omega.{arith}
 use native.Mathlib.Nat.{sub-zero, sub-eq-zero-of-le}
 use native.Mathlib.Numerals.{add-one}
 use Rattle.explore.specs.Search.{leadsTo, lowestFrom}
-use Rattle.session.specs.PartLaws.{one-more}
+use Rattle.numbers.specs.Laws.Parts.{one-more}
 use Rattle.model.specs.Verdict.{Pair}
 use Rattle.model.specs.Judge.{same}
 use Rattle.walk.specs.declared.pairs.Node.{Node}

@@ -10,7 +10,7 @@ use lib.ListN.{length, getD, take, drop}
 use lib.Seq.{drop-cons}
 use borrow.Author.Tests.{lt-ltb}
 use Rattle.session.specs.Pool.{arcAt}
-use Rattle.session.specs.PartLaws.{one-more}
+use Rattle.numbers.specs.Laws.Parts.{one-more}
 use Rattle.session.specs.Laws.Pool.{arc-entry}
 use Rattle.meaning.specs.Tables.{arcOf}
 use Rattle.model.specs.Diagram.{along, follow}

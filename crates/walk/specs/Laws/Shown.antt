@@ -7,7 +7,7 @@ use native.Mathlib.Nat.{zero-add}
 use lib.ListN.{length, getD, set, take, drop, length-append, length-drop, length-reverse, drop-of-length-le}
 use lib.Seq.{drop-cons, getD-take, getD-drop, length-take-le, take-at, drop-at, sets, length-sets, sets-eq}
 use borrow.Author.Tests.{eq-eqb, ne-eqb}
-use Rattle.explore.specs.Lists.{sets-append}
+use Rattle.numbers.specs.Laws.Lists.{sets-append}
 use Rattle.walk.specs.declared.pairs.Walk.{Walk}
 use Rattle.walk.specs.declared.edges.Edge.{Edge}
 use Rattle.walk.specs.Over.{wordOver, WordWithin}

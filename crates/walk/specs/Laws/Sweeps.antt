@@ -7,7 +7,7 @@ use native.Mathlib.Omega.{arith}
 use native.Mathlib.Nat.{sub-eq-zero-of-le, sub-zero}
 use native.Mathlib.Numerals.{add-one}
 use Rattle.explore.specs.Search.{Found, push, sweep}
-use Rattle.session.specs.PartLaws.{one-more}
+use Rattle.numbers.specs.Laws.Parts.{one-more}
 use Rattle.model.specs.Verdict.{Pair}
 use Rattle.model.specs.Judge.{same}
 use Rattle.walk.specs.declared.pairs.Walk.{Walk}

@@ -6,8 +6,8 @@ use Rattle.capi.proofs.told.tell_refusal.Tie as tie
 use Rattle.capi.proofs.told.tell_refusal.Reads as reads
 use Rattle.capi.proofs.told.tell_refusal.Lts as lts
 use Rattle.capi.proofs.told.refused.Reads as refused-reads
-use Rattle.session.proofs.refusal.number.Reads as number-reads
-use Rattle.session.proofs.refusal.place.Reads as place-reads
+use Rattle.numbers.proofs.refusal.number.Reads as number-reads
+use Rattle.numbers.proofs.refusal.place.Reads as place-reads
 
 -- src/told.rt:69:13
 number-requires : tie.Need-number-requires

@@ -3,8 +3,8 @@ use Rattle.diagram.proofs.follow.is_final.Statement.{statement}
 use Rattle.diagram.proofs.follow.is_final.Tie as tie
 use Rattle.diagram.proofs.follow.is_final.Reads as reads
 use Rattle.diagram.proofs.follow.is_final.Lts as lts
-use Rattle.session.proofs.number.entry.Reads as entry-reads
-use Rattle.session.proofs.number.wide.Reads as wide-reads
+use Rattle.numbers.proofs.number.entry.Reads as entry-reads
+use Rattle.numbers.proofs.number.wide.Reads as wide-reads
 
 -- src/follow.rt:62:24
 enum-known-at : tie.Need-enum-known-at

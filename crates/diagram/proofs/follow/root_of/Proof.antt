@@ -5,8 +5,8 @@ use Rattle.diagram.proofs.follow.root_of.Statement.{statement}
 use Rattle.diagram.proofs.follow.root_of.Tie as tie
 use Rattle.diagram.proofs.follow.root_of.Reads as reads
 use Rattle.diagram.proofs.follow.root_of.Lts as lts
-use Rattle.session.proofs.number.entry.Reads as entry-reads
-use Rattle.session.proofs.number.wide.Reads as wide-reads
+use Rattle.numbers.proofs.number.entry.Reads as entry-reads
+use Rattle.numbers.proofs.number.wide.Reads as wide-reads
 
 -- src/follow.rt:29:29
 wide-requires : tie.Need-wide-requires

@@ -14,7 +14,7 @@ use Rattle.diagram.proofs.follow.along.Reads as along-reads
 use Rattle.diagram.proofs.follow.is_final.Reads as is-final-reads
 use Rattle.diagram.proofs.member.queue_of.Reads as queue-of-reads
 use Rattle.session.proofs.kinds.Message.new.Reads as new-reads
-use Rattle.session.proofs.number.wide.Reads as wide-reads
+use Rattle.numbers.proofs.number.wide.Reads as wide-reads
 
 abbrev Inv-loop : tie.InvT-loop
 Inv-loop q contents arcs finals at₀ queue₀ i₀ at queue i = Judging q finals arcs contents (saidReached at₀) i queue (saidReached at)

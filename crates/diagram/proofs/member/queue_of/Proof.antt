@@ -9,7 +9,7 @@ use Rattle.diagram.proofs.member.queue_of.Statement.{statement}
 use Rattle.diagram.proofs.member.queue_of.Tie as tie
 use Rattle.diagram.proofs.member.queue_of.Reads as reads
 use Rattle.diagram.proofs.member.queue_of.Lts as lts
-use Rattle.session.proofs.number.entry.Reads as entry-reads
+use Rattle.numbers.proofs.number.entry.Reads as entry-reads
 
 abbrev Inv-loop : tie.InvT-loop
 Inv-loop q counts rest₀ i₀ rest i = (i + queueOf (drop i (take (q .count) (q .messages))) rest ≡ queueOf (take (q .count) (q .messages)) rest₀) × (i ≤ q .count)

@@ -1,6 +1,7 @@
 use denote.Ref.{now}
 use borrow.Author.Needs.{needs}
-use Rattle.line.specs.Laws.Put.{Left, messages-start, left-message, left-messages}
+use Rattle.numbers.specs.Laws.Put.{Left}
+use Rattle.line.specs.Laws.Put.{messages-start, left-message, left-messages}
 use Rattle.model.specs.Line.{spacedAll}
 use Prim.Native.Nat.{_≤_, _+_, _-_, _*_}
 use lib.ListN.{take, drop}
@@ -10,7 +11,7 @@ use Rattle.line.proofs.put.put_messages.Tie as tie
 use Rattle.line.proofs.put.put_messages.Reads as reads
 use Rattle.line.proofs.put.put_messages.Lts as lts
 use Rattle.line.proofs.put.put_spaced.Reads as put-spaced-reads
-use Rattle.session.proofs.number.wide.Reads as wide-reads
+use Rattle.numbers.proofs.number.wide.Reads as wide-reads
 
 abbrev Inv-loop : tie.InvT-loop
 Inv-loop s₀ at contents count next₀ i₀ s next i = Left s₀ at (spacedAll (take count contents)) s next (spacedAll (take (count - i) (drop i contents))) × (i ≤ count) × (next + 4 * (count - i) ≤ at + 4 * count)

@@ -1,4 +1,4 @@
-use Rattle.line.specs.Laws.Put.{put-then}
+use Rattle.numbers.specs.Laws.Put.{put-then}
 use native.Mathlib.Omega.{arith}
 use borrow.Author.Needs.{needs}
 use Rattle.line.proofs.put.put_spaced.Statement.{statement}

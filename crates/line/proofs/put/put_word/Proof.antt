@@ -1,5 +1,5 @@
 use borrow.Author.Needs.{needs}
-use Rattle.line.specs.Laws.Put.{Left, left-zero, left-byte, left-whole}
+use Rattle.numbers.specs.Laws.Put.{Left, left-zero, left-byte, left-whole}
 use Prim.Native.Nat.{_≤_, _+_, _-_}
 use lib.ListN.{length, drop}
 use native.Mathlib.Omega.{arith}

@@ -1,17 +1,17 @@
 use mathlib.Core.Path.{_≡_, sym, ap, _∙_}
-use Rattle.session.specs.Said.{saidField}
+use Rattle.numbers.specs.Said.{saidField}
 use native.Mathlib.Omega.{arith}
-use Rattle.session.specs.PartLaws.{filled-into}
+use Rattle.numbers.specs.Laws.Parts.{filled-into}
 use Rattle.session.specs.Bad.{readBad}
-use Rattle.session.specs.Ranges.{within-range}
+use Rattle.numbers.specs.Laws.Ranges.{within-range}
 use borrow.Author.Needs.{needs}
 use Rattle.session.proofs.bad.read_bad.Statement.{statement}
 use Rattle.session.proofs.bad.read_bad.Tie as tie
 use Rattle.session.proofs.bad.read_bad.Reads as reads
 use Rattle.session.proofs.bad.read_bad.Lts as lts
 use Rattle.session.proofs.bad.read_entries.Reads as read-entries-reads
-use Rattle.session.proofs.number.read_within.Reads as read-within-reads
-use Rattle.session.proofs.number.wide.Reads as wide-reads
+use Rattle.numbers.proofs.number.read_within.Reads as read-within-reads
+use Rattle.numbers.proofs.number.wide.Reads as wide-reads
 
 -- src/bad.rt:41:11
 read-within-requires : tie.Need-read-within-requires

@@ -3,15 +3,15 @@ use Prim.Native.Nat.{_≤_, _-_}
 use mathlib.Core.Path.{_≡_, sym, ap, _∙_}
 use native.Mathlib.Omega.{arith}
 use native.Mathlib.Nat.{sub-zero, sub-eq-zero-of-le}
-use Rattle.session.specs.Said.{saidPair}
-use Rattle.session.specs.PartLaws.{one-more}
+use Rattle.numbers.specs.Said.{saidPair}
+use Rattle.numbers.specs.Laws.Parts.{one-more}
 use Rattle.session.specs.Bad.{readEntries}
 use Rattle.session.proofs.bad.read_entries.Statement.{statement}
 use Rattle.session.proofs.bad.read_entries.Tie as tie
 use Rattle.session.proofs.bad.read_entries.Reads as reads
 use Rattle.session.proofs.bad.read_entries.Lts as lts
-use Rattle.session.proofs.number.read_two.Reads as read-two-reads
-use Rattle.session.proofs.number.wide.Reads as wide-reads
+use Rattle.numbers.proofs.number.read_two.Reads as read-two-reads
+use Rattle.numbers.proofs.number.wide.Reads as wide-reads
 
 abbrev Inv-loop : tie.InvT-loop
 Inv-loop s at product n count rows₀ place₀ b₀ rows place b = (readEntries s product n (count - b) b place rows ≡ readEntries s product n count 0 at rows₀) × (b ≤ count)

@@ -1,4 +1,4 @@
-use Rattle.session.specs.PartLaws.{filled-into}
+use Rattle.numbers.specs.Laws.Parts.{filled-into}
 use Rattle.session.specs.Machines.{countedMachines}
 use borrow.Author.Needs.{needs}
 use Rattle.session.proofs.machines.read_counted.Statement.{statement}

@@ -2,15 +2,15 @@ use mathlib.Core.Path.{sym, ap, _∙_}
 use native.Mathlib.Omega.{arith}
 use native.Mathlib.Nat.{mul-le-mul, le-of-lt}
 use borrow.Author.Tests.{le-leb, lt-leb}
-use Rattle.session.specs.Said.{saidField}
+use Rattle.numbers.specs.Said.{saidField}
 use Rattle.session.specs.Machines.{readFactor}
 use borrow.Author.Needs.{needs}
 use Rattle.session.proofs.machines.read_factor.Statement.{statement}
 use Rattle.session.proofs.machines.read_factor.Tie as tie
 use Rattle.session.proofs.machines.read_factor.Reads as reads
 use Rattle.session.proofs.machines.read_factor.Lts as lts
-use Rattle.session.proofs.number.read_within.Reads as read-within-reads
-use Rattle.session.proofs.number.wide.Reads as wide-reads
+use Rattle.numbers.proofs.number.read_within.Reads as read-within-reads
+use Rattle.numbers.proofs.number.wide.Reads as wide-reads
 
 -- src/machines.rt:21:11
 read-within-requires : tie.Need-read-within-requires

@@ -1,14 +1,14 @@
 use mathlib.Core.Path.{sym, ap, _∙_}
-use Rattle.session.specs.Said.{saidField}
+use Rattle.numbers.specs.Said.{saidField}
 use Rattle.session.specs.Machines.{readMachines}
-use Rattle.session.specs.Ranges.{within-range}
+use Rattle.numbers.specs.Laws.Ranges.{within-range}
 use borrow.Author.Needs.{needs}
 use Rattle.session.proofs.machines.read_machines.Statement.{statement}
 use Rattle.session.proofs.machines.read_machines.Tie as tie
 use Rattle.session.proofs.machines.read_machines.Reads as reads
 use Rattle.session.proofs.machines.read_machines.Lts as lts
 use Rattle.session.proofs.machines.read_counted.Reads as read-counted-reads
-use Rattle.session.proofs.number.read_within.Reads as read-within-reads
+use Rattle.numbers.proofs.number.read_within.Reads as read-within-reads
 
 -- src/machines.rt:109:11
 read-within-requires : tie.Need-read-within-requires

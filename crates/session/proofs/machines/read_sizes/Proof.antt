@@ -3,16 +3,16 @@ use Prim.Native.Nat.{_≤_, _*_, _-_}
 use mathlib.Core.Path.{_≡_, sym, ap, subst, _∙_}
 use native.Mathlib.Omega.{arith}
 use native.Mathlib.Nat.{sub-zero, sub-eq-zero-of-le, mul-le-mul, le-of-lt}
-use Rattle.session.specs.Said.{saidField, numberWith}
-use Rattle.session.specs.PartLaws.{one-more}
+use Rattle.numbers.specs.Said.{saidField, numberWith}
+use Rattle.numbers.specs.Laws.Parts.{one-more}
 use Rattle.session.specs.Machines.{readSizes}
-use Rattle.session.specs.Ranges.{factor-range}
+use Rattle.session.specs.Laws.Ranges.{factor-range}
 use Rattle.session.proofs.machines.read_sizes.Statement.{statement}
 use Rattle.session.proofs.machines.read_sizes.Tie as tie
 use Rattle.session.proofs.machines.read_sizes.Reads as reads
 use Rattle.session.proofs.machines.read_sizes.Lts as lts
 use Rattle.session.proofs.machines.read_factor.Reads as read-factor-reads
-use Rattle.session.proofs.number.wide.Reads as wide-reads
+use Rattle.numbers.proofs.number.wide.Reads as wide-reads
 
 abbrev Inv-loop : tie.InvT-loop
 Inv-loop s at count sizes₀ product₀ place₀ i₀ sizes product place i =

@@ -3,15 +3,15 @@ use Prim.Native.Nat.{_≤_, _-_}
 use mathlib.Core.Path.{_≡_, sym, ap, _∙_}
 use native.Mathlib.Omega.{arith}
 use native.Mathlib.Nat.{sub-zero, sub-eq-zero-of-le}
-use Rattle.session.specs.Said.{saidField}
-use Rattle.session.specs.PartLaws.{one-more}
+use Rattle.numbers.specs.Said.{saidField}
+use Rattle.numbers.specs.Laws.Parts.{one-more}
 use Rattle.session.specs.Machines.{readStarts}
 use Rattle.session.proofs.machines.read_starts.Statement.{statement}
 use Rattle.session.proofs.machines.read_starts.Tie as tie
 use Rattle.session.proofs.machines.read_starts.Reads as reads
 use Rattle.session.proofs.machines.read_starts.Lts as lts
-use Rattle.session.proofs.number.read_below.Reads as read-below-reads
-use Rattle.session.proofs.number.wide.Reads as wide-reads
+use Rattle.numbers.proofs.number.read_below.Reads as read-below-reads
+use Rattle.numbers.proofs.number.wide.Reads as wide-reads
 
 abbrev Inv-loop : tie.InvT-loop
 Inv-loop s at count starts₀ sizes place₀ i₀ starts place i =

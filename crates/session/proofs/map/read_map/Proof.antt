@@ -1,4 +1,4 @@
-use Rattle.session.specs.PartLaws.{filled-into}
+use Rattle.numbers.specs.Laws.Parts.{filled-into}
 use Rattle.session.specs.Map.{readMap}
 use borrow.Author.Needs.{needs}
 use Rattle.session.proofs.map.read_map.Statement.{statement}

@@ -3,14 +3,14 @@ use Prim.Native.Nat.{_≤_, _-_}
 use mathlib.Core.Path.{_≡_, sym, ap, _∙_}
 use native.Mathlib.Omega.{arith}
 use native.Mathlib.Nat.{sub-zero, sub-eq-zero-of-le}
-use Rattle.session.specs.Said.{saidField}
-use Rattle.session.specs.PartLaws.{one-more}
+use Rattle.numbers.specs.Said.{saidField}
+use Rattle.numbers.specs.Laws.Parts.{one-more}
 use Rattle.session.specs.Map.{readRoots}
 use Rattle.session.proofs.map.read_roots.Statement.{statement}
 use Rattle.session.proofs.map.read_roots.Tie as tie
 use Rattle.session.proofs.map.read_roots.Reads as reads
 use Rattle.session.proofs.map.read_roots.Lts as lts
-use Rattle.session.proofs.number.read_within.Reads as read-within-reads
+use Rattle.numbers.proofs.number.read_within.Reads as read-within-reads
 
 abbrev Inv-loop : tie.InvT-loop
 Inv-loop s at n count roots₀ place₀ i₀ roots place i = (readRoots s n (count - i) i place roots ≡ readRoots s n count 0 at roots₀) × (i ≤ count)

@@ -1,4 +1,4 @@
-use Rattle.session.specs.OrderLaws.{arcs-skip, arcs-on, arcs-fail}
+use Rattle.session.specs.Laws.Lowest.{arcs-skip, arcs-on, arcs-fail}
 use mathlib.Core.Path.{subst}
 use borrow.Author.Needs.{needs}
 use Prim.Native.Nat.{_≤_, _-_}
@@ -6,7 +6,7 @@ use mathlib.Core.Path.{_≡_, sym, ap, _∙_}
 use native.Mathlib.Omega.{arith}
 use native.Mathlib.Nat.{sub-eq-zero-of-le}
 use borrow.Author.Tests.{le-leb, lt-leb}
-use Rattle.session.specs.PartLaws.{one-more}
+use Rattle.numbers.specs.Laws.Parts.{one-more}
 use Rattle.session.specs.Said.{saidArc}
 use Rattle.session.specs.Order.{arcsOrdered}
 use Rattle.session.proofs.Arcs.{nowhere-told}
@@ -14,8 +14,8 @@ use Rattle.session.proofs.order.arcs_ordered.Statement.{statement}
 use Rattle.session.proofs.order.arcs_ordered.Tie as tie
 use Rattle.session.proofs.order.arcs_ordered.Reads as reads
 use Rattle.session.proofs.order.arcs_ordered.Lts as lts
-use Rattle.session.proofs.number.entry.Reads as entry-reads
-use Rattle.session.proofs.number.wide.Reads as wide-reads
+use Rattle.numbers.proofs.number.entry.Reads as entry-reads
+use Rattle.numbers.proofs.number.wide.Reads as wide-reads
 use Rattle.session.proofs.pool.arc_of.Reads as arc-of-reads
 
 abbrev Inv-loop : tie.InvT-loop

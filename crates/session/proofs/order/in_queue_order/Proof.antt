@@ -1,7 +1,7 @@
 use mathlib.Core.Path.{sym, ap, _∙_}
 use lib.ListN.{length}
 use Rattle.session.specs.Order.{ordered}
-use Rattle.session.specs.OrderLaws.{lowests-length}
+use Rattle.session.specs.Laws.Lowest.{lowests-length}
 use borrow.Author.Needs.{needs}
 use Rattle.session.proofs.order.in_queue_order.Statement.{statement}
 use Rattle.session.proofs.order.in_queue_order.Tie as tie

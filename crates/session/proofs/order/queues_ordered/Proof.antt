@@ -5,11 +5,11 @@ use native.Mathlib.Omega.{arith}
 use native.Mathlib.Nat.{sub-zero, sub-eq-zero-of-le, add-sub-cancel-left}
 use native.Mathlib.Numerals.{add-one}
 use borrow.Author.Tests.{not-true, not-false}
-use Rattle.session.specs.PartLaws.{one-more}
+use Rattle.numbers.specs.Laws.Parts.{one-more}
 use Rattle.session.specs.Queues.{firstOf}
 use Rattle.session.specs.Laws.Queues.{end-within, first-step}
 use Rattle.session.specs.Order.{queuesOrdered}
-use Rattle.session.specs.OrderLaws.{queues-on, queues-fail}
+use Rattle.session.specs.Laws.Lowest.{queues-on, queues-fail}
 use Rattle.session.proofs.order.queues_ordered.Statement.{statement}
 use Rattle.session.proofs.order.queues_ordered.Tie as tie
 use Rattle.session.proofs.order.queues_ordered.Reads as reads

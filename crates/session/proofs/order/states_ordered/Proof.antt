@@ -4,9 +4,9 @@ use Prim.Native.Nat.{_≤_, _-_}
 use mathlib.Core.Path.{_≡_, sym, ap, _∙_}
 use native.Mathlib.Omega.{arith}
 use native.Mathlib.Nat.{sub-zero, sub-eq-zero-of-le}
-use Rattle.session.specs.PartLaws.{one-more}
+use Rattle.numbers.specs.Laws.Parts.{one-more}
 use Rattle.session.specs.Order.{statesOrdered}
-use Rattle.session.specs.OrderLaws.{states-on, states-fail}
+use Rattle.session.specs.Laws.Lowest.{states-on, states-fail}
 use Rattle.session.proofs.order.states_ordered.Statement.{statement}
 use Rattle.session.proofs.order.states_ordered.Tie as tie
 use Rattle.session.proofs.order.states_ordered.Reads as reads

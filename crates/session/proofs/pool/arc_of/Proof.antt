@@ -7,7 +7,7 @@ use Rattle.session.proofs.pool.arc_of.Statement.{statement}
 use Rattle.session.proofs.pool.arc_of.Tie as tie
 use Rattle.session.proofs.pool.arc_of.Reads as reads
 use Rattle.session.proofs.pool.arc_of.Lts as lts
-use Rattle.session.proofs.number.wide.Reads as wide-reads
+use Rattle.numbers.proofs.number.wide.Reads as wide-reads
 
 -- src/pool.rt:27:13
 wide-requires : tie.Need-wide-requires

@@ -1,13 +1,13 @@
 use mathlib.Core.Path.{_≡_, sym, ap, _∙_}
-use Rattle.session.specs.Said.{saidField}
+use Rattle.numbers.specs.Said.{saidField}
 use Rattle.session.specs.Pool.{readArc}
 use borrow.Author.Needs.{needs}
 use Rattle.session.proofs.pool.read_arc.Statement.{statement}
 use Rattle.session.proofs.pool.read_arc.Tie as tie
 use Rattle.session.proofs.pool.read_arc.Reads as reads
 use Rattle.session.proofs.pool.read_arc.Lts as lts
-use Rattle.session.proofs.number.read_below.Reads as read-below-reads
-use Rattle.session.proofs.number.wide.Reads as wide-reads
+use Rattle.numbers.proofs.number.read_below.Reads as read-below-reads
+use Rattle.numbers.proofs.number.wide.Reads as wide-reads
 use Rattle.session.proofs.pool.read_ascending.Reads as read-ascending-reads
 
 -- src/pool.rt:57:11

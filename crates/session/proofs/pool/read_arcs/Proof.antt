@@ -3,15 +3,15 @@ use Prim.Native.Nat.{_≤_, _-_}
 use mathlib.Core.Path.{_≡_, sym, ap, _∙_}
 use native.Mathlib.Omega.{arith}
 use native.Mathlib.Nat.{sub-zero, sub-eq-zero-of-le}
-use Rattle.session.specs.Said.{saidPair}
-use Rattle.session.specs.PartLaws.{one-more}
+use Rattle.numbers.specs.Said.{saidPair}
+use Rattle.numbers.specs.Laws.Parts.{one-more}
 use Rattle.session.specs.Pool.{readArcs}
-use Rattle.session.specs.Ranges.{arc-range}
+use Rattle.session.specs.Laws.Ranges.{arc-range}
 use Rattle.session.proofs.pool.read_arcs.Statement.{statement}
 use Rattle.session.proofs.pool.read_arcs.Tie as tie
 use Rattle.session.proofs.pool.read_arcs.Reads as reads
 use Rattle.session.proofs.pool.read_arcs.Lts as lts
-use Rattle.session.proofs.number.wide.Reads as wide-reads
+use Rattle.numbers.proofs.number.wide.Reads as wide-reads
 use Rattle.session.proofs.pool.read_arc.Reads as read-arc-reads
 
 abbrev Inv-loop : tie.InvT-loop

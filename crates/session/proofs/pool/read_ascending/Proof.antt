@@ -1,5 +1,5 @@
 use mathlib.Core.Path.{_≡_, sym, ap, _∙_}
-use Rattle.session.specs.Said.{saidField}
+use Rattle.numbers.specs.Said.{saidField}
 use borrow.Author.Tests.{le-leb, lt-leb}
 use Rattle.session.specs.Pool.{readAscending}
 use borrow.Author.Needs.{needs}
@@ -7,8 +7,8 @@ use Rattle.session.proofs.pool.read_ascending.Statement.{statement}
 use Rattle.session.proofs.pool.read_ascending.Tie as tie
 use Rattle.session.proofs.pool.read_ascending.Reads as reads
 use Rattle.session.proofs.pool.read_ascending.Lts as lts
-use Rattle.session.proofs.number.read_below.Reads as read-below-reads
-use Rattle.session.proofs.number.wide.Reads as wide-reads
+use Rattle.numbers.proofs.number.read_below.Reads as read-below-reads
+use Rattle.numbers.proofs.number.wide.Reads as wide-reads
 
 -- src/pool.rt:42:29
 wide-requires : tie.Need-wide-requires

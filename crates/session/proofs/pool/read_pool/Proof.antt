@@ -1,16 +1,16 @@
 use mathlib.Core.Path.{_≡_, sym, ap, _∙_}
 use mathlib.Core.List.{List}
 use Prim.Native.Nat.{ℕ}
-use Rattle.session.specs.Said.{saidField}
-use Rattle.session.specs.PartLaws.{filled-into}
+use Rattle.numbers.specs.Said.{saidField}
+use Rattle.numbers.specs.Laws.Parts.{filled-into}
 use Rattle.session.specs.Pool.{readPool}
-use Rattle.session.specs.Ranges.{within-range}
+use Rattle.numbers.specs.Laws.Ranges.{within-range}
 use borrow.Author.Needs.{needs}
 use Rattle.session.proofs.pool.read_pool.Statement.{statement}
 use Rattle.session.proofs.pool.read_pool.Tie as tie
 use Rattle.session.proofs.pool.read_pool.Reads as reads
 use Rattle.session.proofs.pool.read_pool.Lts as lts
-use Rattle.session.proofs.number.read_within.Reads as read-within-reads
+use Rattle.numbers.proofs.number.read_within.Reads as read-within-reads
 use Rattle.session.proofs.pool.read_states.Reads as read-states-reads
 
 -- src/pool.rt:137:11

@@ -1,14 +1,14 @@
 use mathlib.Core.Path.{_≡_, sym, ap, _∙_}
-use Rattle.session.specs.Said.{saidField}
+use Rattle.numbers.specs.Said.{saidField}
 use Rattle.session.specs.Pool.{readState}
 use borrow.Author.Needs.{needs}
 use Rattle.session.proofs.pool.read_state.Statement.{statement}
 use Rattle.session.proofs.pool.read_state.Tie as tie
 use Rattle.session.proofs.pool.read_state.Reads as reads
 use Rattle.session.proofs.pool.read_state.Lts as lts
-use Rattle.session.proofs.number.read_below.Reads as read-below-reads
-use Rattle.session.proofs.number.read_within.Reads as read-within-reads
-use Rattle.session.proofs.number.wide.Reads as wide-reads
+use Rattle.numbers.proofs.number.read_below.Reads as read-below-reads
+use Rattle.numbers.proofs.number.read_within.Reads as read-within-reads
+use Rattle.numbers.proofs.number.wide.Reads as wide-reads
 use Rattle.session.proofs.pool.read_arcs.Reads as read-arcs-reads
 
 -- src/pool.rt:98:11

@@ -8,8 +8,8 @@ use Rattle.session.proofs.queues.messages_of.Statement.{statement}
 use Rattle.session.proofs.queues.messages_of.Tie as tie
 use Rattle.session.proofs.queues.messages_of.Reads as reads
 use Rattle.session.proofs.queues.messages_of.Lts as lts
-use Rattle.session.proofs.number.entry.Reads as entry-reads
-use Rattle.session.proofs.number.wide.Reads as wide-reads
+use Rattle.numbers.proofs.number.entry.Reads as entry-reads
+use Rattle.numbers.proofs.number.wide.Reads as wide-reads
 
 abbrev Inv-loop : tie.InvT-loop
 Inv-loop queue counts lo₀ i₀ lo i = (lo ≡ firstOf counts i) × (i ≤ queue) × (lo ≤ 255 * i)

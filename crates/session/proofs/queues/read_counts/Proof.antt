@@ -3,10 +3,10 @@ use Prim.Native.Nat.{_≤_, _-_}
 use mathlib.Core.Path.{_≡_, sym, ap, _∙_}
 use native.Mathlib.Omega.{arith}
 use native.Mathlib.Nat.{sub-zero, sub-eq-zero-of-le}
-use Rattle.session.specs.Said.{saidField}
-use Rattle.session.specs.PartLaws.{one-more}
+use Rattle.numbers.specs.Said.{saidField}
+use Rattle.numbers.specs.Laws.Parts.{one-more}
 use Rattle.session.specs.Queues.{readCounts}
-use Rattle.session.specs.Ranges.{term-range}
+use Rattle.session.specs.Laws.Ranges.{term-range}
 use Rattle.session.proofs.queues.read_counts.Statement.{statement}
 use Rattle.session.proofs.queues.read_counts.Tie as tie
 use Rattle.session.proofs.queues.read_counts.Reads as reads

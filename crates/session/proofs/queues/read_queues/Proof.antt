@@ -1,15 +1,15 @@
 use mathlib.Core.Path.{_≡_, sym, ap, _∙_}
-use Rattle.session.specs.Said.{saidField}
+use Rattle.numbers.specs.Said.{saidField}
 use native.Mathlib.Omega.{arith}
 use Rattle.session.specs.Queues.{readQueues}
-use Rattle.session.specs.Ranges.{within-range}
+use Rattle.numbers.specs.Laws.Ranges.{within-range}
 use borrow.Author.Needs.{needs}
 use Rattle.session.proofs.queues.read_queues.Statement.{statement}
 use Rattle.session.proofs.queues.read_queues.Tie as tie
 use Rattle.session.proofs.queues.read_queues.Reads as reads
 use Rattle.session.proofs.queues.read_queues.Lts as lts
-use Rattle.session.proofs.number.read_within.Reads as read-within-reads
-use Rattle.session.proofs.number.wide.Reads as wide-reads
+use Rattle.numbers.proofs.number.read_within.Reads as read-within-reads
+use Rattle.numbers.proofs.number.wide.Reads as wide-reads
 use Rattle.session.proofs.queues.read_counts.Reads as read-counts-reads
 
 -- src/queues.rt:63:11

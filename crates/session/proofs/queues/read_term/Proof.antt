@@ -1,14 +1,14 @@
 use mathlib.Core.Path.{sym, ap, _∙_}
 use borrow.Author.Tests.{le-leb, lt-leb}
-use Rattle.session.specs.Said.{saidField}
+use Rattle.numbers.specs.Said.{saidField}
 use Rattle.session.specs.Queues.{readTerm}
 use borrow.Author.Needs.{needs}
 use Rattle.session.proofs.queues.read_term.Statement.{statement}
 use Rattle.session.proofs.queues.read_term.Tie as tie
 use Rattle.session.proofs.queues.read_term.Reads as reads
 use Rattle.session.proofs.queues.read_term.Lts as lts
-use Rattle.session.proofs.number.read_within.Reads as read-within-reads
-use Rattle.session.proofs.number.wide.Reads as wide-reads
+use Rattle.numbers.proofs.number.read_within.Reads as read-within-reads
+use Rattle.numbers.proofs.number.wide.Reads as wide-reads
 
 -- src/queues.rt:26:11
 read-within-requires : tie.Need-read-within-requires

@@ -1,17 +1,17 @@
 use mathlib.Core.Path.{_≡_, sym, ap, _∙_}
-use Rattle.session.specs.Said.{saidField}
+use Rattle.numbers.specs.Said.{saidField}
 use native.Mathlib.Omega.{arith}
 use native.Mathlib.Nat.{add-sub-cancel-left}
 use Rattle.session.specs.Transitions.{readAction}
-use Rattle.session.specs.Ranges.{within-range}
+use Rattle.numbers.specs.Laws.Ranges.{within-range}
 use borrow.Author.Needs.{needs}
 use Rattle.session.proofs.transitions.read_action.Statement.{statement}
 use Rattle.session.proofs.transitions.read_action.Tie as tie
 use Rattle.session.proofs.transitions.read_action.Reads as reads
 use Rattle.session.proofs.transitions.read_action.Lts as lts
-use Rattle.session.proofs.number.read_below.Reads as read-below-reads
-use Rattle.session.proofs.number.read_within.Reads as read-within-reads
-use Rattle.session.proofs.number.wide.Reads as wide-reads
+use Rattle.numbers.proofs.number.read_below.Reads as read-below-reads
+use Rattle.numbers.proofs.number.read_within.Reads as read-within-reads
+use Rattle.numbers.proofs.number.wide.Reads as wide-reads
 use Rattle.session.proofs.queues.messages_of.Reads as messages-of-reads
 use Rattle.session.proofs.transitions.read_word.Reads as read-word-reads
 

@@ -1,14 +1,14 @@
 use mathlib.Core.Path.{sym, ap, _∙_}
 use borrow.Author.Tests.{le-leb, lt-leb, lt-ltb, le-ltb}
-use Rattle.session.specs.Said.{saidField}
+use Rattle.numbers.specs.Said.{saidField}
 use Rattle.session.specs.Transitions.{readMessage}
 use borrow.Author.Needs.{needs}
 use Rattle.session.proofs.transitions.read_message.Statement.{statement}
 use Rattle.session.proofs.transitions.read_message.Tie as tie
 use Rattle.session.proofs.transitions.read_message.Reads as reads
 use Rattle.session.proofs.transitions.read_message.Lts as lts
-use Rattle.session.proofs.number.read_below.Reads as read-below-reads
-use Rattle.session.proofs.number.wide.Reads as wide-reads
+use Rattle.numbers.proofs.number.read_below.Reads as read-below-reads
+use Rattle.numbers.proofs.number.wide.Reads as wide-reads
 
 -- src/transitions.rt:22:29
 wide-requires : tie.Need-wide-requires

@@ -1,16 +1,16 @@
 use mathlib.Core.Path.{_≡_, sym, ap, _∙_}
-use Rattle.session.specs.Said.{saidField}
+use Rattle.numbers.specs.Said.{saidField}
 use borrow.Author.Tests.{eq-eqb, ne-eqb}
-use Rattle.session.specs.Said.{saidPair}
+use Rattle.numbers.specs.Said.{saidPair}
 use Rattle.session.specs.Transitions.{readTransition}
 use borrow.Author.Needs.{needs}
 use Rattle.session.proofs.transitions.read_transition.Statement.{statement}
 use Rattle.session.proofs.transitions.read_transition.Tie as tie
 use Rattle.session.proofs.transitions.read_transition.Reads as reads
 use Rattle.session.proofs.transitions.read_transition.Lts as lts
-use Rattle.session.proofs.number.read_below.Reads as read-below-reads
-use Rattle.session.proofs.number.read_two.Reads as read-two-reads
-use Rattle.session.proofs.number.wide.Reads as wide-reads
+use Rattle.numbers.proofs.number.read_below.Reads as read-below-reads
+use Rattle.numbers.proofs.number.read_two.Reads as read-two-reads
+use Rattle.numbers.proofs.number.wide.Reads as wide-reads
 use Rattle.session.proofs.transitions.read_action.Reads as read-action-reads
 use Rattle.session.proofs.transitions.states_of.Reads as states-of-reads
 

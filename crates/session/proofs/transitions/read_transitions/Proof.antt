@@ -1,16 +1,16 @@
 use mathlib.Core.Path.{_≡_, sym, ap, _∙_}
 use native.Mathlib.Omega.{arith}
-use Rattle.session.specs.Said.{saidField}
-use Rattle.session.specs.PartLaws.{filled-into}
+use Rattle.numbers.specs.Said.{saidField}
+use Rattle.numbers.specs.Laws.Parts.{filled-into}
 use Rattle.session.specs.Transitions.{readTransitions}
-use Rattle.session.specs.Ranges.{within-range}
+use Rattle.numbers.specs.Laws.Ranges.{within-range}
 use borrow.Author.Needs.{needs}
 use Rattle.session.proofs.transitions.read_transitions.Statement.{statement}
 use Rattle.session.proofs.transitions.read_transitions.Tie as tie
 use Rattle.session.proofs.transitions.read_transitions.Reads as reads
 use Rattle.session.proofs.transitions.read_transitions.Lts as lts
-use Rattle.session.proofs.number.read_within.Reads as read-within-reads
-use Rattle.session.proofs.number.wide.Reads as wide-reads
+use Rattle.numbers.proofs.number.read_within.Reads as read-within-reads
+use Rattle.numbers.proofs.number.wide.Reads as wide-reads
 use Rattle.session.proofs.transitions.read_rows.Reads as read-rows-reads
 
 -- src/transitions.rt:138:11

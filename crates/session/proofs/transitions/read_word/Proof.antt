@@ -3,8 +3,8 @@ use Prim.Native.Nat.{_≤_, _-_}
 use mathlib.Core.Path.{_≡_, sym, ap, _∙_}
 use native.Mathlib.Omega.{arith}
 use native.Mathlib.Nat.{sub-zero, sub-eq-zero-of-le}
-use Rattle.session.specs.Said.{saidField}
-use Rattle.session.specs.PartLaws.{one-more}
+use Rattle.numbers.specs.Said.{saidField}
+use Rattle.numbers.specs.Laws.Parts.{one-more}
 use Rattle.session.specs.Transitions.{readWord}
 use Rattle.session.proofs.transitions.read_word.Statement.{statement}
 use Rattle.session.proofs.transitions.read_word.Tie as tie

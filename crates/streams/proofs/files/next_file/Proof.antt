@@ -4,7 +4,7 @@ use Rattle.streams.proofs.files.next_file.Tie as tie
 use Rattle.streams.proofs.files.next_file.Reads as reads
 use Rattle.streams.proofs.files.next_file.Lts as lts
 use Rattle.io.proofs.read_full.Reads as read-full-reads
-use Rattle.session.proofs.number.wide.Reads as wide-reads
+use Rattle.numbers.proofs.number.wide.Reads as wide-reads
 use Rattle.streams.proofs.fill_front.Reads as fill-front-reads
 
 -- src/files.rt:18:25

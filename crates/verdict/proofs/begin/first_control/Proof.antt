@@ -8,7 +8,7 @@ use Rattle.verdict.proofs.begin.first_control.Tie as tie
 use Rattle.verdict.proofs.begin.first_control.Reads as reads
 use Rattle.verdict.proofs.begin.first_control.Lts as lts
 use Rattle.session.proofs.kinds.ControlState.new.Reads as new-reads
-use Rattle.session.proofs.number.wide.Reads as wide-reads
+use Rattle.numbers.proofs.number.wide.Reads as wide-reads
 use Rattle.verdict.proofs.begin.number_of.Reads as number-of-reads
 
 -- src/begin.rt:37:31

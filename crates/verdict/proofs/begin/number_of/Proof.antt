@@ -10,7 +10,7 @@ use Rattle.verdict.proofs.begin.number_of.Statement.{statement}
 use Rattle.verdict.proofs.begin.number_of.Tie as tie
 use Rattle.verdict.proofs.begin.number_of.Reads as reads
 use Rattle.verdict.proofs.begin.number_of.Lts as lts
-use Rattle.session.proofs.number.wide.Reads as wide-reads
+use Rattle.numbers.proofs.number.wide.Reads as wide-reads
 use Rattle.verdict.proofs.controls.product_from.Reads as product-from-reads
 
 abbrev Inv-loop : tie.InvT-loop

@@ -8,7 +8,7 @@ use Rattle.verdict.proofs.check.judge_tables.Statement.{statement}
 use Rattle.verdict.proofs.check.judge_tables.Tie as tie
 use Rattle.verdict.proofs.check.judge_tables.Reads as reads
 use Rattle.verdict.proofs.check.judge_tables.Lts as lts
-use Rattle.session.proofs.number.wide.Reads as wide-reads
+use Rattle.numbers.proofs.number.wide.Reads as wide-reads
 use Rattle.verdict.proofs.check.judge_lent.Reads as judge-lent-reads
 
 -- src/check.rt:107:22

@@ -4,7 +4,7 @@ use Rattle.verdict.proofs.controls.part_at.Statement.{statement}
 use Rattle.verdict.proofs.controls.part_at.Tie as tie
 use Rattle.verdict.proofs.controls.part_at.Reads as reads
 use Rattle.verdict.proofs.controls.part_at.Lts as lts
-use Rattle.session.proofs.number.wide.Reads as wide-reads
+use Rattle.numbers.proofs.number.wide.Reads as wide-reads
 use Rattle.verdict.proofs.controls.part.Reads as part-reads
 
 -- src/controls.rt:62:18

@@ -10,7 +10,7 @@ use Rattle.verdict.proofs.controls.product_from.Statement.{statement}
 use Rattle.verdict.proofs.controls.product_from.Tie as tie
 use Rattle.verdict.proofs.controls.product_from.Reads as reads
 use Rattle.verdict.proofs.controls.product_from.Lts as lts
-use Rattle.session.proofs.number.wide.Reads as wide-reads
+use Rattle.numbers.proofs.number.wide.Reads as wide-reads
 
 abbrev Inv-loop : tie.InvT-loop
 Inv-loop count i states product₀ j₀ product j = (product ≡ product-of (drop j (take count states))) × (i ≤ j) × (j ≤ count)

@@ -6,7 +6,7 @@ use Rattle.verdict.proofs.start.cut_of.Statement.{statement}
 use Rattle.verdict.proofs.start.cut_of.Tie as tie
 use Rattle.verdict.proofs.start.cut_of.Reads as reads
 use Rattle.verdict.proofs.start.cut_of.Lts as lts
-use Rattle.session.proofs.number.wide.Reads as wide-reads
+use Rattle.numbers.proofs.number.wide.Reads as wide-reads
 use Rattle.session.proofs.queues.messages_of.Reads as messages-of-reads
 
 -- src/start.rt:37:21

@@ -6,7 +6,7 @@ use Rattle.verdict.proofs.start.is_at.Statement.{statement}
 use Rattle.verdict.proofs.start.is_at.Tie as tie
 use Rattle.verdict.proofs.start.is_at.Reads as reads
 use Rattle.verdict.proofs.start.is_at.Lts as lts
-use Rattle.session.proofs.number.wide.Reads as wide-reads
+use Rattle.numbers.proofs.number.wide.Reads as wide-reads
 use Rattle.verdict.proofs.controls.part_at.Reads as part-at-reads
 
 -- src/start.rt:85:27

@@ -9,7 +9,7 @@ use Rattle.verdict.proofs.start.moved.Tie as tie
 use Rattle.verdict.proofs.start.moved.Reads as reads
 use Rattle.verdict.proofs.start.moved.Lts as lts
 use Rattle.session.proofs.kinds.ControlState.new.Reads as new-reads
-use Rattle.session.proofs.number.wide.Reads as wide-reads
+use Rattle.numbers.proofs.number.wide.Reads as wide-reads
 use Rattle.verdict.proofs.controls.part_at.Reads as part-at-reads
 
 -- src/start.rt:97:27

@@ -5,8 +5,8 @@ use Rattle.verdict.proofs.start.place_of.Statement.{statement}
 use Rattle.verdict.proofs.start.place_of.Tie as tie
 use Rattle.verdict.proofs.start.place_of.Reads as reads
 use Rattle.verdict.proofs.start.place_of.Lts as lts
-use Rattle.session.proofs.number.entry.Reads as entry-reads
-use Rattle.session.proofs.number.wide.Reads as wide-reads
+use Rattle.numbers.proofs.number.entry.Reads as entry-reads
+use Rattle.numbers.proofs.number.wide.Reads as wide-reads
 
 -- src/start.rt:71:29
 wide-requires : tie.Need-wide-requires

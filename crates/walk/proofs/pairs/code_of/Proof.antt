@@ -5,7 +5,7 @@ use Rattle.walk.proofs.pairs.code_of.Statement.{statement}
 use Rattle.walk.proofs.pairs.code_of.Tie as tie
 use Rattle.walk.proofs.pairs.code_of.Reads as reads
 use Rattle.walk.proofs.pairs.code_of.Lts as lts
-use Rattle.session.proofs.number.wide.Reads as wide-reads
+use Rattle.numbers.proofs.number.wide.Reads as wide-reads
 
 -- src/pairs.rt:42:14
 wide-requires : tie.Need-wide-requires

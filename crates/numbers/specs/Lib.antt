@@ -1,0 +1,7 @@
+pub mod Limits
+pub mod Part
+pub mod Said
+pub mod Number
+pub mod Reader
+pub mod Put
+pub mod Laws
