@@ -145,13 +145,13 @@ pub computed : Computed
 unfolding
     replyOf readFile fromMachines fromQueues fromTransitions fromPool fromMap fromBad
     readNumber readWithin readBelow readTwo
-    readFactor readSizes readStarts countedMachines readMachines
-    readTerm readCounts readQueues firstOf
-    readMessage readWord readAction readTransition readRows readTransitions
-    readAscending readArc readArcs readState readStates readPool
-    lowest lowests arcsOrdered statesOrdered queuesOrdered ordered inQueueOrder
-    readRoots readMap readEntries readBad
-    judged decide judge look walked explore rounds expand fresh starts childrenFrom
+    readFactor readSizes readStarts readTerm readCounts
+    countedMachines readMachines readQueues firstOf
+    readMessage readWord readAction readArcs readTransition readRows
+    readTransitions readAscending readArc readState readStates readPool
+    queuesOrdered lowest lowests arcsOrdered statesOrdered ordered inQueueOrder
+    readRoots readMap decide readEntries
+    readBad judged judge look walked explore rounds expand fresh starts childrenFrom
     line refusedLine digits spacedAll
 computed =
     record { lettered = refl; further = refl; a = refl; b = refl; b-run = refl; c = refl; f = refl; second = refl; second-run = refl }

@@ -6,7 +6,6 @@ use mathlib.Core.List.{List, [], _∷_}
 use lib.ListN.{getD, take, drop}
 use lib.Dec.{ltb, eqb}
 use Rattle.session.specs.Limits.{mostMessages}
-use Rattle.session.specs.Transitions.{rowLength}
 use Rattle.session.specs.Pool.{arcAt}
 use Rattle.session.specs.declared.tables.Machines.{Machines}
 use Rattle.session.specs.declared.tables.Queues.{Queues}
@@ -16,10 +15,7 @@ use Rattle.session.specs.declared.tables.Tables.{Tables}
 use Rattle.model.specs.Model.{Model, Action, local, send, receive, Transition}
 use Rattle.model.specs.Diagram.{Pool}
 use Rattle.model.specs.Session.{Session}
-
--- the word of the transition whose row begins at entry row
-abbrev pub wordAt : List ℕ → ℕ → List ℕ
-wordAt rows row = take (getD rows (row + 5) 0) (drop (row + 6) rows)
+use Rattle.session.specs.Rows.{rowLength, machineAt, fromAt, toAt, kindAt, queueAt, wordAt}
 
 -- kinds: 0 local, 1 send, 2 receive
 abbrev pub actionOf : ℕ → ℕ → List ℕ → Action
@@ -30,10 +26,10 @@ actionOf (suc (suc k)) q w = receive q w
 abbrev pub transitionAt : List ℕ → ℕ → Transition
 transitionAt rows row =
     record {
-      machine = getD rows row 0;
-      from = getD rows (row + 1) 0;
-      to = getD rows (row + 2) 0;
-      action = actionOf (getD rows (row + 3) 0) (getD rows (row + 4) 0) (wordAt rows row);
+      machine = machineAt rows row;
+      from = fromAt rows row;
+      to = toAt rows row;
+      action = actionOf (kindAt rows row) (queueAt rows row) (wordAt rows row);
     }
 
 -- so many transitions from number t on

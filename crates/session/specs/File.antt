@@ -10,7 +10,7 @@ use Rattle.numbers.specs.Part.{Part, got, refused, provided, andThen}
 use Rattle.session.specs.Said.{Reply, saidAnswer, read, refusal}
 use Rattle.session.specs.Machines.{readMachines}
 use Rattle.session.specs.Queues.{readQueues}
-use Rattle.session.specs.Transitions.{readTransitions, rowLength}
+use Rattle.session.specs.Transitions.{readTransitions}
 use Rattle.session.specs.Pool.{readPool}
 use Rattle.session.specs.Order.{inQueueOrder}
 use Rattle.session.specs.Map.{readMap}
@@ -22,24 +22,25 @@ use Rattle.session.specs.declared.tables.Pool.{Pool}
 use Rattle.session.specs.declared.tables.Map.{Map}
 use Rattle.session.specs.declared.tables.Tables.{Tables}
 use Rattle.session.specs.declared.reading.Reading.{Reading}
+use Rattle.session.specs.Rows.{rowLength}
 
 -- field 6, and nothing after it
 unfoldable pub fromBad : List ℕ → ℕ → Machines → Queues → Transitions → Pool → Map → Part Tables
 fromBad s at m q τ P R =
-    andThen (readBad s (m .product) (P .count) at) (λ B next.
+    andThen (readBad s at (m .product) (P .count)) (λ B next.
     provided (leb (length s) next) 10 next
     (got (record { machines = m; queues = q; transitions = τ; pool = P; map = R; bad = B }) next))
 
 unfoldable pub fromMap : List ℕ → ℕ → Machines → Queues → Transitions → Pool → Part Tables
-fromMap s at m q τ P = andThen (readMap s (m .product) (P .count) at) (λ R next. fromBad s next m q τ P R)
+fromMap s at m q τ P = andThen (readMap s at (m .product) (P .count)) (λ R next. fromBad s next m q τ P R)
 
 -- field 4, and after it the test of queue order
 unfoldable pub fromPool : List ℕ → ℕ → Machines → Queues → Transitions → Part Tables
 fromPool s at m q τ =
-    andThen (readPool s (q .sum) at) (λ P next. provided (inQueueOrder q P) 9 next (fromMap s next m q τ P))
+    andThen (readPool s at (q .sum)) (λ P next. provided (inQueueOrder q P) 9 next (fromMap s next m q τ P))
 
 unfoldable pub fromTransitions : List ℕ → ℕ → Machines → Queues → Part Tables
-fromTransitions s at m q = andThen (readTransitions s m q at) (λ τ next. fromPool s next m q τ)
+fromTransitions s at m q = andThen (readTransitions s at m q) (λ τ next. fromPool s next m q τ)
 
 unfoldable pub fromQueues : List ℕ → ℕ → Machines → Part Tables
 fromQueues s at m = andThen (readQueues s at) (λ q next. fromTransitions s next m q)

@@ -3,6 +3,7 @@ pub mod Said
 pub mod Kinds
 pub mod Machines
 pub mod Queues
+pub mod Rows
 pub mod Transitions
 pub mod Pool
 pub mod Order

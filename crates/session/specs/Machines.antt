@@ -15,21 +15,21 @@ readFactor s at product =
 
 -- the states of the machines from number i on, and the product
 unfoldable pub readSizes : List ℕ → ℕ → ℕ → ℕ → ℕ → List ℕ → Part (ℕ × List ℕ)
-readSizes s zero i at product sizes = got (product, sizes) at
-readSizes s (suc left) i at product sizes =
-    andThen (readFactor s at product) (λ v next. readSizes s left (i + 1) next (product * v) (set sizes i v))
+readSizes s at product zero i sizes = got (product, sizes) at
+readSizes s at product (suc left) i sizes =
+    andThen (readFactor s at product) (λ v next. readSizes s next (product * v) left (i + 1) (set sizes i v))
 
 -- the starting states of the machines from number i on
-unfoldable pub readStarts : List ℕ → List ℕ → ℕ → ℕ → ℕ → List ℕ → Part (List ℕ)
-readStarts s sizes zero i at starts = got starts at
-readStarts s sizes (suc left) i at starts =
-    andThen (readBelow s at (getD sizes i 0)) (λ v next. readStarts s sizes left (i + 1) next (set starts i v))
+unfoldable pub readStarts : List ℕ → ℕ → List ℕ → ℕ → ℕ → List ℕ → Part (List ℕ)
+readStarts s at sizes zero i starts = got starts at
+readStarts s at sizes (suc left) i starts =
+    andThen (readBelow s at (getD sizes i 0)) (λ v next. readStarts s next sizes left (i + 1) (set starts i v))
 
 -- both, for machines of this count
 unfoldable pub countedMachines : List ℕ → ℕ → ℕ → Part Machines
 countedMachines s at count =
-    andThen (readSizes s count 0 at 1 (replicate mostMachines 0)) (λ sized p₁.
-    andThen (readStarts s (sized .1) count 0 p₁ (replicate mostMachines 0)) (λ starts p₂.
+    andThen (readSizes s at 1 count 0 (replicate mostMachines 0)) (λ sized p₁.
+    andThen (readStarts s p₁ (sized .1) count 0 (replicate mostMachines 0)) (λ starts p₂.
     got (record { count = count; product = sized .0; states = sized .1; starts = starts }) p₂))
 
 unfoldable pub readMachines : List ℕ → ℕ → Part Machines

@@ -9,10 +9,10 @@ use Rattle.session.specs.declared.tables.Map.{Map}
 
 -- the roots of the control states from number i on
 unfoldable pub readRoots : List ℕ → ℕ → ℕ → ℕ → ℕ → List ℕ → Part (List ℕ)
-readRoots s n zero i at roots = got roots at
-readRoots s n (suc left) i at roots =
-    andThen (readWithin s at 0 n) (λ v next. readRoots s n left (i + 1) next (set roots i v))
+readRoots s at n zero i roots = got roots at
+readRoots s at n (suc left) i roots =
+    andThen (readWithin s at 0 n) (λ v next. readRoots s next n left (i + 1) (set roots i v))
 
 unfoldable pub readMap : List ℕ → ℕ → ℕ → ℕ → Part Map
-readMap s product n at =
-    andThen (readRoots s n product 0 at (replicate mostControls 0)) (λ roots next. got (record { roots = roots }) next)
+readMap s at product n =
+    andThen (readRoots s at n product 0 (replicate mostControls 0)) (λ roots next. got (record { roots = roots }) next)

@@ -10,6 +10,10 @@ use Rattle.numbers.specs.Part.{Part, got, provided, andThen}
 use Rattle.numbers.specs.Number.{readWithin, readBelow}
 use Rattle.session.specs.declared.tables.Pool.{Pool}
 
+-- entries of the table of arcs
+abbrev pub poolArcs : ℕ
+poolArcs = mostPool * mostMessages
+
 -- where the arc of state s for message m leads; a missing arc has nowhere to go
 abbrev pub arcAt : List ℕ → ℕ → ℕ → Option ℕ
 arcAt arcs s m =
@@ -26,28 +30,28 @@ readArc s at n sum least =
 
 -- the arcs that are left of a state whose entries begin at row; messages ascend strictly
 unfoldable pub readArcs : List ℕ → ℕ → ℕ → ℕ → ℕ → ℕ → ℕ → List ℕ → Part (List ℕ)
-readArcs s n sum row zero at least arcs = got arcs at
-readArcs s n sum row (suc left) at least arcs =
+readArcs s at n sum least row zero arcs = got arcs at
+readArcs s at n sum least row (suc left) arcs =
     andThen (readArc s at n sum least) (λ arc next.
-    readArcs s n sum row left next (arc .0 + 1) (set arcs (row + arc .0) (arc .1 + 1)))
+    readArcs s next n sum (arc .0 + 1) row left (set arcs (row + arc .0) (arc .1 + 1)))
 
 -- one state: its final mark, and the table with its arcs
 unfoldable pub readState : List ℕ → ℕ → ℕ → ℕ → ℕ → List ℕ → Part (ℕ × List ℕ)
-readState s n sum row at arcs =
+readState s at n sum row arcs =
     andThen (readBelow s at 2) (λ final p₁.
     andThen (readWithin s p₁ 0 sum) (λ count p₂.
-    andThen (readArcs s n sum row count p₂ 0 arcs) (λ arcs′ p₃.
+    andThen (readArcs s p₂ n sum 0 row count arcs) (λ arcs′ p₃.
     got (final, arcs′) p₃)))
 
 -- the states from number i on
 unfoldable pub readStates : List ℕ → ℕ → ℕ → ℕ → ℕ → ℕ → List ℕ → List ℕ → Part (List ℕ × List ℕ)
-readStates s n sum zero i at finals arcs = got (finals, arcs) at
-readStates s n sum (suc left) i at finals arcs =
-    andThen (readState s n sum (i * mostMessages) at arcs) (λ state next.
-    readStates s n sum left (i + 1) next (set finals i (state .0)) (state .1))
+readStates s at n sum zero i finals arcs = got (finals, arcs) at
+readStates s at n sum (suc left) i finals arcs =
+    andThen (readState s at n sum (i * mostMessages) arcs) (λ state next.
+    readStates s next n sum left (i + 1) (set finals i (state .0)) (state .1))
 
 unfoldable pub readPool : List ℕ → ℕ → ℕ → Part Pool
-readPool s sum at =
+readPool s at sum =
     andThen (readWithin s at 1 mostPool) (λ n p₁.
-    andThen (readStates s n sum n 0 p₁ (replicate mostPool 0) (replicate (mostPool * mostMessages) 0)) (λ states p₂.
+    andThen (readStates s p₁ n sum n 0 (replicate mostPool 0) (replicate poolArcs 0)) (λ states p₂.
     got (record { count = n; finals = states .0; arcs = states .1 }) p₂))

@@ -17,14 +17,14 @@ readTerm s at sum =
 
 -- the messages of the queues from number i on, and the sum
 unfoldable pub readCounts : List ℕ → ℕ → ℕ → ℕ → ℕ → List ℕ → Part (ℕ × List ℕ)
-readCounts s zero i at sum counts = got (sum, counts) at
-readCounts s (suc left) i at sum counts =
-    andThen (readTerm s at sum) (λ v next. readCounts s left (i + 1) next (sum + v) (set counts i v))
+readCounts s at sum zero i counts = got (sum, counts) at
+readCounts s at sum (suc left) i counts =
+    andThen (readTerm s at sum) (λ v next. readCounts s next (sum + v) left (i + 1) (set counts i v))
 
 unfoldable pub readQueues : List ℕ → ℕ → Part Queues
 readQueues s at =
     andThen (readWithin s at 1 mostQueues) (λ count p₁.
-    andThen (readCounts s count 0 p₁ 0 (replicate mostQueues 0)) (λ counted p₂.
+    andThen (readCounts s p₁ 0 count 0 (replicate mostQueues 0)) (λ counted p₂.
     got (record { count = count; sum = counted .0; messages = counted .1 }) p₂))
 
 -- the first message of queue q: the messages of the queues before it, together

@@ -1,5 +1,7 @@
 // Field 6: the bad entries.
 use crate::tables::BadList;
+use crate::tables::ENTRIES;
+use crate::tables::ENTRY;
 use crate::tables::MOST_BAD;
 use numbers::number::Field;
 use numbers::number::Filled;
@@ -10,6 +12,7 @@ use numbers::number::wide;
 ghost use mathlib.Core.Path.{_≡_};
 ghost use Prim.Native.Nat.{_≤_};
 ghost use Rattle.numbers.specs.Said.{filledWith};
+ghost use Rattle.session.specs.Limits.{mostControls, mostBad};
 ghost use Rattle.session.specs.Bad.{readEntries, readBad};
 
 pub struct BadRead {
@@ -23,11 +26,11 @@ fn read_entries(
     product: usize,
     n: u8,
     count: usize,
-    rows: &mut [u8; 128],
+    rows: &mut [u8; ENTRIES],
 ) -> Filled
-    requires { ⌜ product ≤ 256 ⌝ }
-    requires { ⌜ count ≤ 64 ⌝ }
-    ensures { λ r. ⌜ filledWith r (now (rows .exit)) ≡ readEntries (now (s .entry)) product n count 0 at (now (rows .entry)) ⌝ }
+    requires { ⌜ product ≤ mostControls ⌝ }
+    requires { ⌜ count ≤ mostBad ⌝ }
+    ensures { λ r. ⌜ filledWith r (now (rows .exit)) ≡ readEntries (now (s .entry)) at product n count 0 (now (rows .entry)) ⌝ }
 {
     let mut place = at;
     let mut b: usize = 0;
@@ -35,8 +38,8 @@ fn read_entries(
         match read_two(s, place, product, wide(n)) {
             Pair::Refused(why) => return Filled::Refused(why),
             Pair::Values(control, root, next) => {
-                rows[b * 2] = control;
-                rows[b * 2 + 1] = root;
+                rows[b * ENTRY] = control;
+                rows[b * ENTRY + 1] = root;
                 place = next;
                 b += 1;
             }
@@ -46,10 +49,10 @@ fn read_entries(
 }
 
 pub fn read_bad(s: &[u8], at: usize, product: usize, n: u8) -> BadRead
-    requires { ⌜ product ≤ 256 ⌝ }
-    ensures { λ r. ⌜ filledWith (r .filled) (r .bad) ≡ readBad (now (s .entry)) product n at ⌝ }
+    requires { ⌜ product ≤ mostControls ⌝ }
+    ensures { λ r. ⌜ filledWith (r .filled) (r .bad) ≡ readBad (now (s .entry)) at product n ⌝ }
 {
-    let mut rows = [0u8; 128];
+    let mut rows = [0u8; ENTRIES];
     match read_within(s, at, 0, MOST_BAD) {
         Field::Refused(why) => BadRead {
             filled: Filled::Refused(why),

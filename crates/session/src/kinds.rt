@@ -1,5 +1,6 @@
 // The kinds of number. Each is a struct of its own, so that none can stand where another is asked.
 ghost use mathlib.Core.Path.{_≡_};
+ghost use Rattle.session.specs.Limits.{mostControls, mostPool, mostMessages};
 ghost use Rattle.session.specs.Kinds.{limited};
 
 // The joint state of all machines, machine 0 most significant.
@@ -16,7 +17,7 @@ impl ControlState {
 
     // The control state of this number; a number past the limit gives the last.
     pub fn new(raw: usize) -> Self
-        ensures { λ r. ⌜ r .0 ≡ limited 256 raw ⌝ }
+        ensures { λ r. ⌜ r .0 ≡ limited mostControls raw ⌝ }
     {
         if raw < Self::LIMIT {
             ControlState(raw as u8)
@@ -31,7 +32,7 @@ impl DiagramState {
 
     // The diagram state of this number; a number past the limit gives the last.
     pub fn new(raw: usize) -> Self
-        ensures { λ r. ⌜ r .0 ≡ limited 127 raw ⌝ }
+        ensures { λ r. ⌜ r .0 ≡ limited mostPool raw ⌝ }
     {
         if raw < Self::LIMIT {
             DiagramState(raw as u8)
@@ -46,7 +47,7 @@ impl Message {
 
     // The message of this number; a number past the limit gives the last.
     pub fn new(raw: usize) -> Self
-        ensures { λ r. ⌜ r .0 ≡ limited 32 raw ⌝ }
+        ensures { λ r. ⌜ r .0 ≡ limited mostMessages raw ⌝ }
     {
         if raw < Self::LIMIT {
             Message(raw as u8)

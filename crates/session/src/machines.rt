@@ -13,6 +13,7 @@ use numbers::refusal::Refusal;
 ghost use mathlib.Core.Path.{_≡_};
 ghost use Prim.Native.Nat.{_≤_};
 ghost use Rattle.numbers.specs.Said.{saidField, numberWith, filledWith};
+ghost use Rattle.session.specs.Limits.{mostMachines, mostControls};
 ghost use Rattle.session.specs.Machines.{readFactor, readSizes, readStarts, countedMachines, readMachines};
 
 pub struct MachinesRead {
@@ -22,7 +23,7 @@ pub struct MachinesRead {
 
 // How many states the next machine has, after machines with this product.
 fn read_factor(s: &[u8], at: usize, product: usize) -> Field
-    requires { ⌜ product ≤ 256 ⌝ }
+    requires { ⌜ product ≤ mostControls ⌝ }
     ensures { λ r. ⌜ saidField r ≡ readFactor (now (s .entry)) at product ⌝ }
 {
     match read_within(s, at, 1, MOST_STATES) {
@@ -37,9 +38,9 @@ fn read_factor(s: &[u8], at: usize, product: usize) -> Field
 }
 
 // The states of each machine, and their product.
-fn read_sizes(s: &[u8], at: usize, count: usize, sizes: &mut [u8; 4]) -> Number
-    requires { ⌜ count ≤ 4 ⌝ }
-    ensures { λ r. ⌜ numberWith r (now (sizes .exit)) ≡ readSizes (now (s .entry)) count 0 at 1 (now (sizes .entry)) ⌝ }
+fn read_sizes(s: &[u8], at: usize, count: usize, sizes: &mut [u8; MOST_MACHINES as usize]) -> Number
+    requires { ⌜ count ≤ mostMachines ⌝ }
+    ensures { λ r. ⌜ numberWith r (now (sizes .exit)) ≡ readSizes (now (s .entry)) at 1 count 0 (now (sizes .entry)) ⌝ }
 {
     let mut product: usize = 1;
     let mut place = at;
@@ -59,9 +60,15 @@ fn read_sizes(s: &[u8], at: usize, count: usize, sizes: &mut [u8; 4]) -> Number
 }
 
 // The starting state of each machine.
-fn read_starts(s: &[u8], at: usize, count: usize, sizes: [u8; 4], starts: &mut [u8; 4]) -> Filled
-    requires { ⌜ count ≤ 4 ⌝ }
-    ensures { λ r. ⌜ filledWith r (now (starts .exit)) ≡ readStarts (now (s .entry)) sizes count 0 at (now (starts .entry)) ⌝ }
+fn read_starts(
+    s: &[u8],
+    at: usize,
+    sizes: [u8; MOST_MACHINES as usize],
+    count: usize,
+    starts: &mut [u8; MOST_MACHINES as usize],
+) -> Filled
+    requires { ⌜ count ≤ mostMachines ⌝ }
+    ensures { λ r. ⌜ filledWith r (now (starts .exit)) ≡ readStarts (now (s .entry)) at sizes count 0 (now (starts .entry)) ⌝ }
 {
     let mut place = at;
     let mut i: usize = 0;
@@ -80,11 +87,11 @@ fn read_starts(s: &[u8], at: usize, count: usize, sizes: [u8; 4], starts: &mut [
 
 // Both, for machines of this count.
 fn read_counted(s: &[u8], at: usize, count: u8) -> MachinesRead
-    requires { ⌜ count ≤ 4 ⌝ }
+    requires { ⌜ count ≤ mostMachines ⌝ }
     ensures { λ r. ⌜ filledWith (r .filled) (r .machines) ≡ countedMachines (now (s .entry)) at count ⌝ }
 {
-    let mut states = [0u8; 4];
-    let mut starts = [0u8; 4];
+    let mut states = [0u8; MOST_MACHINES as usize];
+    let mut starts = [0u8; MOST_MACHINES as usize];
     match read_sizes(s, at, count as usize, &mut states) {
         Number::Refused(why) => MachinesRead {
             filled: Filled::Refused(why),
@@ -96,7 +103,7 @@ fn read_counted(s: &[u8], at: usize, count: u8) -> MachinesRead
             },
         },
         Number::Value(product, place) => {
-            let filled = read_starts(s, place, count as usize, states, &mut starts);
+            let filled = read_starts(s, place, states, count as usize, &mut starts);
             MachinesRead {
                 filled,
                 machines: Machines {
@@ -119,8 +126,8 @@ pub fn read_machines(s: &[u8], at: usize) -> MachinesRead
             machines: Machines {
                 count: 0,
                 product: 0,
-                states: [0u8; 4],
-                starts: [0u8; 4],
+                states: [0u8; MOST_MACHINES as usize],
+                starts: [0u8; MOST_MACHINES as usize],
             },
         },
         Field::Value(count, place) => read_counted(s, place, count),

@@ -1,4 +1,5 @@
 // Field 5: the root of each control state.
+use crate::tables::MOST_CONTROLS;
 use crate::tables::Map;
 use numbers::number::Field;
 use numbers::number::Filled;
@@ -6,6 +7,7 @@ use numbers::number::read_within;
 ghost use mathlib.Core.Path.{_≡_};
 ghost use Prim.Native.Nat.{_≤_};
 ghost use Rattle.numbers.specs.Said.{filledWith};
+ghost use Rattle.session.specs.Limits.{mostControls};
 ghost use Rattle.session.specs.Map.{readRoots, readMap};
 
 pub struct MapRead {
@@ -13,9 +15,9 @@ pub struct MapRead {
     pub map: Map,
 }
 
-fn read_roots(s: &[u8], at: usize, n: u8, count: usize, roots: &mut [u8; 256]) -> Filled
-    requires { ⌜ count ≤ 256 ⌝ }
-    ensures { λ r. ⌜ filledWith r (now (roots .exit)) ≡ readRoots (now (s .entry)) n count 0 at (now (roots .entry)) ⌝ }
+fn read_roots(s: &[u8], at: usize, n: u8, count: usize, roots: &mut [u8; MOST_CONTROLS]) -> Filled
+    requires { ⌜ count ≤ mostControls ⌝ }
+    ensures { λ r. ⌜ filledWith r (now (roots .exit)) ≡ readRoots (now (s .entry)) at n count 0 (now (roots .entry)) ⌝ }
 {
     let mut place = at;
     let mut i: usize = 0;
@@ -33,10 +35,10 @@ fn read_roots(s: &[u8], at: usize, n: u8, count: usize, roots: &mut [u8; 256]) -
 }
 
 pub fn read_map(s: &[u8], at: usize, product: usize, n: u8) -> MapRead
-    requires { ⌜ product ≤ 256 ⌝ }
-    ensures { λ r. ⌜ filledWith (r .filled) (r .map) ≡ readMap (now (s .entry)) product n at ⌝ }
+    requires { ⌜ product ≤ mostControls ⌝ }
+    ensures { λ r. ⌜ filledWith (r .filled) (r .map) ≡ readMap (now (s .entry)) at product n ⌝ }
 {
-    let mut roots = [0u8; 256];
+    let mut roots = [0u8; MOST_CONTROLS];
     let filled = read_roots(s, at, n, product, &mut roots);
     MapRead {
         filled,

@@ -3,11 +3,13 @@ use crate::kinds::DiagramState;
 use crate::kinds::Message;
 use crate::pool::Arc;
 use crate::pool::arc_of;
+use crate::tables::MOST_QUEUES;
 use crate::tables::Queues;
 use numbers::number::entry;
 use numbers::number::wide;
 ghost use mathlib.Core.Path.{_≡_};
 ghost use Prim.Native.Nat.{_-_, _≤_};
+ghost use Rattle.session.specs.Limits.{mostPool, mostQueues, mostMessages};
 ghost use Rattle.session.specs.Queues.{firstOf};
 ghost use Rattle.session.specs.Order.{lowest, lowests, arcsOrdered, statesOrdered, queuesOrdered, ordered};
 
@@ -27,8 +29,8 @@ fn lowest_of(arcs: &[u8], s: u8, sum: u8) -> u8
 }
 
 // The lowest message of each state.
-fn fill_lowest(arcs: &[u8], n: u8, sum: u8, lows: &mut [u8; 127])
-    requires { ⌜ n ≤ 127 ⌝ }
+fn fill_lowest(arcs: &[u8], n: u8, sum: u8, lows: &mut [u8; DiagramState::LIMIT])
+    requires { ⌜ n ≤ mostPool ⌝ }
     ensures { λ r. ⌜ now (lows .exit) ≡ lowests (now (arcs .entry)) sum n 0 (now (lows .entry)) ⌝ }
 {
     let mut s: u8 = 0;
@@ -71,9 +73,15 @@ fn states_ordered(arcs: &[u8], lows: &[u8], n: u8, first: u8, end: u8) -> bool
     true
 }
 
-fn queues_ordered(arcs: &[u8], lows: &[u8], n: u8, counts: [u8; 4], count: u8) -> bool
-    requires { ⌜ count ≤ 4 ⌝ }
-    requires { ⌜ firstOf counts count ≤ 32 ⌝ }
+fn queues_ordered(
+    arcs: &[u8],
+    lows: &[u8],
+    n: u8,
+    counts: [u8; MOST_QUEUES as usize],
+    count: u8,
+) -> bool
+    requires { ⌜ count ≤ mostQueues ⌝ }
+    requires { ⌜ firstOf counts count ≤ mostMessages ⌝ }
     ensures { λ r. ⌜ r ≡ queuesOrdered (now (arcs .entry)) (now (lows .entry)) n counts count 0 0 ⌝ }
 {
     let mut first: u8 = 0;
@@ -90,12 +98,12 @@ fn queues_ordered(arcs: &[u8], lows: &[u8], n: u8, counts: [u8; 4], count: u8) -
 }
 
 pub fn in_queue_order(arcs: &[u8], n: u8, q: Queues) -> bool
-    requires { ⌜ n ≤ 127 ⌝ }
-    requires { ⌜ q .count ≤ 4 ⌝ }
-    requires { ⌜ firstOf (q .messages) (q .count) ≤ 32 ⌝ }
+    requires { ⌜ n ≤ mostPool ⌝ }
+    requires { ⌜ q .count ≤ mostQueues ⌝ }
+    requires { ⌜ firstOf (q .messages) (q .count) ≤ mostMessages ⌝ }
     ensures { λ r. ⌜ r ≡ ordered q n (now (arcs .entry)) ⌝ }
 {
-    let mut lows = [0u8; 127];
+    let mut lows = [0u8; DiagramState::LIMIT];
     fill_lowest(arcs, n, q.sum, &mut lows);
     let messages = q.messages;
     queues_ordered(arcs, &lows, n, messages, q.count)

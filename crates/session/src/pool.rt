@@ -3,6 +3,7 @@ use crate::kinds::DiagramState;
 use crate::kinds::Message;
 use crate::tables::ARCS;
 use crate::tables::MOST_POOL;
+use crate::tables::POOL_ARCS;
 use crate::tables::Pool;
 use numbers::number::Field;
 use numbers::number::Filled;
@@ -12,10 +13,11 @@ use numbers::number::read_within;
 use numbers::number::wide;
 use numbers::refusal::Refusal;
 ghost use mathlib.Core.Path.{_≡_};
-ghost use Prim.Native.Nat.{_≤_};
+ghost use Prim.Native.Nat.{_+_, _≤_};
 ghost use Rattle.numbers.specs.Said.{saidField, saidPair, fieldWith, filledWith};
 ghost use Rattle.session.specs.Said.{saidArc};
-ghost use Rattle.session.specs.Pool.{arcAt, readAscending, readArc, readArcs, readState, readStates, readPool};
+ghost use Rattle.session.specs.Limits.{mostPool, mostMessages};
+ghost use Rattle.session.specs.Pool.{poolArcs, arcAt, readAscending, readArc, readArcs, readState, readStates, readPool};
 
 // Where an arc leads.
 pub enum Arc {
@@ -79,12 +81,12 @@ fn read_arcs(
     sum: u8,
     row: usize,
     count: usize,
-    arcs: &mut [u8; 4064],
+    arcs: &mut [u8; POOL_ARCS],
 ) -> Filled
-    requires { ⌜ n ≤ 127 ⌝ }
-    requires { ⌜ sum ≤ 32 ⌝ }
-    requires { ⌜ row ≤ 4032 ⌝ }
-    ensures { λ r. ⌜ filledWith r (now (arcs .exit)) ≡ readArcs (now (s .entry)) n sum row count at 0 (now (arcs .entry)) ⌝ }
+    requires { ⌜ n ≤ mostPool ⌝ }
+    requires { ⌜ sum ≤ mostMessages ⌝ }
+    requires { ⌜ row + mostMessages ≤ poolArcs ⌝ }
+    ensures { λ r. ⌜ filledWith r (now (arcs .exit)) ≡ readArcs (now (s .entry)) at n sum 0 row count (now (arcs .entry)) ⌝ }
 {
     let mut place = at;
     let mut least: usize = 0;
@@ -105,11 +107,11 @@ fn read_arcs(
 }
 
 // A state: whether it is final, and its arcs.
-fn read_state(s: &[u8], at: usize, n: u8, sum: u8, row: usize, arcs: &mut [u8; 4064]) -> Field
-    requires { ⌜ n ≤ 127 ⌝ }
-    requires { ⌜ sum ≤ 32 ⌝ }
-    requires { ⌜ row ≤ 4032 ⌝ }
-    ensures { λ r. ⌜ fieldWith r (now (arcs .exit)) ≡ readState (now (s .entry)) n sum row at (now (arcs .entry)) ⌝ }
+fn read_state(s: &[u8], at: usize, n: u8, sum: u8, row: usize, arcs: &mut [u8; POOL_ARCS]) -> Field
+    requires { ⌜ n ≤ mostPool ⌝ }
+    requires { ⌜ sum ≤ mostMessages ⌝ }
+    requires { ⌜ row + mostMessages ≤ poolArcs ⌝ }
+    ensures { λ r. ⌜ fieldWith r (now (arcs .exit)) ≡ readState (now (s .entry)) at n sum row (now (arcs .entry)) ⌝ }
 {
     match read_below(s, at, 2) {
         Field::Refused(why) => Field::Refused(why),
@@ -136,12 +138,12 @@ fn read_states(
     at: usize,
     n: u8,
     sum: u8,
-    finals: &mut [u8; 127],
-    arcs: &mut [u8; 4064],
+    finals: &mut [u8; DiagramState::LIMIT],
+    arcs: &mut [u8; POOL_ARCS],
 ) -> Filled
-    requires { ⌜ n ≤ 127 ⌝ }
-    requires { ⌜ sum ≤ 32 ⌝ }
-    ensures { λ r. ⌜ filledWith r (now (finals .exit), now (arcs .exit)) ≡ readStates (now (s .entry)) n sum n 0 at (now (finals .entry)) (now (arcs .entry)) ⌝ }
+    requires { ⌜ n ≤ mostPool ⌝ }
+    requires { ⌜ sum ≤ mostMessages ⌝ }
+    ensures { λ r. ⌜ filledWith r (now (finals .exit), now (arcs .exit)) ≡ readStates (now (s .entry)) at n sum n 0 (now (finals .entry)) (now (arcs .entry)) ⌝ }
 {
     let count = n as usize;
     let mut place = at;
@@ -160,11 +162,11 @@ fn read_states(
 }
 
 pub fn read_pool(s: &[u8], at: usize, sum: u8) -> PoolRead
-    requires { ⌜ sum ≤ 32 ⌝ }
-    ensures { λ r. ⌜ filledWith (r .filled) (r .pool) ≡ readPool (now (s .entry)) sum at ⌝ }
+    requires { ⌜ sum ≤ mostMessages ⌝ }
+    ensures { λ r. ⌜ filledWith (r .filled) (r .pool) ≡ readPool (now (s .entry)) at sum ⌝ }
 {
-    let mut finals = [0u8; 127];
-    let mut arcs = [0u8; 4064];
+    let mut finals = [0u8; DiagramState::LIMIT];
+    let mut arcs = [0u8; POOL_ARCS];
     match read_within(s, at, 1, MOST_POOL) {
         Field::Refused(why) => PoolRead {
             filled: Filled::Refused(why),

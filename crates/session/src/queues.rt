@@ -11,6 +11,7 @@ use numbers::refusal::Refusal;
 ghost use mathlib.Core.Path.{_≡_};
 ghost use Prim.Native.Nat.{_≤_};
 ghost use Rattle.numbers.specs.Said.{saidField, fieldWith, filledWith};
+ghost use Rattle.session.specs.Limits.{mostQueues};
 ghost use Rattle.session.specs.Queues.{readTerm, readCounts, readQueues, Spans};
 
 pub struct QueuesRead {
@@ -40,9 +41,9 @@ fn read_term(s: &[u8], at: usize, sum: u8) -> Field
 }
 
 // The messages of each queue, and their sum.
-fn read_counts(s: &[u8], at: usize, count: usize, counts: &mut [u8; 4]) -> Field
-    requires { ⌜ count ≤ 4 ⌝ }
-    ensures { λ r. ⌜ fieldWith r (now (counts .exit)) ≡ readCounts (now (s .entry)) count 0 at 0 (now (counts .entry)) ⌝ }
+fn read_counts(s: &[u8], at: usize, count: usize, counts: &mut [u8; MOST_QUEUES as usize]) -> Field
+    requires { ⌜ count ≤ mostQueues ⌝ }
+    ensures { λ r. ⌜ fieldWith r (now (counts .exit)) ≡ readCounts (now (s .entry)) at 0 count 0 (now (counts .entry)) ⌝ }
 {
     let mut sum: u8 = 0;
     let mut place = at;
@@ -64,7 +65,7 @@ fn read_counts(s: &[u8], at: usize, count: usize, counts: &mut [u8; 4]) -> Field
 pub fn read_queues(s: &[u8], at: usize) -> QueuesRead
     ensures { λ r. ⌜ filledWith (r .filled) (r .queues) ≡ readQueues (now (s .entry)) at ⌝ }
 {
-    let mut messages = [0u8; 4];
+    let mut messages = [0u8; MOST_QUEUES as usize];
     match read_within(s, at, 1, MOST_QUEUES) {
         Field::Refused(why) => QueuesRead {
             filled: Filled::Refused(why),
@@ -96,7 +97,7 @@ pub fn read_queues(s: &[u8], at: usize) -> QueuesRead
 }
 
 // The messages of one queue.
-pub fn messages_of(counts: [u8; 4], queue: u8) -> Span
+pub fn messages_of(counts: [u8; MOST_QUEUES as usize], queue: u8) -> Span
     ensures { λ r. ⌜ Spans counts queue r ⌝ }
 {
     let mut lo: usize = 0;

@@ -1,16 +1,23 @@
 // Reading: from the bytes of a session file to its tables, or to a refusal with its place. Field after field; the bytes are
 // not copied.
 use crate::bad::read_bad;
+use crate::kinds::DiagramState;
 use crate::machines::read_machines;
 use crate::map::read_map;
 use crate::order::in_queue_order;
 use crate::pool::read_pool;
 use crate::queues::read_queues;
 use crate::tables::BadList;
+use crate::tables::ENTRIES;
+use crate::tables::MOST_CONTROLS;
+use crate::tables::MOST_MACHINES;
+use crate::tables::MOST_QUEUES;
 use crate::tables::Machines;
 use crate::tables::Map;
+use crate::tables::POOL_ARCS;
 use crate::tables::Pool;
 use crate::tables::Queues;
+use crate::tables::ROWS;
 use crate::tables::Tables;
 use crate::tables::Transitions;
 use crate::transitions::read_transitions;
@@ -20,6 +27,7 @@ use numbers::refusal::Refusal;
 ghost use Prim.Native.Nat.{_≤_};
 ghost use Rattle.numbers.specs.Part.{refused};
 ghost use Rattle.numbers.specs.Said.{numberOf, placeOf};
+ghost use Rattle.session.specs.Limits.{mostControls, mostQueues, mostMessages};
 ghost use Rattle.session.specs.Queues.{firstOf};
 ghost use Rattle.session.specs.File.{Reads, fromBad, fromMap, fromPool, fromTransitions, fromQueues, readFile};
 
@@ -43,34 +51,36 @@ fn refused(why: Refusal) -> Reading
             machines: Machines {
                 count: 0,
                 product: 0,
-                states: [0u8; 4],
-                starts: [0u8; 4],
+                states: [0u8; MOST_MACHINES as usize],
+                starts: [0u8; MOST_MACHINES as usize],
             },
             queues: Queues {
                 count: 0,
                 sum: 0,
-                messages: [0u8; 4],
+                messages: [0u8; MOST_QUEUES as usize],
             },
             transitions: Transitions {
                 count: 0,
-                rows: [0u8; 1280],
+                rows: [0u8; ROWS],
             },
             pool: Pool {
                 count: 0,
-                finals: [0u8; 127],
-                arcs: [0u8; 4064],
+                finals: [0u8; DiagramState::LIMIT],
+                arcs: [0u8; POOL_ARCS],
             },
-            map: Map { roots: [0u8; 256] },
+            map: Map {
+                roots: [0u8; MOST_CONTROLS],
+            },
             bad: BadList {
                 count: 0,
-                rows: [0u8; 128],
+                rows: [0u8; ENTRIES],
             },
         },
     }
 }
 
 fn from_bad(s: &[u8], at: usize, m: Machines, q: Queues, t: Transitions, p: Pool, r: Map) -> Reading
-    requires { ⌜ m .product ≤ 256 ⌝ }
+    requires { ⌜ m .product ≤ mostControls ⌝ }
     ensures { λ x. ⌜ Reads (fromBad (now (s .entry)) at m q t p r) x ⌝ }
 {
     let read = read_bad(s, at, m.product, p.count);
@@ -98,7 +108,7 @@ fn from_bad(s: &[u8], at: usize, m: Machines, q: Queues, t: Transitions, p: Pool
 }
 
 fn from_map(s: &[u8], at: usize, m: Machines, q: Queues, t: Transitions, p: Pool) -> Reading
-    requires { ⌜ m .product ≤ 256 ⌝ }
+    requires { ⌜ m .product ≤ mostControls ⌝ }
     ensures { λ x. ⌜ Reads (fromMap (now (s .entry)) at m q t p) x ⌝ }
 {
     let read = read_map(s, at, m.product, p.count);
@@ -113,8 +123,8 @@ fn from_map(s: &[u8], at: usize, m: Machines, q: Queues, t: Transitions, p: Pool
 }
 
 fn from_pool(s: &[u8], at: usize, m: Machines, q: Queues, t: Transitions) -> Reading
-    requires { ⌜ m .product ≤ 256 ⌝ }
-    requires { ⌜ (q .count ≤ 4) × (q .sum ≤ 32) × (firstOf (q .messages) (q .count) ≤ 32) ⌝ }
+    requires { ⌜ m .product ≤ mostControls ⌝ }
+    requires { ⌜ (q .count ≤ mostQueues) × (q .sum ≤ mostMessages) × (firstOf (q .messages) (q .count) ≤ mostMessages) ⌝ }
     ensures { λ x. ⌜ Reads (fromPool (now (s .entry)) at m q t) x ⌝ }
 {
     let read = read_pool(s, at, q.sum);
@@ -133,8 +143,8 @@ fn from_pool(s: &[u8], at: usize, m: Machines, q: Queues, t: Transitions) -> Rea
 }
 
 fn from_transitions(s: &[u8], at: usize, m: Machines, q: Queues) -> Reading
-    requires { ⌜ m .product ≤ 256 ⌝ }
-    requires { ⌜ (q .count ≤ 4) × (q .sum ≤ 32) × (firstOf (q .messages) (q .count) ≤ 32) ⌝ }
+    requires { ⌜ m .product ≤ mostControls ⌝ }
+    requires { ⌜ (q .count ≤ mostQueues) × (q .sum ≤ mostMessages) × (firstOf (q .messages) (q .count) ≤ mostMessages) ⌝ }
     ensures { λ x. ⌜ Reads (fromTransitions (now (s .entry)) at m q) x ⌝ }
 {
     let read = read_transitions(s, at, m, q);
@@ -149,7 +159,7 @@ fn from_transitions(s: &[u8], at: usize, m: Machines, q: Queues) -> Reading
 }
 
 fn from_queues(s: &[u8], at: usize, m: Machines) -> Reading
-    requires { ⌜ m .product ≤ 256 ⌝ }
+    requires { ⌜ m .product ≤ mostControls ⌝ }
     ensures { λ x. ⌜ Reads (fromQueues (now (s .entry)) at m) x ⌝ }
 {
     let read = read_queues(s, at);

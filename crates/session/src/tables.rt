@@ -1,59 +1,84 @@
-// The tables of a session, one for each field of the file. Entries beyond the counts are 0.
+// The tables of a session, one for each field of the file, and the limits of document 01. Entries beyond the counts are 0.
+use crate::kinds::ControlState;
+use crate::kinds::DiagramState;
+use crate::kinds::Message;
 
 pub const MOST_MACHINES: u8 = 4;
 
 pub const MOST_STATES: u8 = 16;
 
-pub const MOST_CONTROLS: usize = 256;
+pub const MOST_CONTROLS: usize = ControlState::LIMIT;
 
 pub const MOST_QUEUES: u8 = 4;
 
-pub const MOST_MESSAGES: u8 = 32;
+pub const MOST_MESSAGES: u8 = Message::LIMIT as u8;
 
 pub const MOST_TRANSITIONS: u8 = 128;
 
 pub const MOST_WORD: u8 = 4;
 
-pub const MOST_POOL: u8 = 127;
+pub const MOST_POOL: u8 = DiagramState::LIMIT as u8;
 
 pub const MOST_BAD: u8 = 64;
 
-// Entries of a transition's row: machine, from, to, kind, queue, word length, and the word's messages.
-pub const ROW: usize = 10;
-// Entries of a state's arcs: for each message 0, or 1 plus the target.
-pub const ARCS: usize = 32;
+// A transition's row: the machine stands in its first entry, the others at these, and the word's messages from WORD on.
+pub const FROM: usize = 1;
+
+pub const TO: usize = 2;
+
+pub const KIND: usize = 3;
+
+pub const QUEUE: usize = 4;
+
+pub const LENGTH: usize = 5;
+
+pub const WORD: usize = 6;
+
+pub const ROW: usize = WORD + MOST_WORD as usize;
+
+pub const ROWS: usize = MOST_TRANSITIONS as usize * ROW;
+
+// A state's arcs: an entry for each message, 0 or 1 plus the target.
+pub const ARCS: usize = Message::LIMIT;
+
+pub const POOL_ARCS: usize = DiagramState::LIMIT * ARCS;
+
+// A bad entry: its control state, and its root after it.
+pub const ENTRY: usize = 2;
+
+pub const ENTRIES: usize = MOST_BAD as usize * ENTRY;
 
 pub struct Machines {
     pub count: u8,
     pub product: usize,
-    pub states: [u8; 4],
-    pub starts: [u8; 4],
+    pub states: [u8; MOST_MACHINES as usize],
+    pub starts: [u8; MOST_MACHINES as usize],
 }
 
 pub struct Queues {
     pub count: u8,
     pub sum: u8,
-    pub messages: [u8; 4],
+    pub messages: [u8; MOST_QUEUES as usize],
 }
 
 pub struct Transitions {
     pub count: u8,
-    pub rows: [u8; 1280],
+    pub rows: [u8; ROWS],
 }
 
 pub struct Pool {
     pub count: u8,
-    pub finals: [u8; 127],
-    pub arcs: [u8; 4064],
+    pub finals: [u8; DiagramState::LIMIT],
+    pub arcs: [u8; POOL_ARCS],
 }
 
 pub struct Map {
-    pub roots: [u8; 256],
+    pub roots: [u8; MOST_CONTROLS],
 }
 
 pub struct BadList {
     pub count: u8,
-    pub rows: [u8; 128],
+    pub rows: [u8; ENTRIES],
 }
 
 pub struct Tables {

@@ -1,11 +1,18 @@
 // Field 3: the transitions, each in a row of the table.
 use crate::queues::messages_of;
+use crate::tables::FROM;
+use crate::tables::KIND;
+use crate::tables::LENGTH;
 use crate::tables::MOST_TRANSITIONS;
 use crate::tables::MOST_WORD;
 use crate::tables::Machines;
+use crate::tables::QUEUE;
 use crate::tables::Queues;
 use crate::tables::ROW;
+use crate::tables::ROWS;
+use crate::tables::TO;
 use crate::tables::Transitions;
+use crate::tables::WORD;
 use numbers::number::Field;
 use numbers::number::Filled;
 use numbers::number::Pair;
@@ -16,9 +23,11 @@ use numbers::number::read_within;
 use numbers::number::wide;
 use numbers::refusal::Refusal;
 ghost use mathlib.Core.Path.{_≡_};
-ghost use Prim.Native.Nat.{_-_, _≤_};
+ghost use Prim.Native.Nat.{_+_, _-_, _≤_};
 ghost use lib.ListN.{getD};
 ghost use Rattle.numbers.specs.Said.{saidField, filledWith};
+ghost use Rattle.session.specs.Limits.{mostControls, mostTransitions};
+ghost use Rattle.session.specs.Rows.{rowLength, rowsLength};
 ghost use Rattle.session.specs.Transitions.{readMessage, readWord, readAction, readTransition, readRows, readTransitions};
 
 pub struct TransitionsRead {
@@ -54,11 +63,11 @@ fn read_word(
     hi: usize,
     start: usize,
     end: usize,
-    rows: &mut [u8; 1280],
+    rows: &mut [u8; ROWS],
 ) -> Filled
     requires { ⌜ start ≤ end ⌝ }
-    requires { ⌜ end ≤ 1280 ⌝ }
-    ensures { λ r. ⌜ filledWith r (now (rows .exit)) ≡ readWord (now (s .entry)) sum lo hi (end - start) start at (now (rows .entry)) ⌝ }
+    requires { ⌜ end ≤ rowsLength ⌝ }
+    ensures { λ r. ⌜ filledWith r (now (rows .exit)) ≡ readWord (now (s .entry)) at sum lo hi (end - start) start (now (rows .entry)) ⌝ }
 {
     let mut place = at;
     let mut j = start;
@@ -76,20 +85,20 @@ fn read_word(
 }
 
 // What a send and a receive go on with.
-fn read_action(s: &[u8], at: usize, q: Queues, row: usize, rows: &mut [u8; 1280]) -> Filled
-    requires { ⌜ row ≤ 1270 ⌝ }
-    ensures { λ r. ⌜ filledWith r (now (rows .exit)) ≡ readAction (now (s .entry)) q row at (now (rows .entry)) ⌝ }
+fn read_action(s: &[u8], at: usize, q: Queues, row: usize, rows: &mut [u8; ROWS]) -> Filled
+    requires { ⌜ row + rowLength ≤ rowsLength ⌝ }
+    ensures { λ r. ⌜ filledWith r (now (rows .exit)) ≡ readAction (now (s .entry)) at q row (now (rows .entry)) ⌝ }
 {
     match read_below(s, at, wide(q.count)) {
         Field::Refused(why) => Filled::Refused(why),
         Field::Value(queue, place) => match read_within(s, place, 0, MOST_WORD) {
             Field::Refused(why) => Filled::Refused(why),
             Field::Value(length, next) => {
-                rows[row + 4] = queue;
-                rows[row + 5] = length;
+                rows[row + QUEUE] = queue;
+                rows[row + LENGTH] = length;
                 let messages = q.messages;
                 let own = messages_of(messages, queue);
-                let start = row + 6;
+                let start = row + WORD;
                 read_word(
                     s,
                     next,
@@ -107,7 +116,7 @@ fn read_action(s: &[u8], at: usize, q: Queues, row: usize, rows: &mut [u8; 1280]
 
 // The states of one machine.
 fn states_of(m: Machines, machine: u8) -> usize
-    ensures { λ r. ⌜ (r ≡ getD (m .states) machine 0) × (r ≤ 256) ⌝ }
+    ensures { λ r. ⌜ (r ≡ getD (m .states) machine 0) × (r ≤ mostControls) ⌝ }
 {
     let states = m.states;
     wide(entry(&states, machine as usize))
@@ -120,10 +129,10 @@ fn read_transition(
     m: Machines,
     q: Queues,
     row: usize,
-    rows: &mut [u8; 1280],
+    rows: &mut [u8; ROWS],
 ) -> Filled
-    requires { ⌜ row ≤ 1270 ⌝ }
-    ensures { λ r. ⌜ filledWith r (now (rows .exit)) ≡ readTransition (now (s .entry)) m q row at (now (rows .entry)) ⌝ }
+    requires { ⌜ row + rowLength ≤ rowsLength ⌝ }
+    ensures { λ r. ⌜ filledWith r (now (rows .exit)) ≡ readTransition (now (s .entry)) at m q row (now (rows .entry)) ⌝ }
 {
     match read_below(s, at, wide(m.count)) {
         Field::Refused(why) => Filled::Refused(why),
@@ -135,9 +144,9 @@ fn read_transition(
                     Field::Refused(why) => Filled::Refused(why),
                     Field::Value(kind, p3) => {
                         rows[row] = machine;
-                        rows[row + 1] = from;
-                        rows[row + 2] = to;
-                        rows[row + 3] = kind;
+                        rows[row + FROM] = from;
+                        rows[row + TO] = to;
+                        rows[row + KIND] = kind;
                         if kind == 0 {
                             return Filled::To(p3);
                         }
@@ -152,13 +161,13 @@ fn read_transition(
 fn read_rows(
     s: &[u8],
     at: usize,
-    count: usize,
     m: Machines,
     q: Queues,
-    rows: &mut [u8; 1280],
+    count: usize,
+    rows: &mut [u8; ROWS],
 ) -> Filled
-    requires { ⌜ count ≤ 128 ⌝ }
-    ensures { λ r. ⌜ filledWith r (now (rows .exit)) ≡ readRows (now (s .entry)) m q count 0 at (now (rows .entry)) ⌝ }
+    requires { ⌜ count ≤ mostTransitions ⌝ }
+    ensures { λ r. ⌜ filledWith r (now (rows .exit)) ≡ readRows (now (s .entry)) at m q count 0 (now (rows .entry)) ⌝ }
 {
     let mut place = at;
     let mut t: usize = 0;
@@ -175,16 +184,16 @@ fn read_rows(
 }
 
 pub fn read_transitions(s: &[u8], at: usize, m: Machines, q: Queues) -> TransitionsRead
-    ensures { λ r. ⌜ filledWith (r .filled) (r .transitions) ≡ readTransitions (now (s .entry)) m q at ⌝ }
+    ensures { λ r. ⌜ filledWith (r .filled) (r .transitions) ≡ readTransitions (now (s .entry)) at m q ⌝ }
 {
-    let mut rows = [0u8; 1280];
+    let mut rows = [0u8; ROWS];
     match read_within(s, at, 0, MOST_TRANSITIONS) {
         Field::Refused(why) => TransitionsRead {
             filled: Filled::Refused(why),
             transitions: Transitions { count: 0, rows },
         },
         Field::Value(count, place) => {
-            let filled = read_rows(s, place, wide(count), m, q, &mut rows);
+            let filled = read_rows(s, place, m, q, wide(count), &mut rows);
             TransitionsRead {
                 filled,
                 transitions: Transitions { count, rows },

@@ -6,7 +6,6 @@ use lib.ListN.{length, take, drop}
 use Rattle.model.specs.Judge as Model
 use Rattle.model.specs.Laws.Items.{IsItem}
 use Rattle.meaning.specs.Tables.{sessionOf, transitionAt, entriesFrom}
-use Rattle.session.specs.Transitions.{rowLength}
 use Rattle.session.specs.Laws.Valid.{Valid}
 use Rattle.session.specs.declared.tables.Machines.{Machines}
 use Rattle.session.specs.declared.tables.Queues.{Queues}
@@ -19,6 +18,7 @@ use Rattle.walk.specs.declared.judge.Judged.{Judged}
 use Rattle.walk.specs.declared.judge.Judged.the-variants.{Passes, Fails}
 use Rattle.verdict.specs.declared.judged.Progress.{Progress}
 use Rattle.verdict.specs.declared.judged.Progress.the-variants.{Passed, Leaves, Meets}
+use Rattle.session.specs.Rows.{rowLength}
 
 abbrev pub pairsOf : Judged → ℕ
 pairsOf (Passes pairs) = pairs

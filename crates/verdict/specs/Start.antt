@@ -11,15 +11,16 @@ use Rattle.session.specs.declared.tables.Machines.{Machines}
 use Rattle.session.specs.declared.tables.Queues.{Queues}
 use Rattle.model.specs.Model.{Action, local, send, receive, firstOf, number, places}
 use Rattle.model.specs.Judge.{out, into, rootPair}
-use Rattle.meaning.specs.Tables.{actionOf, wordAt, rootOf}
+use Rattle.meaning.specs.Tables.{actionOf, rootOf}
 use Rattle.walk.specs.Pairs.{place, sideOf}
 use Rattle.walk.specs.Over.{wordOver}
 use Rattle.verdict.specs.Controls.{sizesOf}
 use Rattle.verdict.specs.declared.start.Cut.{Cut}
+use Rattle.session.specs.Rows.{wordEntry, machineAt, fromAt, toAt, kindAt, queueAt, lengthAt, wordAt}
 
 -- the action of the transition whose row begins here
 abbrev pub actionAt : List ℕ → ℕ → Action
-actionAt rows row = actionOf (getD rows (row + 3) 0) (getD rows (row + 4) 0) (wordAt rows row)
+actionAt rows row = actionOf (kindAt rows row) (queueAt rows row) (wordAt rows row)
 
 -- the first message that is read after an action, the queues having so many messages each
 abbrev pub cutOf : List ℕ → Action → ℕ
@@ -30,11 +31,11 @@ cutOf ns (receive q w) = firstOf ns q
 -- how an action parts the contents
 pub record Cuts (q : Queues) (rows : List ℕ) (row : ℕ) (r : Cut) : Type 0 where
   pub cut : r .cut ≡ cutOf (take (q .count) (q .messages)) (actionAt rows row)
-  pub out : wordOver rows (row + 6) (r .out) ≡ out (actionAt rows row)
-  pub into : wordOver rows (row + 6) (r .into) ≡ into (actionAt rows row)
+  pub out : wordOver rows (wordEntry row) (r .out) ≡ out (actionAt rows row)
+  pub into : wordOver rows (wordEntry row) (r .into) ≡ into (actionAt rows row)
   pub side : (s : ℕ) (t : Option ℕ) → sideOf (r .side) s t ≡ rootPair (actionAt rows row) s t
   pub sides : (r .side ≡ 0) ⊎ (r .side ≡ 16256)
-  pub small : (r .cut ≤ q .sum) × (r .out ≤ getD rows (row + 5) 0) × (r .into ≤ getD rows (row + 5) 0)
+  pub small : (r .cut ≤ q .sum) × (r .out ≤ lengthAt rows row) × (r .into ≤ lengthAt rows row)
 
 -- the root of a control state as a place
 pub record PlaceAt (roots : List ℕ) (c r : ℕ) : Type 0 where
@@ -42,7 +43,7 @@ pub record PlaceAt (roots : List ℕ) (c r : ℕ) : Type 0 where
   pub most : r ≤ 127
 
 abbrev pub IsAt : Machines → List ℕ → ℕ → ℕ → Bool → Type 0
-IsAt m rows row c r = r ≡ eqb (getD (places (sizesOf m) c) (getD rows row 0) 0) (getD rows (row + 1) 0)
+IsAt m rows row c r = r ≡ eqb (getD (places (sizesOf m) c) (machineAt rows row) 0) (fromAt rows row)
 
 abbrev pub Moved : Machines → List ℕ → ℕ → ℕ → ℕ → Type 0
-Moved m rows row c r = r ≡ number (sizesOf m) (set (places (sizesOf m) c) (getD rows row 0) (getD rows (row + 2) 0))
+Moved m rows row c r = r ≡ number (sizesOf m) (set (places (sizesOf m) c) (machineAt rows row) (toAt rows row))

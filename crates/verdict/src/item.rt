@@ -6,6 +6,7 @@ use session::kinds::ControlState;
 use session::kinds::DiagramState;
 use session::tables::Machines;
 use session::tables::Queues;
+use session::tables::WORD;
 use walk::judge::Judged;
 use walk::judge::judge;
 use walk::pairs::AFTER;
@@ -49,7 +50,7 @@ pub fn judge_step(
     let w = Walk {
         cut: cut.cut,
         sum: q.sum,
-        word: row + 6,
+        word: row + WORD,
         out: cut.out,
         into: cut.into,
         entry: false,

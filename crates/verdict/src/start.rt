@@ -4,16 +4,21 @@ use numbers::number::entry;
 use numbers::number::wide;
 use session::kinds::ControlState;
 use session::queues::messages_of;
+use session::tables::FROM;
+use session::tables::KIND;
+use session::tables::LENGTH;
 use session::tables::Machines;
+use session::tables::QUEUE;
 use session::tables::Queues;
+use session::tables::TO;
 use walk::pairs::AFTER;
 use walk::pairs::NOWHERE;
 ghost use mathlib.Core.Path.{_≡_};
 ghost use Prim.Native.Nat.{_+_, _<_, _≤_};
 ghost use lib.ListN.{length, getD};
+ghost use Rattle.session.specs.Rows.{rowLength, machineAt, toAt, queueAt};
 ghost use Rattle.session.specs.Laws.Machines.{MachinesValid};
 ghost use Rattle.session.specs.Laws.Queues.{QueuesValid};
-ghost use Rattle.session.specs.Laws.Transitions.{RowValid};
 ghost use Rattle.verdict.specs.Controls.{sizesOf};
 ghost use Rattle.verdict.specs.Start.{Cuts, PlaceAt, IsAt, Moved};
 
@@ -29,11 +34,11 @@ pub struct Cut {
 // The action of the transition whose row begins here.
 pub fn cut_of(q: Queues, rows: &[u8], row: usize) -> Cut
     requires { ⌜ QueuesValid q ⌝ }
-    requires { ⌜ row + 10 ≤ length (now rows) ⌝ }
-    requires { ⌜ getD (now rows) (row + 4) 0 < q .count ⌝ }
+    requires { ⌜ row + rowLength ≤ length (now rows) ⌝ }
+    requires { ⌜ queueAt (now rows) row < q .count ⌝ }
     ensures { λ r. ⌜ Cuts q (now (rows .entry)) row r ⌝ }
 {
-    let kind = rows[row + 3];
+    let kind = rows[row + KIND];
     if kind == 0 {
         return Cut {
             side: AFTER,
@@ -43,8 +48,8 @@ pub fn cut_of(q: Queues, rows: &[u8], row: usize) -> Cut
         };
     }
     let messages = q.messages;
-    let own = messages_of(messages, rows[row + 4]);
-    let length = wide(rows[row + 5]);
+    let own = messages_of(messages, rows[row + QUEUE]);
+    let length = wide(rows[row + LENGTH]);
     if kind == 1 {
         return Cut {
             side: 0,
@@ -76,24 +81,24 @@ pub fn place_of(roots: &[u8], c: ControlState) -> u8
 // Whether the machine of the transition is in its from-state.
 pub fn is_at(m: Machines, rows: &[u8], row: usize, c: ControlState) -> bool
     requires { ⌜ MachinesValid m ⌝ }
-    requires { ⌜ row + 10 ≤ length (now rows) ⌝ }
-    requires { ⌜ getD (now rows) row 0 < m .count ⌝ }
+    requires { ⌜ row + rowLength ≤ length (now rows) ⌝ }
+    requires { ⌜ machineAt (now rows) row < m .count ⌝ }
     requires { ⌜ c .0 < m .product ⌝ }
     ensures { λ r. ⌜ IsAt m (now (rows .entry)) row (c .0) r ⌝ }
 {
     let p = part_at(m, c, rows[row]);
-    p.rest / p.stride == wide(rows[row + 1])
+    p.rest / p.stride == wide(rows[row + FROM])
 }
 
 // The control state that the transition leads to.
 pub fn moved(m: Machines, rows: &[u8], row: usize, c: ControlState) -> ControlState
     requires { ⌜ MachinesValid m ⌝ }
-    requires { ⌜ row + 10 ≤ length (now rows) ⌝ }
-    requires { ⌜ getD (now rows) row 0 < m .count ⌝ }
-    requires { ⌜ getD (now rows) (row + 2) 0 < getD (m .states) (getD (now rows) row 0) 0 ⌝ }
+    requires { ⌜ row + rowLength ≤ length (now rows) ⌝ }
+    requires { ⌜ machineAt (now rows) row < m .count ⌝ }
+    requires { ⌜ toAt (now rows) row < getD (m .states) (machineAt (now rows) row) 0 ⌝ }
     requires { ⌜ c .0 < m .product ⌝ }
     ensures { λ r. ⌜ Moved m (now (rows .entry)) row (c .0) (r .0) ⌝ }
 {
     let p = part_at(m, c, rows[row]);
-    ControlState::new(p.base + (wide(rows[row + 2]) * p.stride + p.rest % p.stride))
+    ControlState::new(p.base + (wide(rows[row + TO]) * p.stride + p.rest % p.stride))
 }

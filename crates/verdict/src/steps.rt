@@ -10,13 +10,13 @@ use walk::judge::Judged;
 ghost use Prim.Native.Nat.{_+_, _*_, _≤_};
 ghost use lib.ListN.{length};
 ghost use mathlib.Core.List.{[], _∷_};
-ghost use Rattle.session.specs.Transitions.{rowLength};
 ghost use Rattle.model.specs.Verdict.{stepsAt, stepsFrom};
 ghost use Rattle.model.specs.Judge.{decide};
 ghost use Rattle.meaning.specs.Tables.{sessionOf, transitionAt, transitionsFrom};
 ghost use Rattle.walk.specs.Pairs.{mostPairs};
 ghost use Rattle.verdict.specs.Judging.{Scratch, Parts, Judges, StepsAsked};
 ghost use Rattle.verdict.specs.Laws.Sequence.{AllIn};
+ghost use Rattle.session.specs.Rows.{rowLength};
 
 // One transition at a control state: its step, if the machine is in the from-state.
 fn judge_turn(

@@ -5,7 +5,6 @@ use mathlib.Core.List.{List, List·Memᴰ·not-nil}
 use lib.ListN.{length, getD, take, drop}
 use lib.Seq.{getD-drop, getD-take, length-take-le}
 use native.Mathlib.Omega.{arith}
-use Rattle.session.specs.Transitions.{rowLength}
 use Rattle.session.specs.Laws.Queues.{QueuesValid}
 use Rattle.session.specs.Laws.Transitions.{RowValid, TransitionsValid}
 use Rattle.session.specs.Laws.Bad.{BadValid}
@@ -16,8 +15,9 @@ use Rattle.session.specs.declared.tables.BadList.{BadList}
 use Rattle.explore.specs.Mem.{Mem, here, there}
 use Rattle.model.specs.Model.{Transition, first, Between}
 use Rattle.model.specs.Session.{OwnWord}
-use Rattle.meaning.specs.Tables.{wordAt, actionOf, transitionAt, transitionsFrom, modelOf, entriesFrom}
+use Rattle.meaning.specs.Tables.{actionOf, transitionAt, transitionsFrom, modelOf, entriesFrom}
 use Rattle.meaning.specs.Laws.Counts.{first-is, between-take}
+use Rattle.session.specs.Rows.{rowLength, wordEntry, queueAt, lengthAt, wordAt}
 
 pub transitions-length : (rows : List ℕ) (left t : ℕ) → length (transitionsFrom rows left t) ≡ left
 transitions-length rows zero t = refl
@@ -44,23 +44,23 @@ entry-row rows (suc left) b e (there m) = let (j, l, p) = entry-row rows left (s
 module _ (m : Machines) (q : Queues) (τ : Transitions) (Q : QueuesValid q) where
   -- the word of a row is of messages of its queue
   row-word : (row : ℕ) → RowValid m q (τ .rows) row
-      → (getD (τ .rows) (row + 4) 0 < length (take (q .count) (q .messages)))
-      × Between (first (modelOf m q τ) (getD (τ .rows) (row + 4) 0)) (first (modelOf m q τ) (suc (getD (τ .rows) (row + 4) 0))) (wordAt (τ .rows) row)
+      → (queueAt (τ .rows) row < length (take (q .count) (q .messages)))
+      × Between (first (modelOf m q τ) (queueAt (τ .rows) row)) (first (modelOf m q τ) (suc (queueAt (τ .rows) row))) (wordAt (τ .rows) row)
   row-word row r =
       let a = r .action in
-      let p = getD (τ .rows) (row + 4) 0 in
+      let p = queueAt (τ .rows) row in
       let long = length-take-le (q .count) (q .messages) (omega (arith, Q .most, Q .long)) in
       let lo = first-is (q .messages) (q .count) p (omega (arith, a .queue)) in
       let hi = first-is (q .messages) (q .count) (suc p) (a .queue) in (
         omega (arith, a .queue),
-        between-take (getD (τ .rows) (row + 5) 0) (drop (row + 6) (τ .rows))
+        between-take (lengthAt (τ .rows) row) (drop (wordEntry row) (τ .rows))
             (λ j l.
-            let e = getD-drop (row + 6) (τ .rows) j 0 in
+            let e = getD-drop (wordEntry row) (τ .rows) j 0 in
             let o = a .word j l in
             (omega (arith, o .from), omega (arith, o .below))),
       )
 
-  own-word : (k row : ℕ) → RowValid m q (τ .rows) row → OwnWord (modelOf m q τ) (actionOf k (getD (τ .rows) (row + 4) 0) (wordAt (τ .rows) row))
+  own-word : (k row : ℕ) → RowValid m q (τ .rows) row → OwnWord (modelOf m q τ) (actionOf k (queueAt (τ .rows) row) (wordAt (τ .rows) row))
   own-word zero row r = tt
   own-word (suc zero) row r = row-word row r
   own-word (suc (suc k)) row r = row-word row r

@@ -19,10 +19,10 @@ use Rattle.numbers.specs.Laws.Written.{Changed, changed-none, changed-set, chan
 
 -- the arcs that are left of a state, each a message and a target
 unfoldable pub listArcs : List ℕ → ℕ → ℕ → ℕ → ℕ → ℕ → Part (List (ℕ × ℕ))
-listArcs s n sum zero at least = got [] at
-listArcs s n sum (suc left) at least =
+listArcs s at n sum least zero = got [] at
+listArcs s at n sum least (suc left) =
     andThen (readArc s at n sum least) (λ arc next.
-    andThen (listArcs s n sum left next (arc .0 + 1)) (λ rest p. got (arc ∷ rest) p))
+    andThen (listArcs s next n sum (arc .0 + 1) left) (λ rest p. got (arc ∷ rest) p))
 
 -- arcs put into a table whose entries for the state begin at row
 unfoldable pub putArcs : ℕ → List (ℕ × ℕ) → List ℕ → List ℕ
@@ -42,30 +42,30 @@ Ascends n sum least (arc ∷ rest) = (least ≤ arc .0) × (arc .0 < sum) × (ar
 module _ (s : List ℕ) (n sum : ℕ) where
   -- READING INTO A TABLE is reading the list and putting it there
   pub arcs-listed : (row left at least : ℕ) (t : List ℕ)
-      → readArcs s n sum row left at least t ≡ andThen (listArcs s n sum left at least) (λ l p. got (putArcs row l t) p)
+      → readArcs s at n sum least row left t ≡ andThen (listArcs s at n sum least left) (λ l p. got (putArcs row l t) p)
   unfolding readArcs listArcs putArcs
   arcs-listed row zero at least t = refl
   arcs-listed row (suc left) at least t =
       andThen-same (readArc s at n sum least)
-      (λ arc next. readArcs s n sum row left next (arc .0 + 1) (set t (row + arc .0) (arc .1 + 1)))
+      (λ arc next. readArcs s next n sum (arc .0 + 1) row left (set t (row + arc .0) (arc .1 + 1)))
       (λ arc next.
-      andThen (andThen (listArcs s n sum left next (arc .0 + 1)) (λ rest p. got (arc ∷ rest) p)) (λ l p. got (putArcs row l t) p))
+      andThen (andThen (listArcs s next n sum (arc .0 + 1) left) (λ rest p. got (arc ∷ rest) p)) (λ l p. got (putArcs row l t) p))
       (λ arc next.
       arcs-listed row left next (arc .0 + 1) (set t (row + arc .0) (arc .1 + 1))
       ∙ sym
-      (andThen-assoc (listArcs s n sum left next (arc .0 + 1)) (λ rest p. got (arc ∷ rest) p) (λ l p. got (putArcs row l t) p)))
+      (andThen-assoc (listArcs s next n sum (arc .0 + 1) left) (λ rest p. got (arc ∷ rest) p) (λ l p. got (putArcs row l t) p)))
       ∙ sym
       (andThen-assoc (readArc s at n sum least)
-      (λ arc next. andThen (listArcs s n sum left next (arc .0 + 1)) (λ rest p. got (arc ∷ rest) p))
+      (λ arc next. andThen (listArcs s next n sum (arc .0 + 1) left) (λ rest p. got (arc ∷ rest) p))
       (λ l p. got (putArcs row l t) p))
 
-  pub arcs-ascend : (left at least : ℕ) {l : List (ℕ × ℕ)} {next : ℕ} → listArcs s n sum left at least ≡ got l next
+  pub arcs-ascend : (left at least : ℕ) {l : List (ℕ × ℕ)} {next : ℕ} → listArcs s at n sum least left ≡ got l next
       → Ascends n sum least l
   unfolding listArcs Ascends
   arcs-ascend zero at least e = subst (Ascends n sum least) (same-value e) tt
   arcs-ascend (suc left) at least e =
       let t = andThen-got (readArc s at n sum least) e in
-      let u = andThen-got (listArcs s n sum left (t .place) (t .value .0 + 1)) (t .then) in
+      let u = andThen-got (listArcs s (t .place) n sum (t .value .0 + 1) left) (t .then) in
       let r = arc-range s at n sum least (t .first) in
       subst (Ascends n sum least) (same-value (u .then))
       (r .0, r .1, r .2, arcs-ascend left (t .place) (t .value .0 + 1) (u .first))
@@ -150,15 +150,15 @@ found-listed (arc ∷ rest) m t e = go (found-listed rest m t) (eqb m (arc .0)) 
 -- what readArcs leaves in the table: the arcs that the file gives, and elsewhere what was there
 pub record ArcsThere (s : List ℕ) (n sum row left at least : ℕ) (before after : List ℕ) (next : ℕ) : Type 0 where
   pub arcs : List (ℕ × ℕ)
-  pub listed : listArcs s n sum left at least ≡ got arcs next
+  pub listed : listArcs s at n sum least left ≡ got arcs next
   pub ascend : Ascends n sum least arcs
   pub entries : (m : ℕ) → getD after (row + m) 0 ≡ entryOf (arcOf arcs m) (getD before (row + m) 0)
 
 pub arcs-there : (s : List ℕ) (n sum row left at least : ℕ) (before : List ℕ) {after : List ℕ} {next : ℕ}
-    → row + sum ≤ length before → readArcs s n sum row left at least before ≡ got after next
+    → row + sum ≤ length before → readArcs s at n sum least row left before ≡ got after next
     → ArcsThere s n sum row left at least before after next
 arcs-there s n sum row left at least before {after} {next} long e =
-    let t = andThen-got (listArcs s n sum left at least) (sym (arcs-listed s n sum row left at least before) ∙ e) in
+    let t = andThen-got (listArcs s at n sum least left) (sym (arcs-listed s n sum row left at least before) ∙ e) in
     let a = arcs-ascend s n sum left at least (t .first) in
     record {
       arcs = t .value;

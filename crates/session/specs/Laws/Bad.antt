@@ -28,7 +28,7 @@ abbrev Fits : ℕ → ℕ → ℕ → List ℕ → Type 0
 Fits product n b rows = (getD rows (b * 2) 0 < product) × (getD rows (b * 2 + 1) 0 < n)
 
 module _ (s : List ℕ) (product n : ℕ) where
-  pub entries-rounds : Rounds (λ left b at x. readEntries s product n left b at x) (λ b at x. readTwo s at product n)
+  pub entries-rounds : Rounds (λ left b at x. readEntries s at product n left b x) (λ b at x. readTwo s at product n)
       (λ b v x. set (set x (b * 2) (v .0)) (b * 2 + 1) (v .1))
   unfolding readEntries
   entries-rounds = record { stop = λ i at x. refl; round = λ left i at x. refl }
@@ -50,18 +50,18 @@ module _ (s : List ℕ) (product n : ℕ) where
       (omega (arith, e₀, r .0), omega (arith, e₁, r .1))
 
   entries-read : (before : List ℕ) (count at : ℕ) {x : List ℕ} {next : ℕ} → count * 2 ≤ length before
-      → readEntries s product n count 0 at before ≡ got x next → Written (Fits product n) (λ i. i * 2) 0 count before x
+      → readEntries s at product n count 0 before ≡ got x next → Written (Fits product n) (λ i. i * 2) 0 count before x
   entries-read before count at h e =
       rounds-keep entries-rounds (λ b. Written (Fits product n) (λ i. i * 2) 0 b before) count
       (λ b at′ x v next l f z. entry-step before b x v (omega arith) (two-range s at′ product n f) z) count 0 at before
       (zero-add count) e (written-none (Fits product n) (λ i. i * 2) 0 before)
 
-  pub bad-valid : (at : ℕ) {B : BadList} {next : ℕ} → readBad s product n at ≡ got B next → BadValid product n B
+  pub bad-valid : (at : ℕ) {B : BadList} {next : ℕ} → readBad s at product n ≡ got B next → BadValid product n B
   unfolding readBad
   bad-valid at e =
       let t = andThen-got (readWithin s at 0 mostBad) e in
       let r = within-range s at 0 mostBad (t .first) in
-      let a = andThen-got (readEntries s product n (t .value) 0 (t .place) (replicate (mostBad * 2) 0)) (t .then) in
+      let a = andThen-got (readEntries s (t .place) product n (t .value) 0 (replicate (mostBad * 2) 0)) (t .then) in
       let z =
       entries-read (replicate (mostBad * 2) 0) (t .value) (t .place) (omega (arith, length-replicate {A = ℕ} (mostBad * 2) 0, r .1))
       (a .first)

@@ -36,8 +36,8 @@ pub record ToPool (s : List ℕ) (m : Machines) (q : Queues) (τ : Transitions) 
   pub afterTransitions : ℕ
   pub machines : readMachines s 0 ≡ got m afterMachines
   pub queues : readQueues s afterMachines ≡ got q afterQueues
-  pub transitions : readTransitions s m q afterQueues ≡ got τ afterTransitions
-  pub pool : readPool s (q .sum) afterTransitions ≡ got P at
+  pub transitions : readTransitions s afterQueues m q ≡ got τ afterTransitions
+  pub pool : readPool s afterTransitions (q .sum) ≡ got P at
 
 -- and so are fields 5 and 6, up to place next, the pool being in queue order
 pub record Fields (s : List ℕ) (T : Tables) (next : ℕ) : Type 0 where
@@ -45,8 +45,8 @@ pub record Fields (s : List ℕ) (T : Tables) (next : ℕ) : Type 0 where
   pub afterMap : ℕ
   pub toPool : ToPool s (T .machines) (T .queues) (T .transitions) (T .pool) afterPool
   pub ordered : inQueueOrder (T .queues) (T .pool) ≡ true
-  pub map : readMap s (T .machines .product) (T .pool .count) afterPool ≡ got (T .map) afterMap
-  pub bad : readBad s (T .machines .product) (T .pool .count) afterMap ≡ got (T .bad) next
+  pub map : readMap s afterPool (T .machines .product) (T .pool .count) ≡ got (T .map) afterMap
+  pub bad : readBad s afterMap (T .machines .product) (T .pool .count) ≡ got (T .bad) next
 
 -- once fields 1 to 4 are read, the test of queue order comes next
 pub to-pool : {s : List ℕ} {m : Machines} {q : Queues} {τ : Transitions} {P : Pool} {at : ℕ} → ToPool s m q τ P at
@@ -117,10 +117,10 @@ pub record Reached (s : List ℕ) (y : Part Tables) : Type 0 where
 
 module _ (s : List ℕ) (short : length s ≤ mostBytes) {y : Part Tables} (late : Late y) where
   from-pool : (m : Machines) (q : Queues) (τ : Transitions) (p₁ p₂ p₃ : ℕ) → readMachines s 0 ≡ got m p₁ → readQueues s p₁ ≡ got q p₂
-      → readTransitions s m q p₂ ≡ got τ p₃ → p₃ ≤ length s → fromPool s p₃ m q τ ≡ y → Reached s y
+      → readTransitions s p₂ m q ≡ got τ p₃ → p₃ ≤ length s → fromPool s p₃ m q τ ≡ y → Reached s y
   unfolding fromPool
   from-pool m q τ p₁ p₂ p₃ e₁ e₂ e₃ h e =
-      let P = past s p₃ (readPool s (q .sum) p₃) (pool-fair s (q .sum) p₃ h) late e in
+      let P = past s p₃ (readPool s p₃ (q .sum)) (pool-fair s (q .sum) p₃ h) late e in
       record {
         machines = m;
         queues = q;
@@ -146,7 +146,7 @@ module _ (s : List ℕ) (short : length s ≤ mostBytes) {y : Part Tables} (late
       → p₂ ≤ length s → fromTransitions s p₂ m q ≡ y → Reached s y
   unfolding fromTransitions
   from-transitions m q p₁ p₂ e₁ e₂ h e =
-      let τ = past s p₂ (readTransitions s m q p₂) (transitions-fair s m q p₂ h) late e in
+      let τ = past s p₂ (readTransitions s p₂ m q) (transitions-fair s m q p₂ h) late e in
       from-pool m q (τ .value) p₁ p₂ (τ .place) e₁ e₂ (τ .first) (τ .inside) (τ .then)
 
   from-queues : (m : Machines) (p₁ : ℕ) → readMachines s 0 ≡ got m p₁ → p₁ ≤ length s → fromQueues s p₁ m ≡ y → Reached s y
@@ -171,10 +171,10 @@ pub record Ended (s : List ℕ) (y : Part Tables) : Type 0 where
 
 module _ (s : List ℕ) (m : Machines) (q : Queues) (τ : Transitions) (P : Pool) (at : ℕ) (read : ToPool s m q τ P at)
     (ordered : inQueueOrder q P ≡ true) {y : Part Tables} (late : Late y) where
-  from-bad : (R : Map) (p : ℕ) → readMap s (m .product) (P .count) at ≡ got R p → p ≤ length s → fromBad s p m q τ P R ≡ y → Ended s y
+  from-bad : (R : Map) (p : ℕ) → readMap s at (m .product) (P .count) ≡ got R p → p ≤ length s → fromBad s p m q τ P R ≡ y → Ended s y
   unfolding fromBad
   from-bad R p e₅ h e =
-      let B = past s p (readBad s (m .product) (P .count) p) (bad-fair s (m .product) (P .count) p h) late e in
+      let B = past s p (readBad s p (m .product) (P .count)) (bad-fair s (m .product) (P .count) p h) late e in
       record {
         tables = record { machines = m; queues = q; transitions = τ; pool = P; map = R; bad = B .value };
         place = B .place;
@@ -186,7 +186,7 @@ module _ (s : List ℕ) (m : Machines) (q : Queues) (τ : Transitions) (P : Pool
   pub ended : at ≤ length s → fromMap s at m q τ P ≡ y → Ended s y
   unfolding fromMap
   ended h e =
-      let R = past s at (readMap s (m .product) (P .count) at) (map-fair s (m .product) (P .count) at h) late e in
+      let R = past s at (readMap s at (m .product) (P .count)) (map-fair s (m .product) (P .count) at h) late e in
       from-bad (R .value) (R .place) (R .first) (R .inside) (R .then)
 
 -- A FILE IS READ exactly if its fields are, one after another, up to its end.

@@ -34,16 +34,16 @@ unfoldable pub listState : List ℕ → ℕ → ℕ → ℕ → Part Listed
 listState s n sum at =
     andThen (readBelow s at 2) (λ final p₁.
     andThen (readWithin s p₁ 0 sum) (λ count p₂.
-    andThen (listArcs s n sum count p₂ 0) (λ arcs p₃.
+    andThen (listArcs s p₂ n sum 0 count) (λ arcs p₃.
     got (final, arcs) p₃)))
 
 unfoldable pub listStates : List ℕ → ℕ → ℕ → ℕ → ℕ → Part (List Listed)
-listStates s n sum zero at = got [] at
-listStates s n sum (suc left) at =
-    andThen (listState s n sum at) (λ state p₁. andThen (listStates s n sum left p₁) (λ rest p₂. got (state ∷ rest) p₂))
+listStates s at n sum zero = got [] at
+listStates s at n sum (suc left) =
+    andThen (listState s n sum at) (λ state p₁. andThen (listStates s p₁ n sum left) (λ rest p₂. got (state ∷ rest) p₂))
 
 unfoldable pub listPool : List ℕ → ℕ → ℕ → Part (List Listed)
-listPool s sum at = andThen (readWithin s at 1 mostPool) (λ n p. listStates s n sum n p)
+listPool s at sum = andThen (readWithin s at 1 mostPool) (λ n p. listStates s p n sum n)
 
 -- listed states put into the two tables, from number i on
 unfoldable pub putStates : List Listed → ℕ → List ℕ × List ℕ → List ℕ × List ℕ
@@ -52,29 +52,29 @@ putStates (state ∷ rest) i x = putStates rest (i + 1) (set (x .0) i (state .0)
 
 module _ (s : List ℕ) (n sum : ℕ) where
   state-listed : (row at : ℕ) (t : List ℕ)
-      → readState s n sum row at t ≡ andThen (listState s n sum at) (λ state p. got (state .0, putArcs row (state .1) t) p)
+      → readState s at n sum row t ≡ andThen (listState s n sum at) (λ state p. got (state .0, putArcs row (state .1) t) p)
   unfolding readState listState
   state-listed row at t =
       andThen-same (readBelow s at 2) _ _ (λ final p₁.
       andThen-same (readWithin s p₁ 0 sum) _ _ (λ count p₂.
       ap (λ x. andThen x (λ arcs′ p₃. got (final, arcs′) p₃)) (arcs-listed s n sum row count p₂ 0 t)
-      ∙ andThen-assoc (listArcs s n sum count p₂ 0) _ _
-      ∙ sym (andThen-assoc (listArcs s n sum count p₂ 0) _ _))
+      ∙ andThen-assoc (listArcs s p₂ n sum 0 count) _ _
+      ∙ sym (andThen-assoc (listArcs s p₂ n sum 0 count) _ _))
       ∙ sym (andThen-assoc (readWithin s p₁ 0 sum) _ _))
       ∙ sym (andThen-assoc (readBelow s at 2) _ _)
 
   states-listed : (left i at : ℕ) (x : List ℕ × List ℕ)
-      → readStates s n sum left i at (x .0) (x .1) ≡ andThen (listStates s n sum left at) (λ l p. got (putStates l i x) p)
+      → readStates s at n sum left i (x .0) (x .1) ≡ andThen (listStates s at n sum left) (λ l p. got (putStates l i x) p)
   unfolding readStates listStates putStates
   states-listed zero i at x = refl
   states-listed (suc left) i at x =
       ap
-      (λ y. andThen y (λ state next. readStates s n sum left (i + 1) next (set (x .0) i (state .0)) (state .1)))
+      (λ y. andThen y (λ state next. readStates s next n sum left (i + 1) (set (x .0) i (state .0)) (state .1)))
       (state-listed (i * mostMessages) at (x .1))
       ∙ andThen-assoc (listState s n sum at) _ _
       ∙ andThen-same (listState s n sum at) _ _ (λ state p₁.
       states-listed left (i + 1) p₁ (set (x .0) i (state .0), putArcs (i * mostMessages) (state .1) (x .1))
-      ∙ sym (andThen-assoc (listStates s n sum left p₁) _ _))
+      ∙ sym (andThen-assoc (listStates s p₁ n sum left) _ _))
       ∙ sym (andThen-assoc (listState s n sum at) _ _)
 
   state-ascends : (at : ℕ) {state : Listed} {next : ℕ} → listState s n sum at ≡ got state next → Ascends n sum 0 (state .1)
@@ -82,17 +82,17 @@ module _ (s : List ℕ) (n sum : ℕ) where
   state-ascends at e =
       let a = andThen-got (readBelow s at 2) e in
       let b = andThen-got (readWithin s (a .place) 0 sum) (a .then) in
-      let c = andThen-got (listArcs s n sum (b .value) (b .place) 0) (b .then) in
+      let c = andThen-got (listArcs s (b .place) n sum 0 (b .value)) (b .then) in
       subst (λ state. Ascends n sum 0 (state .1)) (same-value (c .then)) (arcs-ascend s n sum (b .value) (b .place) 0 (c .first))
 
-  states-ascend : (left at : ℕ) {l : List Listed} {next : ℕ} → listStates s n sum left at ≡ got l next
+  states-ascend : (left at : ℕ) {l : List Listed} {next : ℕ} → listStates s at n sum left ≡ got l next
       → (length l ≡ left) × ((i : ℕ) → Ascends n sum 0 (getD l i noState .1))
   unfolding listStates Ascends
   states-ascend zero at e =
       subst (λ l. (length l ≡ 0) × ((i : ℕ) → Ascends n sum 0 (getD l i noState .1))) (same-value e) (refl, λ i. tt)
   states-ascend (suc left) at e =
       let t = andThen-got (listState s n sum at) e in
-      let u = andThen-got (listStates s n sum left (t .place)) (t .then) in
+      let u = andThen-got (listStates s (t .place) n sum left) (t .then) in
       let rest = states-ascend left (t .place) (u .first) in
       subst (λ l. (length l ≡ suc left) × ((i : ℕ) → Ascends n sum 0 (getD l i noState .1))) (same-value (u .then))
       (ap suc (rest .0), λ i. each (t .value) (u .value) i (state-ascends at (t .first)) (rest .1))
@@ -172,7 +172,7 @@ module _ (n sum : ℕ) (few : sum ≤ mostMessages) where
 -- the tables of the pool say what the file lists
 pub record PoolListed (s : List ℕ) (sum at : ℕ) (P : Pool) (next : ℕ) : Type 0 where
   pub states : List Listed
-  pub listed : listPool s sum at ≡ got states next
+  pub listed : listPool s at sum ≡ got states next
   pub count : length states ≡ P .count
   pub finals : (i : ℕ) → getD (P .finals) i 0 ≡ getD states i noState .0
   pub arcs : (i m : ℕ) → m < mostMessages → arcAt (P .arcs) i m ≡ arcOf (getD states i noState .1) m
@@ -212,7 +212,7 @@ abbrev tables : ℕ → List ℕ × List ℕ → Pool
 tables n x = record { count = n; finals = x .0; arcs = x .1 }
 
 -- THE POOL IS THE FILE'S LIST: final marks and arcs, each in its place and no others
-pub pool-listed : (s : List ℕ) (sum at : ℕ) {P : Pool} {next : ℕ} → sum ≤ mostMessages → readPool s sum at ≡ got P next
+pub pool-listed : (s : List ℕ) (sum at : ℕ) {P : Pool} {next : ℕ} → sum ≤ mostMessages → readPool s at sum ≡ got P next
     → PoolListed s sum at P next
 unfolding readPool listPool
 pool-listed s sum at {P} {next} few e =
@@ -226,7 +226,7 @@ pool-listed s sum at {P} {next} few e =
     pool : PoolValid sum P
     pool = pool-valid s sum at few e
 
-    built : (n p : ℕ) (l : List Listed) (q : ℕ) → readWithin s at 1 mostPool ≡ got n p → n ≤ mostPool → listStates s n sum n p ≡ got l q
+    built : (n p : ℕ) (l : List Listed) (q : ℕ) → readWithin s at 1 mostPool ≡ got n p → n ≤ mostPool → listStates s p n sum n ≡ got l q
         → tables n (putStates l 0 x) ≡ P → q ≡ next → PoolListed s sum at P next
     built n p l q e₁ h e₂ same place =
         let asc = states-ascend s n sum n p e₂ in
@@ -240,7 +240,7 @@ pool-listed s sum at {P} {next} few e =
         in
         record {
           states = l;
-          listed = ap (λ y. andThen y (λ n′ p′. listStates s n′ sum n′ p′)) e₁ ∙ e₂ ∙ ap (got l) place;
+          listed = ap (λ y. andThen y (λ n′ p′. listStates s p′ n′ sum n′)) e₁ ∙ e₂ ∙ ap (got l) place;
           count = long;
           finals = finals-stand sum P l pool long stands;
           arcs = arcs-stand sum P l pool long stands;
@@ -248,9 +248,9 @@ pool-listed s sum at {P} {next} few e =
         }
 
     made : (n p : ℕ) → readWithin s at 1 mostPool ≡ got n p → n ≤ mostPool
-        → andThen (readStates s n sum n 0 p (x .0) (x .1)) (λ states p₂. got (tables n states) p₂) ≡ got P next
+        → andThen (readStates s p n sum n 0 (x .0) (x .1)) (λ states p₂. got (tables n states) p₂) ≡ got P next
         → PoolListed s sum at P next
     made n p e₁ h e₂ =
         let e₃ = sym (ap (λ y. andThen y (λ states p₂. got (tables n states) p₂)) (states-listed s n sum n 0 p x)) ∙ e₂ in
-        let u = andThen-got (listStates s n sum n p) (sym (andThen-assoc (listStates s n sum n p) _ _) ∙ e₃) in
+        let u = andThen-got (listStates s p n sum n) (sym (andThen-assoc (listStates s p n sum n) _ _) ∙ e₃) in
         built n p (u .value) (u .place) e₁ h (u .first) (same-value (u .then)) (same-place (u .then))

@@ -55,12 +55,12 @@ record Sized (before : List ℕ) (i : ℕ) (x : ℕ × List ℕ) : Type 0 where
   most : x .0 ≤ mostControls
 
 module _ (s : List ℕ) where
-  pub sizes-rounds : Rounds (λ left i at x. readSizes s left i at (x .0) (x .1)) (λ i at x. readFactor s at (x .0))
+  pub sizes-rounds : Rounds (λ left i at x. readSizes s at (x .0) left i (x .1)) (λ i at x. readFactor s at (x .0))
       (λ i v x. (x .0 * v, set (x .1) i v))
   unfolding readSizes
   sizes-rounds = record { stop = λ i at x. refl; round = λ left i at x. refl }
 
-  pub starts-rounds : (sizes : List ℕ) → Rounds (λ left i at x. readStarts s sizes left i at x) (λ i at x. readBelow s at (getD sizes i 0))
+  pub starts-rounds : (sizes : List ℕ) → Rounds (λ left i at x. readStarts s at sizes left i x) (λ i at x. readBelow s at (getD sizes i 0))
       (λ i v x. set x i v)
   unfolding readStarts
   starts-rounds sizes = record { stop = λ i at x. refl; round = λ left i at x. refl }
@@ -77,7 +77,7 @@ module _ (s : List ℕ) where
       }
 
   sizes-read : (count at : ℕ) {x : ℕ × List ℕ} {next : ℕ} → count ≤ mostMachines
-      → readSizes s count 0 at 1 (replicate mostMachines 0) ≡ got x next → Sized (replicate mostMachines 0) count x
+      → readSizes s at 1 count 0 (replicate mostMachines 0) ≡ got x next → Sized (replicate mostMachines 0) count x
   unfolding productOf
   sizes-read count at h e =
       rounds-keep sizes-rounds (Sized (replicate mostMachines 0)) count
@@ -91,7 +91,7 @@ module _ (s : List ℕ) where
       })
 
   starts-read : (sizes : List ℕ) (count at : ℕ) {x : List ℕ} {next : ℕ} → count ≤ mostMachines
-      → readStarts s sizes count 0 at (replicate mostMachines 0) ≡ got x next
+      → readStarts s at sizes count 0 (replicate mostMachines 0) ≡ got x next
       → Entries (λ k w. w < getD sizes k 0) 0 count (replicate mostMachines 0) x
   starts-read sizes count at h e =
       rounds-keep (starts-rounds sizes) (λ i. Entries (λ k w. w < getD sizes k 0) 0 i (replicate mostMachines 0)) count
@@ -103,8 +103,8 @@ module _ (s : List ℕ) where
       → countedMachines s at count ≡ got m next → MachinesValid m
   unfolding countedMachines
   counted-valid at count l h e =
-      let a = andThen-got (readSizes s count 0 at 1 (replicate mostMachines 0)) e in
-      let b = andThen-got (readStarts s (a .value .1) count 0 (a .place) (replicate mostMachines 0)) (a .then) in
+      let a = andThen-got (readSizes s at 1 count 0 (replicate mostMachines 0)) e in
+      let b = andThen-got (readStarts s (a .place) (a .value .1) count 0 (replicate mostMachines 0)) (a .then) in
       let z = sizes-read count at h (a .first) in
       let y = starts-read (a .value .1) count (a .place) h (b .first) in
       subst MachinesValid (same-value (b .then))

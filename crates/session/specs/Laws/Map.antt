@@ -25,21 +25,21 @@ pub record MapValid (product n : ℕ) (R : Map) : Type 0 where
   pub rest : (c : ℕ) → product ≤ c → getD (R .roots) c 0 ≡ 0
 
 module _ (s : List ℕ) (n : ℕ) where
-  pub roots-rounds : Rounds (λ left i at x. readRoots s n left i at x) (λ i at x. readWithin s at 0 n) (λ i v x. set x i v)
+  pub roots-rounds : Rounds (λ left i at x. readRoots s at n left i x) (λ i at x. readWithin s at 0 n) (λ i v x. set x i v)
   unfolding readRoots
   roots-rounds = record { stop = λ i at x. refl; round = λ left i at x. refl }
 
   roots-read : (before : List ℕ) (product at : ℕ) {x : List ℕ} {next : ℕ} → product ≤ length before
-      → readRoots s n product 0 at before ≡ got x next → Entries (λ k w. w ≤ n) 0 product before x
+      → readRoots s at n product 0 before ≡ got x next → Entries (λ k w. w ≤ n) 0 product before x
   roots-read before product at h e =
       rounds-keep roots-rounds (λ i. Entries (λ k w. w ≤ n) 0 i before) product
       (λ i at′ x v next l f z. entries-more (λ k w. w ≤ n) (omega arith) (omega arith) z (within-range s at′ 0 n f .1)) product 0 at
       before (zero-add product) e (entries-none (λ k w. w ≤ n) 0 before)
 
-  pub map-valid : (product at : ℕ) {R : Map} {next : ℕ} → product ≤ mostControls → readMap s product n at ≡ got R next → MapValid product n R
+  pub map-valid : (product at : ℕ) {R : Map} {next : ℕ} → product ≤ mostControls → readMap s at product n ≡ got R next → MapValid product n R
   unfolding readMap
   map-valid product at h e =
-      let t = andThen-got (readRoots s n product 0 at (replicate mostControls 0)) e in
+      let t = andThen-got (readRoots s at n product 0 (replicate mostControls 0)) e in
       let z =
       roots-read (replicate mostControls 0) product at (omega (arith, length-replicate {A = ℕ} mostControls 0)) (t .first)
       in

@@ -13,7 +13,7 @@ use Rattle.numbers.specs.Part.{Part, got, refused, provided, andThen}
 use Rattle.numbers.specs.Number.{readNumber, readWithin, readBelow, readTwo}
 use Rattle.session.specs.Machines.{readFactor, readSizes, readStarts, countedMachines, readMachines}
 use Rattle.session.specs.Queues.{readTerm, readCounts, readQueues, firstOf}
-use Rattle.session.specs.Transitions.{rowLength, readMessage, readAction, readTransition, readRows, readTransitions}
+use Rattle.session.specs.Transitions.{readMessage, readAction, readTransition, readRows, readTransitions}
 use Rattle.session.specs.Pool.{readAscending, readArc, readArcs, readState, readStates, readPool}
 use Rattle.session.specs.Map.{readRoots, readMap}
 use Rattle.session.specs.Bad.{readEntries, readBad}
@@ -28,6 +28,7 @@ use Rattle.session.specs.Laws.Bad.{entries-rounds}
 use Rattle.session.specs.declared.tables.Machines.{Machines}
 use Rattle.session.specs.declared.tables.Queues.{Queues}
 use Rattle.numbers.specs.Laws.Places.{Fair, fair-provided, fair-cond, fair-then, fair-tested, rounds-fair, refuses-number, tested-fair, within-fair, below-fair, two-fair}
+use Rattle.session.specs.Rows.{rowLength, rowsLength, fromEntry, toEntry, kindEntry, queueEntry, lengthEntry, wordEntry}
 
 module _ (s : List ℕ) where
   factor-fair : (at product : ℕ) → at ≤ length s → Fair s 8 at (readFactor s at product)
@@ -40,9 +41,9 @@ module _ (s : List ℕ) where
   unfolding readMachines countedMachines
   machines-fair at h =
       fair-then s 8 at (readWithin s at 1 mostMachines) _ (within-fair s at 1 mostMachines h) (λ count p h₁.
-      fair-then s 8 p (readSizes s count 0 p 1 (replicate mostMachines 0)) _
+      fair-then s 8 p (readSizes s p 1 count 0 (replicate mostMachines 0)) _
       (rounds-fair s 8 (sizes-rounds s) (λ i at′ x h′. factor-fair at′ (x .0) h′) count 0 p (1, replicate mostMachines 0) h₁) (λ sized p₁ h₂.
-      fair-then s 8 p₁ (readStarts s (sized .1) count 0 p₁ (replicate mostMachines 0))
+      fair-then s 8 p₁ (readStarts s p₁ (sized .1) count 0 (replicate mostMachines 0))
       (λ starts p₂. got (record { count = count; product = sized .0; states = sized .1; starts = starts }) p₂)
       (rounds-fair s 8 (starts-rounds s (sized .1)) (λ i at′ x h′. below-fair s at′ (getD (sized .1) i 0) h′) count 0 p₁
       (replicate mostMachines 0) h₂)
@@ -58,7 +59,7 @@ module _ (s : List ℕ) where
   unfolding readQueues
   queues-fair at h =
       fair-then s 8 at (readWithin s at 1 mostQueues) _ (within-fair s at 1 mostQueues h) (λ count p₁ h₁.
-      fair-then s 8 p₁ (readCounts s count 0 p₁ 0 (replicate mostQueues 0))
+      fair-then s 8 p₁ (readCounts s p₁ 0 count 0 (replicate mostQueues 0))
       (λ counted p₂. got (record { count = count; sum = counted .0; messages = counted .1 }) p₂)
       (rounds-fair s 8 (counts-rounds s) (λ i at′ x h′. term-fair at′ (x .0) h′) count 0 p₁ (0, replicate mostQueues 0) h₁)
       (λ counted p₂ h₂. (omega arith, h₂)))
@@ -70,34 +71,34 @@ module _ (s : List ℕ) where
       let r = refuses-number s at 7 (omega arith) (omega arith) h (below-number s at sum e) in
       fair-provided s 8 at (leb lo m) 7 at _ r (fair-provided s 8 at (ltb m hi) 7 at (got m next) r (l, g)))
 
-  action-fair : (q : Queues) (row at : ℕ) (rows : List ℕ) → at ≤ length s → Fair s 8 at (readAction s q row at rows)
+  action-fair : (q : Queues) (row at : ℕ) (rows : List ℕ) → at ≤ length s → Fair s 8 at (readAction s at q row rows)
   unfolding readAction
   action-fair q row at rows h =
       fair-then s 8 at (readBelow s at (q .count)) _ (below-fair s at (q .count) h) (λ queue p₁ h₁.
       fair-then s 8 p₁ (readWithin s p₁ 0 mostWord) _ (within-fair s p₁ 0 mostWord h₁) (λ len p₂ h₂.
       rounds-fair s 8 (word-rounds s (q .sum) (firstOf (q .messages) queue) (firstOf (q .messages) (suc queue)))
-      (λ j at′ x h′. message-fair at′ (q .sum) (firstOf (q .messages) queue) (firstOf (q .messages) (suc queue)) h′) len (row + 6) p₂
-      (set (set rows (row + 4) queue) (row + 5) len) h₂))
+      (λ j at′ x h′. message-fair at′ (q .sum) (firstOf (q .messages) queue) (firstOf (q .messages) (suc queue)) h′) len (wordEntry row) p₂
+      (set (set rows (queueEntry row) queue) (lengthEntry row) len) h₂))
 
   transition-fair : (m : Machines) (q : Queues) (row at : ℕ) (rows : List ℕ) → at ≤ length s
-      → Fair s 8 at (readTransition s m q row at rows)
+      → Fair s 8 at (readTransition s at m q row rows)
   unfolding readTransition
   transition-fair m q row at rows h =
       fair-then s 8 at (readBelow s at (m .count)) _ (below-fair s at (m .count) h) (λ machine p₁ h₁.
       fair-then s 8 p₁ (readTwo s p₁ (getD (m .states) machine 0) (getD (m .states) machine 0)) _
       (two-fair s p₁ (getD (m .states) machine 0) (getD (m .states) machine 0) h₁) (λ move p₂ h₂.
       fair-then s 8 p₂ (readBelow s p₂ 3) _ (below-fair s p₂ 3 h₂) (λ kind p₃ h₃.
-      fair-cond s 8 p₃ (eqb kind 0) (got _ p₃) (readAction s q row p₃ _) (omega arith, h₃)
-      (action-fair q row p₃ (set (set (set (set rows row machine) (row + 1) (move .0)) (row + 2) (move .1)) (row + 3) kind) h₃))))
+      fair-cond s 8 p₃ (eqb kind 0) (got _ p₃) (readAction s p₃ q row _) (omega arith, h₃)
+      (action-fair q row p₃ (set (set (set (set rows row machine) (fromEntry row) (move .0)) (toEntry row) (move .1)) (kindEntry row) kind) h₃))))
 
-  pub transitions-fair : (m : Machines) (q : Queues) (at : ℕ) → at ≤ length s → Fair s 8 at (readTransitions s m q at)
+  pub transitions-fair : (m : Machines) (q : Queues) (at : ℕ) → at ≤ length s → Fair s 8 at (readTransitions s at m q)
   unfolding readTransitions
   transitions-fair m q at h =
       fair-then s 8 at (readWithin s at 0 mostTransitions) _ (within-fair s at 0 mostTransitions h) (λ count p₁ h₁.
-      fair-then s 8 p₁ (readRows s m q count 0 p₁ (replicate (mostTransitions * rowLength) 0))
+      fair-then s 8 p₁ (readRows s p₁ m q count 0 (replicate (rowsLength) 0))
       (λ rows p₂. got (record { count = count; rows = rows }) p₂)
       (rounds-fair s 8 (rows-rounds s m q) (λ t at′ x h′. transition-fair m q (t * rowLength) at′ x h′) count 0 p₁
-      (replicate (mostTransitions * rowLength) 0) h₁)
+      (replicate (rowsLength) 0) h₁)
       (λ rows p₂ h₂. (omega arith, h₂)))
 
   arc-fair : (at n sum least : ℕ) → at ≤ length s → Fair s 8 at (readArc s at n sum least)
@@ -109,43 +110,43 @@ module _ (s : List ℕ) where
       (λ m p h₁.
       fair-then s 8 p (readBelow s p n) (λ t next. got (m, t) next) (below-fair s p n h₁) (λ t next h₂. (omega arith, h₂)))
 
-  arcs-fair : (n sum row left at least : ℕ) (arcs : List ℕ) → at ≤ length s → Fair s 8 at (readArcs s n sum row left at least arcs)
+  arcs-fair : (n sum row left at least : ℕ) (arcs : List ℕ) → at ≤ length s → Fair s 8 at (readArcs s at n sum least row left arcs)
   unfolding readArcs
   arcs-fair n sum row zero at least arcs h = (omega arith, h)
   arcs-fair n sum row (suc left) at least arcs h =
       fair-then s 8 at (readArc s at n sum least) _ (arc-fair at n sum least h) (λ arc next h₁.
       arcs-fair n sum row left next (arc .0 + 1) (set arcs (row + arc .0) (arc .1 + 1)) h₁)
 
-  state-fair : (n sum row at : ℕ) (arcs : List ℕ) → at ≤ length s → Fair s 8 at (readState s n sum row at arcs)
+  state-fair : (n sum row at : ℕ) (arcs : List ℕ) → at ≤ length s → Fair s 8 at (readState s at n sum row arcs)
   unfolding readState
   state-fair n sum row at arcs h =
       fair-then s 8 at (readBelow s at 2) _ (below-fair s at 2 h) (λ final p₁ h₁.
       fair-then s 8 p₁ (readWithin s p₁ 0 sum) _ (within-fair s p₁ 0 sum h₁) (λ count p₂ h₂.
-      fair-then s 8 p₂ (readArcs s n sum row count p₂ 0 arcs) (λ arcs′ p₃. got (final, arcs′) p₃)
+      fair-then s 8 p₂ (readArcs s p₂ n sum 0 row count arcs) (λ arcs′ p₃. got (final, arcs′) p₃)
       (arcs-fair n sum row count p₂ 0 arcs h₂) (λ arcs′ p₃ h₃. (omega arith, h₃))))
 
-  pub pool-fair : (sum at : ℕ) → at ≤ length s → Fair s 8 at (readPool s sum at)
+  pub pool-fair : (sum at : ℕ) → at ≤ length s → Fair s 8 at (readPool s at sum)
   unfolding readPool
   pool-fair sum at h =
       fair-then s 8 at (readWithin s at 1 mostPool) _ (within-fair s at 1 mostPool h) (λ n p₁ h₁.
-      fair-then s 8 p₁ (readStates s n sum n 0 p₁ (replicate mostPool 0) (replicate (mostPool * mostMessages) 0))
+      fair-then s 8 p₁ (readStates s p₁ n sum n 0 (replicate mostPool 0) (replicate (mostPool * mostMessages) 0))
       (λ states p₂. got (record { count = n; finals = states .0; arcs = states .1 }) p₂)
       (rounds-fair s 8 (states-rounds s n sum) (λ i at′ x h′. state-fair n sum (i * mostMessages) at′ (x .1) h′) n 0 p₁
       (replicate mostPool 0, replicate (mostPool * mostMessages) 0) h₁)
       (λ states p₂ h₂. (omega arith, h₂)))
 
-  pub map-fair : (product n at : ℕ) → at ≤ length s → Fair s 8 at (readMap s product n at)
+  pub map-fair : (product n at : ℕ) → at ≤ length s → Fair s 8 at (readMap s at product n)
   unfolding readMap
   map-fair product n at h =
-      fair-then s 8 at (readRoots s n product 0 at (replicate mostControls 0)) (λ roots next. got (record { roots = roots }) next)
+      fair-then s 8 at (readRoots s at n product 0 (replicate mostControls 0)) (λ roots next. got (record { roots = roots }) next)
       (rounds-fair s 8 (roots-rounds s n) (λ i at′ x h′. within-fair s at′ 0 n h′) product 0 at (replicate mostControls 0) h)
       (λ roots next h₁. (omega arith, h₁))
 
-  pub bad-fair : (product n at : ℕ) → at ≤ length s → Fair s 8 at (readBad s product n at)
+  pub bad-fair : (product n at : ℕ) → at ≤ length s → Fair s 8 at (readBad s at product n)
   unfolding readBad
   bad-fair product n at h =
       fair-then s 8 at (readWithin s at 0 mostBad) _ (within-fair s at 0 mostBad h) (λ count p₁ h₁.
-      fair-then s 8 p₁ (readEntries s product n count 0 p₁ (replicate (mostBad * 2) 0))
+      fair-then s 8 p₁ (readEntries s p₁ product n count 0 (replicate (mostBad * 2) 0))
       (λ rows p₂. got (record { count = count; rows = rows }) p₂)
       (rounds-fair s 8 (entries-rounds s product n) (λ b at′ x h′. two-fair s at′ product n h′) count 0 p₁ (replicate (mostBad * 2) 0) h₁)
       (λ rows p₂ h₂. (omega arith, h₂)))

@@ -96,7 +96,7 @@ record States (n sum : ℕ) (finals arcs : List ℕ) (i : ℕ) (x : List ℕ × 
 
 module _ (s : List ℕ) (n sum : ℕ) where
   pub arcs-read : (row left at least : ℕ) (arcs : List ℕ) {x : List ℕ} {next : ℕ} → row + sum ≤ length arcs
-      → ((k : ℕ) → row ≤ k → getD arcs k 0 ≤ n) → readArcs s n sum row left at least arcs ≡ got x next → Arcs n sum row least arcs x
+      → ((k : ℕ) → row ≤ k → getD arcs k 0 ≤ n) → readArcs s at n sum least row left arcs ≡ got x next → Arcs n sum row least arcs x
   unfolding readArcs
   arcs-read row zero at least arcs h small e =
       subst (Arcs n sum row least arcs) (same-value e) (record { changed = changed-none (row + least) (row + sum) arcs; small = small })
@@ -122,12 +122,12 @@ module _ (s : List ℕ) (n sum : ℕ) where
       }
 
   state-read : (row at : ℕ) (arcs : List ℕ) {x : ℕ × List ℕ} {next : ℕ} → row + sum ≤ length arcs
-      → ((k : ℕ) → row ≤ k → getD arcs k 0 ≤ n) → readState s n sum row at arcs ≡ got x next → State n sum row arcs x
+      → ((k : ℕ) → row ≤ k → getD arcs k 0 ≤ n) → readState s at n sum row arcs ≡ got x next → State n sum row arcs x
   unfolding readState
   state-read row at arcs h small e =
       let t = andThen-got (readBelow s at 2) e in
       let u = andThen-got (readWithin s (t .place) 0 sum) (t .then) in
-      let w = andThen-got (readArcs s n sum row (u .value) (u .place) 0 arcs) (u .then) in
+      let w = andThen-got (readArcs s (u .place) n sum 0 row (u .value) arcs) (u .then) in
       let z = arcs-read row (u .value) (u .place) 0 arcs h small (w .first) in
       subst (State n sum row arcs) (same-value (w .then))
       (record {
@@ -136,14 +136,14 @@ module _ (s : List ℕ) (n sum : ℕ) where
         small = z .small;
       })
 
-  pub states-rounds : Rounds (λ left i at x. readStates s n sum left i at (x .0) (x .1))
-      (λ i at x. readState s n sum (i * mostMessages) at (x .1)) (λ i v x. (set (x .0) i (v .0), v .1))
+  pub states-rounds : Rounds (λ left i at x. readStates s at n sum left i (x .0) (x .1))
+      (λ i at x. readState s at n sum (i * mostMessages) (x .1)) (λ i v x. (set (x .0) i (v .0), v .1))
   unfolding readStates
   states-rounds = record { stop = λ i at x. refl; round = λ left i at x. refl }
 
   state-step : (finals arcs : List ℕ) (i at : ℕ) (x : List ℕ × List ℕ) (v : ℕ × List ℕ) (next : ℕ) → sum ≤ mostMessages
       → i < length finals → (i + 1) * mostMessages ≤ length arcs → ((k : ℕ) → getD arcs k 0 ≡ 0)
-      → readState s n sum (i * mostMessages) at (x .1) ≡ got v next → States n sum finals arcs i x
+      → readState s at n sum (i * mostMessages) (x .1) ≡ got v next → States n sum finals arcs i x
       → States n sum finals arcs (i + 1) (set (x .0) i (v .0), v .1)
   state-step finals arcs i at x v next few hf ha blank e z =
       let before = z .parts .changed in
@@ -168,7 +168,7 @@ module _ (s : List ℕ) (n sum : ℕ) where
       }
 
   states-read : (finals arcs : List ℕ) (at : ℕ) {x : List ℕ × List ℕ} {next : ℕ} → sum ≤ mostMessages → n ≤ length finals
-      → n * mostMessages ≤ length arcs → ((k : ℕ) → getD arcs k 0 ≡ 0) → readStates s n sum n 0 at finals arcs ≡ got x next
+      → n * mostMessages ≤ length arcs → ((k : ℕ) → getD arcs k 0 ≡ 0) → readStates s at n sum n 0 finals arcs ≡ got x next
       → States n sum finals arcs n x
   states-read finals arcs at few hf ha blank e =
       rounds-keep states-rounds (States n sum finals arcs) n
@@ -179,7 +179,7 @@ module _ (s : List ℕ) (n sum : ℕ) where
         parts = written-none (Fits n sum) (λ k. k * mostMessages) 0 arcs;
       })
 
-pub pool-valid : (s : List ℕ) (sum at : ℕ) {P : Pool} {next : ℕ} → sum ≤ mostMessages → readPool s sum at ≡ got P next
+pub pool-valid : (s : List ℕ) (sum at : ℕ) {P : Pool} {next : ℕ} → sum ≤ mostMessages → readPool s at sum ≡ got P next
     → PoolValid sum P
 unfolding readPool
 pool-valid s sum at few e =
@@ -187,7 +187,7 @@ pool-valid s sum at few e =
     let n = t .value in
     let r = within-range s at 1 mostPool (t .first) in
     let a =
-    andThen-got (readStates s n sum n 0 (t .place) (replicate mostPool 0) (replicate (mostPool * mostMessages) 0)) (t .then)
+    andThen-got (readStates s (t .place) n sum n 0 (replicate mostPool 0) (replicate (mostPool * mostMessages) 0)) (t .then)
     in
     let lf = length-replicate {A = ℕ} mostPool 0 in
     let la = length-replicate {A = ℕ} (mostPool * mostMessages) 0 in

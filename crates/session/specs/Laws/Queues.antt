@@ -98,7 +98,7 @@ record Counted (before : List ℕ) (i : ℕ) (x : ℕ × List ℕ) : Type 0 wher
   most : x .0 ≤ mostMessages
 
 module _ (s : List ℕ) where
-  pub counts-rounds : Rounds (λ left i at x. readCounts s left i at (x .0) (x .1)) (λ i at x. readTerm s at (x .0))
+  pub counts-rounds : Rounds (λ left i at x. readCounts s at (x .0) left i (x .1)) (λ i at x. readTerm s at (x .0))
       (λ i v x. (x .0 + v, set (x .1) i v))
   unfolding readCounts
   counts-rounds = record { stop = λ i at x. refl; round = λ left i at x. refl }
@@ -115,7 +115,7 @@ module _ (s : List ℕ) where
       }
 
   counts-read : (count at : ℕ) {x : ℕ × List ℕ} {next : ℕ} → count ≤ mostQueues
-      → readCounts s count 0 at 0 (replicate mostQueues 0) ≡ got x next → Counted (replicate mostQueues 0) count x
+      → readCounts s at 0 count 0 (replicate mostQueues 0) ≡ got x next → Counted (replicate mostQueues 0) count x
   unfolding firstOf
   counts-read count at h e =
       rounds-keep counts-rounds (Counted (replicate mostQueues 0)) count
@@ -133,7 +133,7 @@ module _ (s : List ℕ) where
   queues-valid at e =
       let t = andThen-got (readWithin s at 1 mostQueues) e in
       let r = within-range s at 1 mostQueues (t .first) in
-      let a = andThen-got (readCounts s (t .value) 0 (t .place) 0 (replicate mostQueues 0)) (t .then) in
+      let a = andThen-got (readCounts s (t .place) 0 (t .value) 0 (replicate mostQueues 0)) (t .then) in
       let z = counts-read (t .value) (t .place) (r .1) (a .first) in
       subst QueuesValid (same-value (a .then))
       (record {

@@ -35,10 +35,10 @@ module _ (s : List ℕ) where
       → Fair s 10 at (fromMap s at m q τ P)
   unfolding fromMap fromBad
   map-on-fair at m q τ P h =
-      fair-then s 10 at (readMap s (m .product) (P .count) at) _
-      (fair-more s 8 10 at (readMap s (m .product) (P .count) at) (omega arith) (map-fair s (m .product) (P .count) at h)) (λ R p h₁.
-      fair-then s 10 p (readBad s (m .product) (P .count) p) _
-      (fair-more s 8 10 p (readBad s (m .product) (P .count) p) (omega arith) (bad-fair s (m .product) (P .count) p h₁)) (λ B next h₂.
+      fair-then s 10 at (readMap s at (m .product) (P .count)) _
+      (fair-more s 8 10 at (readMap s at (m .product) (P .count)) (omega arith) (map-fair s (m .product) (P .count) at h)) (λ R p h₁.
+      fair-then s 10 p (readBad s p (m .product) (P .count)) _
+      (fair-more s 8 10 p (readBad s p (m .product) (P .count)) (omega arith) (bad-fair s (m .product) (P .count) p h₁)) (λ B next h₂.
       fair-provided s 10 next (leb (length s) next) 10 next _ (refuses-late s next 10 (omega arith) (omega arith) h₂) (omega arith, h₂)))
 
   pub fields-fair : Fair s 10 0 (fromMachines s)
@@ -46,10 +46,10 @@ module _ (s : List ℕ) where
   fields-fair =
       fair-then s 10 0 (readMachines s 0) _ (fair-more s 8 10 0 (readMachines s 0) (omega arith) (machines-fair s 0 (omega arith))) (λ m p₁ h₁.
       fair-then s 10 p₁ (readQueues s p₁) _ (fair-more s 8 10 p₁ (readQueues s p₁) (omega arith) (queues-fair s p₁ h₁)) (λ q p₂ h₂.
-      fair-then s 10 p₂ (readTransitions s m q p₂) _
-      (fair-more s 8 10 p₂ (readTransitions s m q p₂) (omega arith) (transitions-fair s m q p₂ h₂)) (λ τ p₃ h₃.
-      fair-then s 10 p₃ (readPool s (q .sum) p₃) _
-      (fair-more s 8 10 p₃ (readPool s (q .sum) p₃) (omega arith) (pool-fair s (q .sum) p₃ h₃)) (λ P p₄ h₄.
+      fair-then s 10 p₂ (readTransitions s p₂ m q) _
+      (fair-more s 8 10 p₂ (readTransitions s p₂ m q) (omega arith) (transitions-fair s m q p₂ h₂)) (λ τ p₃ h₃.
+      fair-then s 10 p₃ (readPool s p₃ (q .sum)) _
+      (fair-more s 8 10 p₃ (readPool s p₃ (q .sum)) (omega arith) (pool-fair s (q .sum) p₃ h₃)) (λ P p₄ h₄.
       fair-provided s 10 p₄ (inQueueOrder q P) 9 p₄ (fromMap s p₄ m q τ P) (refuses-late s p₄ 9 (omega arith) (omega arith) h₄)
       (map-on-fair p₄ m q τ P h₄)))))
 

@@ -8,7 +8,6 @@ use native.Mathlib.Omega.{arith}
 use lib.ListN.{length, getD, take, drop, length-take}
 use lib.Dec.{eqb}
 use borrow.Author.Tests.{eq-eqb, ne-eqb}
-use Rattle.session.specs.Transitions.{rowLength}
 use Rattle.session.specs.Laws.Valid.{Valid}
 use Rattle.session.specs.declared.tables.Tables.{Tables}
 use Rattle.model.specs.Model.{Action, local, send, receive, messages, moved}
@@ -32,6 +31,7 @@ use Rattle.walk.specs.declared.pairs.Walk.{Walk}
 use Rattle.walk.specs.declared.pairs.Node.{Node}
 use Rattle.verdict.specs.Start.{actionAt, cutOf, Cuts, PlaceAt, Moved}
 use Rattle.verdict.specs.declared.start.Cut.{Cut}
+use Rattle.session.specs.Rows.{wordEntry, lengthAt}
 
 -- a place that is no nowhere is a state
 pub place-state : (s : ℕ) → (s ≡ 127 → ⊥) → place s ≡ some s
@@ -69,7 +69,7 @@ module _ (T : Tables) (v : Valid T) where
   module _ (c row : ℕ) (source target to : ℕ) (k : Cut) (here : PlaceAt (T .map .roots) c source)
       (goes : Moved (T .machines) rows row c to) (there : PlaceAt (T .map .roots) to target) (cuts : Cuts (T .queues) rows row k) where
     abbrev w : Walk
-    w = record { cut = k .cut; sum = T .queues .sum; word = row + 6; out = k .out; into = k .into; entry = false }
+    w = record { cut = k .cut; sum = T .queues .sum; word = wordEntry row; out = k .out; into = k .into; entry = false }
 
     abbrev x : Node
     x = record { side = k .side; source = source; target = target }
@@ -96,12 +96,12 @@ module _ (T : Tables) (v : Valid T) where
         judged-is (T .pool .arcs) (T .pool .finals) rows w S (over-session T sum-is) (pairOf x)
         ∙ ap (searchWalk S mostPairs) (sym (begun t e))
 
-    pub step-fits : (t : ℕ) → (source ≡ 127 → ⊥) → IsItem S (step c t (transitionAt rows row)) → getD rows (row + 5) 0 ≤ 4
+    pub step-fits : (t : ℕ) → (source ≡ 127 → ⊥) → IsItem S (step c t (transitionAt rows row)) → lengthAt rows row ≤ 4
         → ShownFits (T .pool .arcs) (T .pool .finals) rows w (pairOf x)
     step-fits t e item l =
         item-fits (T .pool .arcs) (T .pool .finals) rows w (pairOf x) S (over-session T sum-is) (well-formed T v) (v .pool .most)
         (step c t (transitionAt rows row)) item (begun t e)
-        (omega (arith, ap length (cuts .out), length-take (k .out) (drop (row + 6) rows), cuts .small .1))
+        (omega (arith, ap length (cuts .out), length-take (k .out) (drop (wordEntry row) rows), cuts .small .1))
 
   -- A BAD ENTRY
   module _ (control root source : ℕ) (here : PlaceAt (T .map .roots) control source) where

@@ -7,7 +7,6 @@ use mathlib.Core.List.{List, [], _∷_}
 use native.Mathlib.Omega.{arith}
 use native.Mathlib.Nat.{zero-add}
 use lib.ListN.{length, getElem?, take, drop}
-use Rattle.session.specs.Transitions.{rowLength}
 use Rattle.session.specs.Laws.Machines.{MachinesValid}
 use Rattle.session.specs.Laws.Transitions.{RowValid}
 use Rattle.session.specs.declared.kinds.ControlState.{ControlState}
@@ -30,6 +29,7 @@ use Rattle.verdict.specs.Laws.Turns.{transition-at, turn-skips, turn-pas
 use Rattle.walk.specs.declared.judge.Judged.{Judged}
 use Rattle.walk.specs.declared.judge.Judged.the-variants.{Passes, Fails}
 use Rattle.verdict.specs.declared.judged.Progress.the-variants.{Passed, Leaves}
+use Rattle.session.specs.Rows.{rowLength, rowsLength}
 
 module _ {T : Tables} {m : Machines} {q : Queues} {rows arcs finals roots : List ℕ} where
   pub fewer-parts : {count : ℕ} → Parts T m q rows arcs finals roots count → {less : ℕ} → less ≤ count → Parts T m q rows arcs finals roots less
@@ -75,8 +75,8 @@ module _ {m : Machines} {q : Queues} {rows arcs finals roots : List ℕ} {c coun
   pub machines-asked : MachinesValid m
   machines-asked = subst MachinesValid (a .parts .sameMachines) (a .parts .valid .machines)
 
-  pub rows-long : length rows ≡ 1280
-  rows-long = subst (λ l. length l ≡ 1280) (a .parts .sameRows) (a .parts .valid .transitions .long)
+  pub rows-long : length rows ≡ rowsLength
+  rows-long = subst (λ l. length l ≡ rowsLength) (a .parts .sameRows) (a .parts .valid .transitions .long)
 
   pub count-most : count ≤ 128
   count-most = omega (arith, a .parts .enough, a .parts .valid .transitions .most)

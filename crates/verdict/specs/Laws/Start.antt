@@ -14,25 +14,26 @@ use Rattle.session.specs.Laws.Queues.{QueuesValid, first-ascends}
 use Rattle.session.specs.declared.tables.Queues.{Queues}
 use Rattle.model.specs.Model.{Action, local, send, receive, firstOf}
 use Rattle.model.specs.Judge.{out, into, rootPair}
-use Rattle.meaning.specs.Tables.{actionOf, wordAt, rootOf}
+use Rattle.meaning.specs.Tables.{actionOf, rootOf}
 use Rattle.meaning.specs.Laws.Counts.{first-is}
 use Rattle.walk.specs.Pairs.{place, sideOf}
 use Rattle.walk.specs.Over.{wordOver}
 use Rattle.verdict.specs.Start.{actionAt, cutOf, Cuts, PlaceAt}
 use Rattle.verdict.specs.declared.start.Cut.{Cut}
+use Rattle.session.specs.Rows.{wordEntry, kindAt, queueAt, lengthAt, wordAt}
 
 module _ (q : Queues) (rows : List ℕ) (row : ℕ) where
   abbrev ns : List ℕ
   ns = take (q .count) (q .messages)
 
   abbrev queue : ℕ
-  queue = getD rows (row + 4) 0
+  queue = queueAt rows row
 
   abbrev of : ℕ → Action
   of k = actionOf k queue (wordAt rows row)
 
   -- a local step reads all after it
-  pub cuts-local : getD rows (row + 3) 0 ≡ 0 → Cuts q rows row (record { side = 16256; cut = 0; out = 0; into = 0 })
+  pub cuts-local : kindAt rows row ≡ 0 → Cuts q rows row (record { side = 16256; cut = 0; out = 0; into = 0 })
   cuts-local e =
       record {
         cut = sym (ap (λ k. cutOf ns (of k)) e);
@@ -43,7 +44,7 @@ module _ (q : Queues) (rows : List ℕ) (row : ℕ) where
         small = (omega arith, omega arith, omega arith);
       }
 
-  module _ (v : QueuesValid q) (h : queue < q .count) (length : ℕ) (l : length ≡ getD rows (row + 5) 0) where
+  module _ (v : QueuesValid q) (h : queue < q .count) (length : ℕ) (l : length ≡ lengthAt rows row) where
     -- the ends of the queue lie within the sum
     pub queue-within : Table.firstOf (q .messages) (suc queue) ≤ q .sum
     queue-within = omega (arith, first-ascends (q .messages) (suc queue) (q .count) h, v .sum)
@@ -51,11 +52,11 @@ module _ (q : Queues) (rows : List ℕ) (row : ℕ) where
     pub first-within : Table.firstOf (q .messages) queue ≤ q .sum
     first-within = omega (arith, first-ascends (q .messages) queue (q .count) (omega arith), v .sum)
 
-    word : wordOver rows (row + 6) length ≡ wordAt rows row
-    word = ap (wordOver rows (row + 6)) l
+    word : wordOver rows (wordEntry row) length ≡ wordAt rows row
+    word = ap (wordOver rows (wordEntry row)) l
 
     -- a send puts its word in after the messages of its queue
-    pub cuts-send : getD rows (row + 3) 0 ≡ 1 → (cut : ℕ) → cut ≡ Table.firstOf (q .messages) (suc queue)
+    pub cuts-send : kindAt rows row ≡ 1 → (cut : ℕ) → cut ≡ Table.firstOf (q .messages) (suc queue)
         → Cuts q rows row (record { side = 0; cut = cut; out = 0; into = length })
     cuts-send e cut c =
         record {
@@ -68,7 +69,7 @@ module _ (q : Queues) (rows : List ℕ) (row : ℕ) where
         }
 
     -- a receive takes its word out before the messages of its queue
-    pub cuts-receive : (getD rows (row + 3) 0 ≡ 0 → ⊥) → (getD rows (row + 3) 0 ≡ 1 → ⊥) → (cut : ℕ)
+    pub cuts-receive : (kindAt rows row ≡ 0 → ⊥) → (kindAt rows row ≡ 1 → ⊥) → (cut : ℕ)
         → cut ≡ Table.firstOf (q .messages) queue → Cuts q rows row (record { side = 0; cut = cut; out = length; into = 0 })
     cuts-receive x y cut c =
         record {
@@ -80,7 +81,7 @@ module _ (q : Queues) (rows : List ℕ) (row : ℕ) where
           small = (omega (arith, first-within), omega arith, omega arith);
         }
       where
-        e : getD rows (row + 3) 0 ≡ suc (suc (getD rows (row + 3) 0 - 2))
+        e : kindAt rows row ≡ suc (suc (kindAt rows row - 2))
         e = omega arith
 
 -- a root, or 127 where there is none

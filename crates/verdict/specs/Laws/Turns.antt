@@ -7,7 +7,6 @@ use mathlib.Core.List.{List, [], _∷_, _++_}
 use native.Mathlib.Omega.{arith}
 use native.Mathlib.Nat.{mul-le-mul}
 use lib.ListN.{getElem?}
-use Rattle.session.specs.Transitions.{rowLength}
 use Rattle.session.specs.Laws.Valid.{Valid}
 use Rattle.session.specs.declared.tables.Tables.{Tables}
 use Rattle.model.specs.Model.{Model, Transition, isAt, controls}
@@ -21,6 +20,7 @@ use Rattle.model.specs.Laws.Searches.{search-is}
 use Rattle.meaning.specs.Tables.{sessionOf, transitionAt, transitionsFrom}
 use Rattle.meaning.specs.Laws.Sessions.{well-formed}
 use Rattle.walk.specs.Pairs as Walk
+use Rattle.session.specs.Rows.{rowLength}
 
 -- transition i of a table
 pub transition-at : (rows : List ℕ) (left t i : ℕ) → i < left

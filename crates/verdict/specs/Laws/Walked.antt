@@ -8,7 +8,6 @@ use native.Mathlib.Omega.{arith}
 use native.Mathlib.Nat.{mul-le-mul}
 use lib.ListN.{length, getD, take, drop, length-append, length-drop}
 use lib.Seq.{drop-at}
-use Rattle.session.specs.Transitions.{rowLength}
 use Rattle.session.specs.declared.tables.Machines.{Machines}
 use Rattle.session.specs.declared.tables.Queues.{Queues}
 use Rattle.session.specs.declared.tables.Tables.{Tables}
@@ -39,6 +38,7 @@ use Rattle.verdict.specs.Judging.{pairsOf, Kept, Scratch, Judging, Parts
 use Rattle.verdict.specs.Laws.Turns.{judged-item, few-pairs}
 use Rattle.verdict.specs.Laws.Item.{step-nothing, step-judged, step-fits, entry-nothing, entry-judged, entry-fits}
 use Rattle.verdict.specs.declared.start.Cut.{Cut}
+use Rattle.session.specs.Rows.{rowLength, wordEntry, lengthAt}
 
 -- the front of the buffer is written, the rest is kept
 kept-front : (u contents contents′ : List ℕ) (n : ℕ) → n ≡ length u → contents′ ≡ u ++ drop (length u) contents
@@ -85,9 +85,9 @@ module _ {m : Machines} {q : Queues} {rows arcs finals roots : List ℕ} {c row 
   pub asked-queues : QueuesValid q
   asked-queues = subst QueuesValid (a .parts .sameQueues) (a .parts .valid .queues)
 
-  pub asked-long : row + 10 ≤ length rows
+  pub asked-long : row + rowLength ≤ length rows
   asked-long =
-      over-parts (λ m q rows arcs finals roots. row + 10 ≤ length rows) (a .parts)
+      over-parts (λ m q rows arcs finals roots. row + rowLength ≤ length rows) (a .parts)
       (omega (arith, a .place, a .parts .enough, a .parts .valid .transitions .most, a .parts .valid .transitions .long))
 
   pub asked-row : RowValid m q rows row
@@ -102,7 +102,7 @@ module _ {m : Machines} {q : Queues} {rows arcs finals roots : List ℕ} {c row 
 
 -- THE STEP: its walk and its first pair, as the code makes them
 abbrev pub walkOf : Queues → ℕ → Cut → Walk
-walkOf q row k = record { cut = k .cut; sum = q .sum; word = row + 6; out = k .out; into = k .into; entry = false }
+walkOf q row k = record { cut = k .cut; sum = q .sum; word = wordEntry row; out = k .out; into = k .into; entry = false }
 
 abbrev pub nodeOf : Cut → ℕ → ℕ → Node
 nodeOf k source target = record { side = k .side; source = source; target = target }
@@ -153,7 +153,7 @@ module _ {m : Machines} {q : Queues} {rows arcs finals roots : List ℕ} {c sour
     pub step-shown : ShownFits arcs finals rows (walkOf q row k) (pairOf (nodeOf k source target))
     step-shown =
         over-parts
-        (λ m q rows arcs finals roots. Begins m q rows roots c row source target k → getD rows (row + 5) 0 ≤ 4
+        (λ m q rows arcs finals roots. Begins m q rows roots c row source target k → lengthAt rows row ≤ 4
         → IsItem (sessionOf (a .whole)) (step c (a .number) (transitionAt rows row))
         → ShownFits arcs finals rows (walkOf q row k) (pairOf (nodeOf k source target)))
         (a .parts)
@@ -167,7 +167,7 @@ module _ {m : Machines} {q : Queues} {rows arcs finals roots : List ℕ} {c sour
     pub step-lent : Lent arcs rows (walkOf q row k)
     step-lent =
         over-parts
-        (λ m q rows arcs finals roots. Cuts q rows row k → RowValid m q rows row → row + 10 ≤ length rows → Lent arcs rows (walkOf q row k))
+        (λ m q rows arcs finals roots. Cuts q rows row k → RowValid m q rows row → row + rowLength ≤ length rows → Lent arcs rows (walkOf q row k))
         (a .parts)
         (λ cuts valid long.
         record {
@@ -179,8 +179,8 @@ module _ {m : Machines} {q : Queues} {rows arcs finals roots : List ℕ} {c sour
         })
         (b .cuts) (asked-row a) (asked-long a)
       where
-        word-in : {rs : List ℕ} (n : ℕ) → RowValid (a .whole .machines) (a .whole .queues) rs row → row + 10 ≤ length rs → n ≤ getD rs (row + 5) 0
-            → WordWithin rs (row + 6) n
+        word-in : {rs : List ℕ} (n : ℕ) → RowValid (a .whole .machines) (a .whole .queues) rs row → row + rowLength ≤ length rs → n ≤ lengthAt rs row
+            → WordWithin rs (wordEntry row) n
         word-in n valid long l =
             record {
               within = omega (arith, valid .action .most);

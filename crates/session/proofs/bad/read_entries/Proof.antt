@@ -14,7 +14,7 @@ use Rattle.numbers.proofs.number.read_two.Reads as read-two-reads
 use Rattle.numbers.proofs.number.wide.Reads as wide-reads
 
 abbrev Inv-loop : tie.InvT-loop
-Inv-loop s at product n count rows₀ place₀ b₀ rows place b = (readEntries s product n (count - b) b place rows ≡ readEntries s product n count 0 at rows₀) × (b ≤ count)
+Inv-loop s at product n count rows₀ place₀ b₀ rows place b = (readEntries s place product n (count - b) b rows ≡ readEntries s at product n count 0 rows₀) × (b ≤ count)
 
 abbrev μ-loop : tie.MeasureT-loop
 μ-loop s at product n count rows₀ place₀ b₀ rows place b = count - b

@@ -16,7 +16,7 @@ use Rattle.numbers.proofs.number.wide.Reads as wide-reads
 
 abbrev Inv-loop : tie.InvT-loop
 Inv-loop s at count sizes₀ product₀ place₀ i₀ sizes product place i =
-    (readSizes s (count - i) i place product sizes ≡ readSizes s count 0 at 1 sizes₀) × (i ≤ count) × (product ≤ 256)
+    (readSizes s place product (count - i) i sizes ≡ readSizes s at 1 count 0 sizes₀) × (i ≤ count) × (product ≤ 256)
 
 abbrev μ-loop : tie.MeasureT-loop
 μ-loop s at count sizes₀ product₀ place₀ i₀ sizes product place i = count - i

@@ -15,7 +15,7 @@ use Rattle.numbers.proofs.number.wide.Reads as wide-reads
 
 abbrev Inv-loop : tie.InvT-loop
 Inv-loop s at count starts₀ sizes place₀ i₀ starts place i =
-    (readStarts s sizes (count - i) i place starts ≡ readStarts s sizes count 0 at starts₀) × (i ≤ count)
+    (readStarts s place sizes (count - i) i starts ≡ readStarts s at sizes count 0 starts₀) × (i ≤ count)
 
 abbrev μ-loop : tie.MeasureT-loop
 μ-loop s at count starts₀ sizes place₀ i₀ starts place i = count - i

@@ -13,7 +13,7 @@ use Rattle.session.proofs.map.read_roots.Lts as lts
 use Rattle.numbers.proofs.number.read_within.Reads as read-within-reads
 
 abbrev Inv-loop : tie.InvT-loop
-Inv-loop s at n count roots₀ place₀ i₀ roots place i = (readRoots s n (count - i) i place roots ≡ readRoots s n count 0 at roots₀) × (i ≤ count)
+Inv-loop s at n count roots₀ place₀ i₀ roots place i = (readRoots s place n (count - i) i roots ≡ readRoots s at n count 0 roots₀) × (i ≤ count)
 
 abbrev μ-loop : tie.MeasureT-loop
 μ-loop s at n count roots₀ place₀ i₀ roots place i = count - i

@@ -15,7 +15,7 @@ use Rattle.numbers.proofs.number.wide.Reads as wide-reads
 use Rattle.session.proofs.pool.read_arc.Reads as read-arc-reads
 
 abbrev Inv-loop : tie.InvT-loop
-Inv-loop s at n sum row count arcs₀ place₀ least₀ i₀ arcs place least i = (readArcs s n sum row (count - i) place least arcs ≡ readArcs s n sum row count at 0 arcs₀) × (i ≤ count)
+Inv-loop s at n sum row count arcs₀ place₀ least₀ i₀ arcs place least i = (readArcs s place n sum least row (count - i) arcs ≡ readArcs s at n sum 0 row count arcs₀) × (i ≤ count)
 
 abbrev μ-loop : tie.MeasureT-loop
 μ-loop s at n sum row count arcs₀ place₀ least₀ i₀ arcs place least i = count - i

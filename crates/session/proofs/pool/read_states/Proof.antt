@@ -12,7 +12,7 @@ use Rattle.session.proofs.pool.read_states.Lts as lts
 use Rattle.session.proofs.pool.read_state.Reads as read-state-reads
 
 abbrev Inv-loop : tie.InvT-loop
-Inv-loop s at n sum finals₀ arcs₀ count place₀ i₀ finals arcs place i = (readStates s n sum (count - i) i place finals arcs ≡ readStates s n sum n 0 at finals₀ arcs₀) × (i ≤ count) × (count ≡ n)
+Inv-loop s at n sum finals₀ arcs₀ count place₀ i₀ finals arcs place i = (readStates s place n sum (count - i) i finals arcs ≡ readStates s at n sum n 0 finals₀ arcs₀) × (i ≤ count) × (count ≡ n)
 
 abbrev μ-loop : tie.MeasureT-loop
 μ-loop s at n sum finals₀ arcs₀ count place₀ i₀ finals arcs place i = count - i

@@ -15,7 +15,7 @@ use Rattle.session.proofs.queues.read_term.Reads as read-term-reads
 
 abbrev Inv-loop : tie.InvT-loop
 Inv-loop s at count counts₀ sum₀ place₀ i₀ counts sum place i =
-    (readCounts s (count - i) i place sum counts ≡ readCounts s count 0 at 0 counts₀) × (i ≤ count) × (sum ≤ 32)
+    (readCounts s place sum (count - i) i counts ≡ readCounts s at 0 count 0 counts₀) × (i ≤ count) × (sum ≤ 32)
 
 abbrev μ-loop : tie.MeasureT-loop
 μ-loop s at count counts₀ sum₀ place₀ i₀ counts sum place i = count - i

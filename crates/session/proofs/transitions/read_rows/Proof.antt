@@ -12,10 +12,10 @@ use Rattle.session.proofs.transitions.read_rows.Lts as lts
 use Rattle.session.proofs.transitions.read_transition.Reads as read-transition-reads
 
 abbrev Inv-loop : tie.InvT-loop
-Inv-loop s at count m q rows₀ place₀ t₀ rows place t = (readRows s m q (count - t) t place rows ≡ readRows s m q count 0 at rows₀) × (t ≤ count)
+Inv-loop s at m q count rows₀ place₀ t₀ rows place t = (readRows s place m q (count - t) t rows ≡ readRows s at m q count 0 rows₀) × (t ≤ count)
 
 abbrev μ-loop : tie.MeasureT-loop
-μ-loop s at count m q rows₀ place₀ t₀ rows place t = count - t
+μ-loop s at m q count rows₀ place₀ t₀ rows place t = count - t
 
 -- src/transitions.rt:122:5
 loop-holds : tie.Need-loop-holds Inv-loop μ-loop

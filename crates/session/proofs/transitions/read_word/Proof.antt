@@ -13,7 +13,7 @@ use Rattle.session.proofs.transitions.read_word.Lts as lts
 use Rattle.session.proofs.transitions.read_message.Reads as read-message-reads
 
 abbrev Inv-loop : tie.InvT-loop
-Inv-loop s at sum lo hi start end rows₀ place₀ j₀ rows place j = (readWord s sum lo hi (end - j) j place rows ≡ readWord s sum lo hi (end - start) start at rows₀) × (j ≤ end)
+Inv-loop s at sum lo hi start end rows₀ place₀ j₀ rows place j = (readWord s place sum lo hi (end - j) j rows ≡ readWord s at sum lo hi (end - start) start rows₀) × (j ≤ end)
 
 abbrev μ-loop : tie.MeasureT-loop
 μ-loop s at sum lo hi start end rows₀ place₀ j₀ rows place j = end - j
