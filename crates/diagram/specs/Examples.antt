@@ -7,10 +7,12 @@ use Rattle.session.specs.Machines.{readFactor, readSizes, readStarts, countedMa
 use Rattle.session.specs.Queues.{readTerm, readCounts, readQueues, firstOf}
 use Rattle.session.specs.Transitions.{readMessage, readWord, readAction, readTransition, readRows, readTransitions}
 use Rattle.session.specs.Pool.{readAscending, readArc, readArcs, readState, readStates, readPool}
-use Rattle.session.specs.Order.{lowest, lowests, arcsOrdered, statesOrdered, queuesOrdered, ordered, inQueueOrder}
+use Rattle.session.specs.Lowest.{lowest, lowests, arcsOrdered, statesOrdered, queuesOrdered, inQueueOrder}
 use Rattle.session.specs.Map.{readRoots, readMap}
 use Rattle.session.specs.Bad.{readEntries, readBad}
-use Rattle.session.specs.File.{fromBad, fromMap, fromPool, fromTransitions, fromQueues, fromMachines, readFile}
+use Rattle.session.specs.Model.{readModel}
+use Rattle.session.specs.Sets.{readSets}
+use Rattle.session.specs.File.{readFile}
 use Rattle.meaning.specs.Cases.{hex}
 use Rattle.diagram.specs.Member.{yes, no, refusal, judge, ask, memberOf}
 
@@ -37,12 +39,12 @@ pub replies :
     × (memberOf Rootless 0 [] ≡ no)
     × (memberOf Rootless 0 (1 ∷ 0 ∷ []) ≡ refusal 13 1)
 unfolding
-    memberOf ask judge readFile fromMachines fromQueues fromTransitions fromPool fromMap fromBad
+    memberOf ask judge readFile readModel readSets
     readNumber readWithin readBelow readTwo
     readFactor readSizes readStarts countedMachines readMachines
     readTerm readCounts readQueues firstOf
     readMessage readWord readAction readTransition readRows readTransitions
     readAscending readArc readArcs readState readStates readPool
-    lowest lowests arcsOrdered statesOrdered queuesOrdered ordered inQueueOrder
+    lowest lowests arcsOrdered statesOrdered queuesOrdered inQueueOrder
     readRoots readMap readEntries readBad
 replies = (refl, refl, refl, refl, refl, refl, refl, refl)

@@ -15,10 +15,12 @@ use Rattle.session.specs.Machines.{readFactor, readSizes, readStarts, countedMa
 use Rattle.session.specs.Queues.{readTerm, readCounts, readQueues, firstOf}
 use Rattle.session.specs.Transitions.{readMessage, readWord, readAction, readTransition, readRows, readTransitions}
 use Rattle.session.specs.Pool.{readAscending, readArc, readArcs, readState, readStates, readPool}
-use Rattle.session.specs.Order.{lowest, lowests, arcsOrdered, statesOrdered, queuesOrdered, ordered, inQueueOrder}
+use Rattle.session.specs.Lowest.{lowest, lowests, arcsOrdered, statesOrdered, queuesOrdered, inQueueOrder}
 use Rattle.session.specs.Map.{readRoots, readMap}
 use Rattle.session.specs.Bad.{readEntries, readBad}
-use Rattle.session.specs.File.{fromBad, fromMap, fromPool, fromTransitions, fromQueues, fromMachines, readFile}
+use Rattle.session.specs.Model.{readModel}
+use Rattle.session.specs.Sets.{readSets}
+use Rattle.session.specs.File.{readFile}
 use Rattle.session.specs.declared.tables.Tables.{Tables}
 use Rattle.model.specs.Model.{run}
 use Rattle.model.specs.Session.{inside}
@@ -143,15 +145,15 @@ pub record Computed : Type 0 where
 
 pub computed : Computed
 unfolding
-    replyOf readFile fromMachines fromQueues fromTransitions fromPool fromMap fromBad
+    replyOf readFile readModel readSets
     readNumber readWithin readBelow readTwo
-    readFactor readSizes readStarts readTerm readCounts
-    countedMachines readMachines readQueues firstOf
-    readMessage readWord readAction readArcs readTransition readRows
-    readTransitions readAscending readArc readState readStates readPool
-    queuesOrdered lowest lowests arcsOrdered statesOrdered ordered inQueueOrder
-    readRoots readMap decide readEntries
-    readBad judged judge look walked explore rounds expand fresh starts childrenFrom
+    readFactor readSizes readStarts countedMachines readMachines
+    readTerm readCounts readQueues firstOf
+    readMessage readWord readAction readTransition readRows readTransitions
+    readAscending readArc readArcs readState readStates readPool
+    lowest lowests arcsOrdered statesOrdered queuesOrdered inQueueOrder
+    readRoots readMap readEntries readBad
+    judged decide judge look walked explore rounds expand fresh starts childrenFrom
     line refusedLine digits spacedAll
 computed =
     record { lettered = refl; further = refl; a = refl; b = refl; b-run = refl; c = refl; f = refl; second = refl; second-run = refl }

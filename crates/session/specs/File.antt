@@ -8,49 +8,38 @@ use Rattle.numbers.specs.Limits.{mostBytes}
 use Rattle.session.specs.Limits.{mostMachines, mostControls, mostQueues, mostMessages, mostTransitions, mostPool, mostBad}
 use Rattle.numbers.specs.Part.{Part, got, refused, provided, andThen}
 use Rattle.session.specs.Said.{Reply, saidAnswer, read, refusal}
-use Rattle.session.specs.Machines.{readMachines}
-use Rattle.session.specs.Queues.{readQueues}
-use Rattle.session.specs.Transitions.{readTransitions}
-use Rattle.session.specs.Pool.{readPool}
-use Rattle.session.specs.Order.{inQueueOrder}
-use Rattle.session.specs.Map.{readMap}
-use Rattle.session.specs.Bad.{readBad}
-use Rattle.session.specs.declared.tables.Machines.{Machines}
-use Rattle.session.specs.declared.tables.Queues.{Queues}
-use Rattle.session.specs.declared.tables.Transitions.{Transitions}
+use Rattle.session.specs.Model.{readModel}
+use Rattle.session.specs.Pool.{poolArcs, readPool}
+use Rattle.session.specs.Lowest.{inQueueOrder}
+use Rattle.session.specs.Sets.{readSets}
+use Rattle.session.specs.declared.tables.ModelTables.{ModelTables}
 use Rattle.session.specs.declared.tables.Pool.{Pool}
-use Rattle.session.specs.declared.tables.Map.{Map}
+use Rattle.session.specs.declared.tables.SetTables.{SetTables}
 use Rattle.session.specs.declared.tables.Tables.{Tables}
 use Rattle.session.specs.declared.reading.Reading.{Reading}
 use Rattle.session.specs.Rows.{rowLength}
 
--- field 6, and nothing after it
-unfoldable pub fromBad : List ℕ → ℕ → Machines → Queues → Transitions → Pool → Map → Part Tables
-fromBad s at m q τ P R =
-    andThen (readBad s at (m .product) (P .count)) (λ B next.
-    provided (leb (length s) next) 10 next
-    (got (record { machines = m; queues = q; transitions = τ; pool = P; map = R; bad = B }) next))
+-- the tables of a model, a pool and sets over it
+abbrev pub joined : ModelTables → Pool → SetTables → Tables
+joined M P D =
+    record {
+      machines = M .machines;
+      queues = M .queues;
+      transitions = M .transitions;
+      pool = P;
+      map = D .map;
+      bad = D .bad;
+    }
 
-unfoldable pub fromMap : List ℕ → ℕ → Machines → Queues → Transitions → Pool → Part Tables
-fromMap s at m q τ P = andThen (readMap s at (m .product) (P .count)) (λ R next. fromBad s next m q τ P R)
-
--- field 4, and after it the test of queue order
-unfoldable pub fromPool : List ℕ → ℕ → Machines → Queues → Transitions → Part Tables
-fromPool s at m q τ =
-    andThen (readPool s at (q .sum)) (λ P next. provided (inQueueOrder q P) 9 next (fromMap s next m q τ P))
-
-unfoldable pub fromTransitions : List ℕ → ℕ → Machines → Queues → Part Tables
-fromTransitions s at m q = andThen (readTransitions s at m q) (λ τ next. fromPool s next m q τ)
-
-unfoldable pub fromQueues : List ℕ → ℕ → Machines → Part Tables
-fromQueues s at m = andThen (readQueues s at) (λ q next. fromTransitions s next m q)
-
-unfoldable pub fromMachines : List ℕ → Part Tables
-fromMachines s = andThen (readMachines s 0) (λ m next. fromQueues s next m)
-
--- READING: the tables, or the refusal
+-- READING: the tables, or the refusal. Fields 1 to 3; field 4, and the test of queue order; fields 5 and 6, and nothing after them
 unfoldable pub readFile : List ℕ → Part Tables
-readFile s = provided (leb (length s) mostBytes) 1 mostBytes (fromMachines s)
+readFile s =
+    provided (leb (length s) mostBytes) 1 mostBytes
+    (andThen (readModel s 0) (λ M p₁.
+    andThen (readPool s p₁ (M .queues .sum)) (λ P p₂.
+    provided (inQueueOrder (M .queues) P) 9 p₂
+    (andThen (readSets s p₂ (M .machines .product) (P .count)) (λ D p₃.
+    provided (leb (length s) p₃) 10 p₃ (got (joined M P D) p₃))))))
 
 -- the tables of no file: all entries 0
 abbrev pub empty : Tables
@@ -64,7 +53,7 @@ empty =
           record {
             count = 0;
             finals = replicate mostPool 0;
-            arcs = replicate (mostPool * mostMessages) 0;
+            arcs = replicate poolArcs 0;
           };
       map = record { roots = replicate mostControls 0 };
       bad = record { count = 0; rows = replicate (mostBad * 2) 0 };

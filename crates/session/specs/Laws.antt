@@ -1,6 +1,6 @@
 -- The laws of what was read, each proved once from the definition.
 pub mod Ranges
-pub mod Lowest
+pub mod Testing
 pub mod Machines
 pub mod Queues
 pub mod Map

@@ -7,7 +7,10 @@ pub mod Rows
 pub mod Transitions
 pub mod Pool
 pub mod Order
+pub mod Lowest
 pub mod Map
 pub mod Bad
+pub mod Model
+pub mod Sets
 pub mod File
 pub mod Laws

@@ -1,57 +1,14 @@
--- Queue order (document 01, "Diagrams"): no state has an arc in for a message of some queue and an arc out for a message of an
--- earlier queue. The messages before a queue are those below its first.
-use Prim.Native.Nat.{ℕ, zero, suc, _+_, _*_}
-use mathlib.Core.List.{List}
-use mathlib.Core.Bool.{Bool, true, false, cond}
-use mathlib.Core.Option.{none, some}
-use lib.ListN.{getD, set, replicate}
-use lib.Dec.{leb}
-use Rattle.session.specs.Limits.{mostPool}
+-- Queue order (document 01, "Diagrams").
+use Prim.Native.Nat.{ℕ, _≤_}
+use mathlib.Core.Path.{_≡_}
+use mathlib.Core.Option.{some}
+use Rattle.session.specs.Queues.{OfQueue}
 use Rattle.session.specs.Pool.{arcAt}
 use Rattle.session.specs.declared.tables.Queues.{Queues}
 use Rattle.session.specs.declared.tables.Pool.{Pool}
 
--- the lowest message from m on for which state s has an arc; m itself where none is left
-unfoldable pub lowest : List ℕ → ℕ → ℕ → ℕ → ℕ
-lowest arcs s zero m = m
-lowest arcs s (suc left) m = elim (arcAt arcs s m) [ none ↦ lowest arcs s left (m + 1) | some t ↦ m ]
-
--- of the states from s on, the lowest message that each has an arc for
-unfoldable pub lowests : List ℕ → ℕ → ℕ → ℕ → List ℕ → List ℕ
-lowests arcs sum zero s lows = lows
-lowests arcs sum (suc left) s lows = lowests arcs sum left (s + 1) (set lows s (lowest arcs s sum 0))
-
--- of state s, the arcs for messages from m on lead to states with no arc for a message below first
-unfoldable pub arcsOrdered : List ℕ → List ℕ → ℕ → ℕ → ℕ → ℕ → Bool
-arcsOrdered arcs lows first s zero m = true
-arcsOrdered arcs lows first s (suc left) m =
-    elim (arcAt arcs s m) [
-      | none ↦ arcsOrdered arcs lows first s left (m + 1)
-      | some t ↦ elim (leb first (getD lows t 0)) [ true ↦ arcsOrdered arcs lows first s left (m + 1) | false ↦ false ]
-    ]
-
--- the same of the states from s on, for the messages of one queue
-unfoldable pub statesOrdered : List ℕ → List ℕ → ℕ → ℕ → ℕ → ℕ → Bool
-statesOrdered arcs lows first width zero s = true
-statesOrdered arcs lows first width (suc left) s =
-    elim (arcsOrdered arcs lows first s width first) [
-      | true ↦ statesOrdered arcs lows first width left (s + 1)
-      | false ↦ false
-    ]
-
--- the same for each queue from number q on, whose first message is first
-unfoldable pub queuesOrdered : List ℕ → List ℕ → ℕ → List ℕ → ℕ → ℕ → ℕ → Bool
-queuesOrdered arcs lows n counts zero q first = true
-queuesOrdered arcs lows n counts (suc left) q first =
-    elim (statesOrdered arcs lows first (getD counts q 0) n 0) [
-      | true ↦ queuesOrdered arcs lows n counts left (q + 1) (first + getD counts q 0)
-      | false ↦ false
-    ]
-
--- the test of n states with these arcs
-unfoldable pub ordered : Queues → ℕ → List ℕ → Bool
-ordered q n arcs =
-    queuesOrdered arcs (lowests arcs (q .sum) n 0 (replicate mostPool 0)) n (q .messages) (q .count) 0 0
-
-unfoldable pub inQueueOrder : Queues → Pool → Bool
-inQueueOrder q P = ordered q (P .count) (P .arcs)
+-- THE POOL IS IN QUEUE ORDER: no state has an arc in for a message of some queue and an arc out for a message of an earlier one. State t
+-- has the arc in, from s for message a of queue p, and the arc out, for message b of queue r.
+abbrev pub QueueOrdered : Queues → Pool → Type 0
+QueueOrdered q P =
+    (s t u a b p r : ℕ) → OfQueue q p a → OfQueue q r b → arcAt (P .arcs) s a ≡ some t → arcAt (P .arcs) t b ≡ some u → p ≤ r

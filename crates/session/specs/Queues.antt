@@ -1,5 +1,5 @@
 -- Field 2: the queues and their messages, which are numbered through the queues.
-use Prim.Native.Nat.{ℕ, zero, suc, _+_}
+use Prim.Native.Nat.{ℕ, zero, suc, _+_, _≤_, _<_}
 use mathlib.Core.List.{List, [], _∷_}
 use mathlib.Core.Path.{_≡_}
 use lib.ListN.{getD, set, replicate}
@@ -36,3 +36,9 @@ firstOf counts (suc q) = firstOf counts q + getD counts q 0
 pub record Spans (counts : List ℕ) (q : ℕ) (r : Span) : Type 0 where
   pub lo : r .lo ≡ firstOf counts q
   pub hi : r .hi ≡ firstOf counts (suc q)
+
+-- message m is of queue p
+pub record OfQueue (q : Queues) (p m : ℕ) : Type 0 where
+  pub queue : p < q .count
+  pub from : firstOf (q .messages) p ≤ m
+  pub below : m < firstOf (q .messages) (suc p)

@@ -4,6 +4,7 @@ use crate::kinds::Message;
 use crate::pool::Arc;
 use crate::pool::arc_of;
 use crate::tables::MOST_QUEUES;
+use crate::tables::Pool;
 use crate::tables::Queues;
 use numbers::number::entry;
 use numbers::number::wide;
@@ -11,7 +12,7 @@ ghost use mathlib.Core.Path.{_≡_};
 ghost use Prim.Native.Nat.{_-_, _≤_};
 ghost use Rattle.session.specs.Limits.{mostPool, mostQueues, mostMessages};
 ghost use Rattle.session.specs.Queues.{firstOf};
-ghost use Rattle.session.specs.Order.{lowest, lowests, arcsOrdered, statesOrdered, queuesOrdered, ordered};
+ghost use Rattle.session.specs.Lowest.{lowest, lowests, arcsOrdered, statesOrdered, queuesOrdered, inQueueOrder};
 
 // The lowest message that a state has an arc for, or the sum.
 fn lowest_of(arcs: &[u8], s: u8, sum: u8) -> u8
@@ -97,14 +98,16 @@ fn queues_ordered(
     true
 }
 
-pub fn in_queue_order(arcs: &[u8], n: u8, q: Queues) -> bool
-    requires { ⌜ n ≤ mostPool ⌝ }
+// THE TEST OF QUEUE ORDER.
+pub fn in_queue_order(q: Queues, pool: Pool) -> bool
+    requires { ⌜ pool .count ≤ mostPool ⌝ }
     requires { ⌜ q .count ≤ mostQueues ⌝ }
     requires { ⌜ firstOf (q .messages) (q .count) ≤ mostMessages ⌝ }
-    ensures { λ r. ⌜ r ≡ ordered q n (now (arcs .entry)) ⌝ }
+    ensures { λ r. ⌜ r ≡ inQueueOrder q pool ⌝ }
 {
-    let mut lows = [0u8; DiagramState::LIMIT];
-    fill_lowest(arcs, n, q.sum, &mut lows);
+    let arcs = pool.arcs;
     let messages = q.messages;
-    queues_ordered(arcs, &lows, n, messages, q.count)
+    let mut lows = [0u8; DiagramState::LIMIT];
+    fill_lowest(&arcs, pool.count, q.sum, &mut lows);
+    queues_ordered(&arcs, &lows, pool.count, messages, q.count)
 }

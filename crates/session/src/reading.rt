@@ -1,12 +1,10 @@
 // Reading: from the bytes of a session file to its tables, or to a refusal with its place. Field after field; the bytes are
 // not copied.
-use crate::bad::read_bad;
 use crate::kinds::DiagramState;
-use crate::machines::read_machines;
-use crate::map::read_map;
+use crate::model::read_model;
 use crate::order::in_queue_order;
 use crate::pool::read_pool;
-use crate::queues::read_queues;
+use crate::sets::read_sets;
 use crate::tables::BadList;
 use crate::tables::ENTRIES;
 use crate::tables::MOST_CONTROLS;
@@ -14,22 +12,22 @@ use crate::tables::MOST_MACHINES;
 use crate::tables::MOST_QUEUES;
 use crate::tables::Machines;
 use crate::tables::Map;
+use crate::tables::ModelTables;
 use crate::tables::POOL_ARCS;
 use crate::tables::Pool;
 use crate::tables::Queues;
 use crate::tables::ROWS;
+use crate::tables::SetTables;
 use crate::tables::Tables;
 use crate::tables::Transitions;
-use crate::transitions::read_transitions;
 use numbers::number::Filled;
 use numbers::refusal::MOST_BYTES;
 use numbers::refusal::Refusal;
-ghost use Prim.Native.Nat.{_≤_};
+ghost use mathlib.Core.Path.{_≡_};
 ghost use Rattle.numbers.specs.Part.{refused};
 ghost use Rattle.numbers.specs.Said.{numberOf, placeOf};
-ghost use Rattle.session.specs.Limits.{mostControls, mostQueues, mostMessages};
-ghost use Rattle.session.specs.Queues.{firstOf};
-ghost use Rattle.session.specs.File.{Reads, fromBad, fromMap, fromPool, fromTransitions, fromQueues, readFile};
+ghost use Rattle.session.specs.Said.{read, saidAnswer};
+ghost use Rattle.session.specs.File.{Reads, readFile, joined};
 
 pub enum Answer {
     Read,
@@ -40,6 +38,28 @@ pub enum Answer {
 pub struct Reading {
     pub answer: Answer,
     pub tables: Tables,
+}
+
+// The tables of a model, a pool and sets over it.
+fn joined(model: ModelTables, pool: Pool, sets: SetTables) -> Reading
+    ensures { λ r. ⌜ (saidAnswer (r .answer) ≡ read) × (r .tables ≡ joined model pool sets) ⌝ }
+{
+    let machines = model.machines;
+    let queues = model.queues;
+    let transitions = model.transitions;
+    let map = sets.map;
+    let bad = sets.bad;
+    Reading {
+        answer: Answer::Read,
+        tables: Tables {
+            machines,
+            queues,
+            transitions,
+            pool,
+            map,
+            bad,
+        },
+    }
 }
 
 fn refused(why: Refusal) -> Reading
@@ -79,100 +99,6 @@ fn refused(why: Refusal) -> Reading
     }
 }
 
-fn from_bad(s: &[u8], at: usize, m: Machines, q: Queues, t: Transitions, p: Pool, r: Map) -> Reading
-    requires { ⌜ m .product ≤ mostControls ⌝ }
-    ensures { λ x. ⌜ Reads (fromBad (now (s .entry)) at m q t p r) x ⌝ }
-{
-    let read = read_bad(s, at, m.product, p.count);
-    let filled = read.filled;
-    match filled {
-        Filled::Refused(why) => refused(why),
-        Filled::To(next) => {
-            if next < s.len() {
-                return refused(Refusal::Trailing(next));
-            }
-            let bad = read.bad;
-            Reading {
-                answer: Answer::Read,
-                tables: Tables {
-                    machines: m,
-                    queues: q,
-                    transitions: t,
-                    pool: p,
-                    map: r,
-                    bad,
-                },
-            }
-        }
-    }
-}
-
-fn from_map(s: &[u8], at: usize, m: Machines, q: Queues, t: Transitions, p: Pool) -> Reading
-    requires { ⌜ m .product ≤ mostControls ⌝ }
-    ensures { λ x. ⌜ Reads (fromMap (now (s .entry)) at m q t p) x ⌝ }
-{
-    let read = read_map(s, at, m.product, p.count);
-    let filled = read.filled;
-    match filled {
-        Filled::Refused(why) => refused(why),
-        Filled::To(next) => {
-            let map = read.map;
-            from_bad(s, next, m, q, t, p, map)
-        }
-    }
-}
-
-fn from_pool(s: &[u8], at: usize, m: Machines, q: Queues, t: Transitions) -> Reading
-    requires { ⌜ m .product ≤ mostControls ⌝ }
-    requires { ⌜ (q .count ≤ mostQueues) × (q .sum ≤ mostMessages) × (firstOf (q .messages) (q .count) ≤ mostMessages) ⌝ }
-    ensures { λ x. ⌜ Reads (fromPool (now (s .entry)) at m q t) x ⌝ }
-{
-    let read = read_pool(s, at, q.sum);
-    let filled = read.filled;
-    match filled {
-        Filled::Refused(why) => refused(why),
-        Filled::To(next) => {
-            let pool = read.pool;
-            let arcs = pool.arcs;
-            if !in_queue_order(&arcs, pool.count, q) {
-                return refused(Refusal::NotInQueueOrder(next));
-            }
-            from_map(s, next, m, q, t, pool)
-        }
-    }
-}
-
-fn from_transitions(s: &[u8], at: usize, m: Machines, q: Queues) -> Reading
-    requires { ⌜ m .product ≤ mostControls ⌝ }
-    requires { ⌜ (q .count ≤ mostQueues) × (q .sum ≤ mostMessages) × (firstOf (q .messages) (q .count) ≤ mostMessages) ⌝ }
-    ensures { λ x. ⌜ Reads (fromTransitions (now (s .entry)) at m q) x ⌝ }
-{
-    let read = read_transitions(s, at, m, q);
-    let filled = read.filled;
-    match filled {
-        Filled::Refused(why) => refused(why),
-        Filled::To(next) => {
-            let transitions = read.transitions;
-            from_pool(s, next, m, q, transitions)
-        }
-    }
-}
-
-fn from_queues(s: &[u8], at: usize, m: Machines) -> Reading
-    requires { ⌜ m .product ≤ mostControls ⌝ }
-    ensures { λ x. ⌜ Reads (fromQueues (now (s .entry)) at m) x ⌝ }
-{
-    let read = read_queues(s, at);
-    let filled = read.filled;
-    match filled {
-        Filled::Refused(why) => refused(why),
-        Filled::To(next) => {
-            let queues = read.queues;
-            from_transitions(s, next, m, queues)
-        }
-    }
-}
-
 // The tables of a session file, or why it is refused.
 pub fn read(s: &[u8]) -> Reading
     ensures { λ x. ⌜ Reads (readFile (now (s .entry))) x ⌝ }
@@ -180,13 +106,37 @@ pub fn read(s: &[u8]) -> Reading
     if MOST_BYTES < s.len() {
         return refused(Refusal::TooLong);
     }
-    let read = read_machines(s, 0);
-    let filled = read.filled;
-    match filled {
+    let first = read_model(s, 0);
+    let after_model = first.filled;
+    match after_model {
         Filled::Refused(why) => refused(why),
-        Filled::To(next) => {
-            let machines = read.machines;
-            from_queues(s, next, machines)
+        Filled::To(p1) => {
+            let model = first.model;
+            let queues = model.queues;
+            let second = read_pool(s, p1, queues.sum);
+            let after_pool = second.filled;
+            match after_pool {
+                Filled::Refused(why) => refused(why),
+                Filled::To(p2) => {
+                    let pool = second.pool;
+                    if !in_queue_order(queues, pool) {
+                        return refused(Refusal::NotInQueueOrder(p2));
+                    }
+                    let machines = model.machines;
+                    let third = read_sets(s, p2, machines.product, pool.count);
+                    let after_sets = third.filled;
+                    match after_sets {
+                        Filled::Refused(why) => refused(why),
+                        Filled::To(p3) => {
+                            if p3 < s.len() {
+                                return refused(Refusal::Trailing(p3));
+                            }
+                            let sets = third.sets;
+                            joined(model, pool, sets)
+                        }
+                    }
+                }
+            }
         }
     }
 }

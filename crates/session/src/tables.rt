@@ -81,6 +81,19 @@ pub struct BadList {
     pub rows: [u8; ENTRIES],
 }
 
+// Fields 1 to 3: what moves.
+pub struct ModelTables {
+    pub machines: Machines,
+    pub queues: Queues,
+    pub transitions: Transitions,
+}
+
+// Fields 5 and 6: which diagrams stand for which control states.
+pub struct SetTables {
+    pub map: Map,
+    pub bad: BadList,
+}
+
 pub struct Tables {
     pub machines: Machines,
     pub queues: Queues,

@@ -12,7 +12,8 @@ use Rattle.numbers.specs.Limits.{mostBytes}
 use Rattle.numbers.specs.Part.{Part, got, provided}
 use Rattle.numbers.specs.Part as Part
 use Rattle.numbers.specs.Laws.Parts.{not-refused}
-use Rattle.session.specs.File.{fromMachines, readFile}
+use Rattle.session.specs.File.{readFile}
+use Rattle.session.specs.Laws.Fields.{parts, file-is}
 use Rattle.session.specs.Laws.Refusals.{refusal-number}
 use Rattle.session.specs.Laws.Valid.{Valid, valid}
 use Rattle.session.specs.declared.tables.Tables.{Tables}
@@ -39,10 +40,12 @@ module _ (file seen queue contents : List ℕ) where
 
   -- ELSE THE FILE
   pub lent-enough : enough seen queue contents ≡ true → readLent file seen queue contents ≡ readFile file
-  unfolding readLent readFile
-  lent-enough e = rw e (again (leb (length file) mostBytes))
+  unfolding readLent
+  lent-enough e =
+      rw e
+      (ap (provided (leb (length file) mostBytes) 1 mostBytes) (file-is file) ∙ again (leb (length file) mostBytes) ∙ sym (file-is file))
     where
-      again : (b : Bool) → provided b 1 mostBytes (provided b 1 mostBytes (fromMachines file)) ≡ provided b 1 mostBytes (fromMachines file)
+      again : (b : Bool) → provided b 1 mostBytes (provided b 1 mostBytes (parts file)) ≡ provided b 1 mostBytes (parts file)
       again true = refl
       again false = refl
 

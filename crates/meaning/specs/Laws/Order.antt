@@ -9,10 +9,11 @@ use lib.Dec.{ltb}
 use borrow.Author.Tests.{ltb-true}
 use native.Mathlib.Omega.{arith}
 use Rattle.session.specs.Limits.{mostMessages}
+use Rattle.session.specs.Queues.{OfQueue}
 use Rattle.session.specs.Pool.{arcAt}
-use Rattle.session.specs.Laws.Queues.{QueuesValid, OfQueue, below-sum-of-queue}
+use Rattle.session.specs.Laws.Queues.{QueuesValid, below-sum-of-queue}
 use Rattle.session.specs.Laws.Pool.{PoolValid, ArcValid, arc-valid}
-use Rattle.session.specs.Laws.Order.{QueueOrdered}
+use Rattle.session.specs.Order.{QueueOrdered}
 use Rattle.session.specs.declared.tables.Queues.{Queues}
 use Rattle.session.specs.declared.tables.Pool as Declared
 use Rattle.model.specs.Model.{queueOf, total}

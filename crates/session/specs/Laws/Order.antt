@@ -1,4 +1,4 @@
--- Queue order in document 01's own words, and that the test of it is right.
+-- The test of queue order is right: it holds exactly if no arc leads back to an earlier queue.
 use Prim.Native.Nat.{ℕ, zero, suc, _+_, _≤_, _<_}
 use mathlib.Core.Path.{_≡_, refl, sym, ap, _∙_}
 use mathlib.Core.Logic.{_↔_}
@@ -12,19 +12,15 @@ use borrow.Author.Tests.{leb-true, leb-false, le-leb, ltb-true, ltb-false}
 use native.Mathlib.Omega.{arith}
 use native.Mathlib.Numerals.{add-one}
 use Rattle.session.specs.Limits.{mostPool}
-use Rattle.session.specs.Queues.{firstOf}
+use Rattle.session.specs.Queues.{firstOf, OfQueue}
 use Rattle.session.specs.Pool.{arcAt}
-use Rattle.session.specs.Order.{lowest, lowests, arcsOrdered, statesOrdered, queuesOrdered, ordered, inQueueOrder}
+use Rattle.session.specs.Lowest.{lowest, lowests, arcsOrdered, statesOrdered, queuesOrdered, inQueueOrder}
+use Rattle.session.specs.Order.{QueueOrdered}
 use Rattle.numbers.specs.Laws.Written.{at-or-other}
-use Rattle.session.specs.Laws.Queues.{OfQueue, QueuesValid, first-ascends, of-queue-below-sum, below-sum-of-queue}
+use Rattle.session.specs.Laws.Queues.{QueuesValid, first-ascends, of-queue-below-sum, below-sum-of-queue}
 use Rattle.session.specs.Laws.Pool.{PoolValid, arc-valid}
 use Rattle.session.specs.declared.tables.Queues.{Queues}
 use Rattle.session.specs.declared.tables.Pool.{Pool}
-
--- no state has an arc in for a message of some queue and an arc out for a message of an earlier one
-abbrev pub QueueOrdered : Queues → Pool → Type 0
-QueueOrdered q P =
-    (s t u a b p r : ℕ) → OfQueue q p a → OfQueue q r b → arcAt (P .arcs) s a ≡ some t → arcAt (P .arcs) t b ≡ some u → p ≤ r
 
 -- go on with b if the test holds
 abbrev ifHolds : Bool → Bool → Bool
@@ -150,7 +146,7 @@ module _ (q : Queues) (P : Pool) (queues : QueuesValid q) (pool : PoolValid (q .
       lows-hold (P .arcs) (q .sum) (P .count) 0 (replicate mostPool 0) t (omega (arith, pool .most)) (omega arith) (omega arith)
 
   test-leads : inQueueOrder q P ≡ true → Leads q P
-  unfolding inQueueOrder ordered firstOf
+  unfolding inQueueOrder firstOf
   test-leads e p s a t o f =
       let v = arc-valid s a pool (omega (arith, of-queue-below-sum q p a queues o, queues .sumMost)) f in
       let first = firstOf (q .messages) p in
@@ -163,7 +159,7 @@ module _ (q : Queues) (P : Pool) (queues : QueuesValid q) (pool : PoolValid (q .
       omega (arith, leb-true first (getD lows t 0) e₄, low-is t (v .to))
 
   leads-test : Leads q P → inQueueOrder q P ≡ true
-  unfolding inQueueOrder ordered firstOf
+  unfolding inQueueOrder firstOf
   leads-test leads =
       holds-asks (queues-asks (P .arcs) (lowsOf q P) (P .count) (q .messages)) (q .count) 0
       (λ p _ hp.

@@ -19,6 +19,8 @@ use Rattle.session.specs.Map.{readRoots, readMap}
 use Rattle.session.specs.Bad.{readEntries, readBad}
 use Rattle.numbers.specs.Laws.Ranges.{below-number, within-number}
 use Rattle.numbers.specs.Laws.Rounds.{Rounds}
+use Rattle.session.specs.Model.{readModel}
+use Rattle.session.specs.Sets.{readSets}
 use Rattle.session.specs.Laws.Machines.{sizes-rounds, starts-rounds}
 use Rattle.session.specs.Laws.Queues.{counts-rounds}
 use Rattle.session.specs.Laws.Transitions.{word-rounds, rows-rounds}
@@ -37,7 +39,7 @@ module _ (s : List ℕ) where
       tested-fair s at (readWithin s at 1 mostStates) (λ v. leb (product * v) mostControls) 6 (omega arith) (omega arith) h
       (λ v next e. within-number s at 1 mostStates e) (within-fair s at 1 mostStates h)
 
-  pub machines-fair : (at : ℕ) → at ≤ length s → Fair s 8 at (readMachines s at)
+  machines-fair : (at : ℕ) → at ≤ length s → Fair s 8 at (readMachines s at)
   unfolding readMachines countedMachines
   machines-fair at h =
       fair-then s 8 at (readWithin s at 1 mostMachines) _ (within-fair s at 1 mostMachines h) (λ count p h₁.
@@ -55,7 +57,7 @@ module _ (s : List ℕ) where
       tested-fair s at (readWithin s at 1 mostMessages) (λ v. leb (sum + v) mostMessages) 6 (omega arith) (omega arith) h
       (λ v next e. within-number s at 1 mostMessages e) (within-fair s at 1 mostMessages h)
 
-  pub queues-fair : (at : ℕ) → at ≤ length s → Fair s 8 at (readQueues s at)
+  queues-fair : (at : ℕ) → at ≤ length s → Fair s 8 at (readQueues s at)
   unfolding readQueues
   queues-fair at h =
       fair-then s 8 at (readWithin s at 1 mostQueues) _ (within-fair s at 1 mostQueues h) (λ count p₁ h₁.
@@ -91,7 +93,7 @@ module _ (s : List ℕ) where
       fair-cond s 8 p₃ (eqb kind 0) (got _ p₃) (readAction s p₃ q row _) (omega arith, h₃)
       (action-fair q row p₃ (set (set (set (set rows row machine) (fromEntry row) (move .0)) (toEntry row) (move .1)) (kindEntry row) kind) h₃))))
 
-  pub transitions-fair : (m : Machines) (q : Queues) (at : ℕ) → at ≤ length s → Fair s 8 at (readTransitions s at m q)
+  transitions-fair : (m : Machines) (q : Queues) (at : ℕ) → at ≤ length s → Fair s 8 at (readTransitions s at m q)
   unfolding readTransitions
   transitions-fair m q at h =
       fair-then s 8 at (readWithin s at 0 mostTransitions) _ (within-fair s at 0 mostTransitions h) (λ count p₁ h₁.
@@ -100,6 +102,14 @@ module _ (s : List ℕ) where
       (rounds-fair s 8 (rows-rounds s m q) (λ t at′ x h′. transition-fair m q (t * rowLength) at′ x h′) count 0 p₁
       (replicate (rowsLength) 0) h₁)
       (λ rows p₂ h₂. (omega arith, h₂)))
+
+  pub model-fair : (at : ℕ) → at ≤ length s → Fair s 8 at (readModel s at)
+  unfolding readModel
+  model-fair at h =
+      fair-then s 8 at (readMachines s at) _ (machines-fair at h) (λ m p₁ h₁.
+      fair-then s 8 p₁ (readQueues s p₁) _ (queues-fair p₁ h₁) (λ q p₂ h₂.
+      fair-then s 8 p₂ (readTransitions s p₂ m q) (λ τ p₃. got (record { machines = m; queues = q; transitions = τ }) p₃)
+      (transitions-fair m q p₂ h₂) (λ τ p₃ h₃. (omega arith, h₃))))
 
   arc-fair : (at n sum least : ℕ) → at ≤ length s → Fair s 8 at (readArc s at n sum least)
   unfolding readArc readAscending
@@ -135,14 +145,14 @@ module _ (s : List ℕ) where
       (replicate mostPool 0, replicate (mostPool * mostMessages) 0) h₁)
       (λ states p₂ h₂. (omega arith, h₂)))
 
-  pub map-fair : (product n at : ℕ) → at ≤ length s → Fair s 8 at (readMap s at product n)
+  map-fair : (product n at : ℕ) → at ≤ length s → Fair s 8 at (readMap s at product n)
   unfolding readMap
   map-fair product n at h =
       fair-then s 8 at (readRoots s at n product 0 (replicate mostControls 0)) (λ roots next. got (record { roots = roots }) next)
       (rounds-fair s 8 (roots-rounds s n) (λ i at′ x h′. within-fair s at′ 0 n h′) product 0 at (replicate mostControls 0) h)
       (λ roots next h₁. (omega arith, h₁))
 
-  pub bad-fair : (product n at : ℕ) → at ≤ length s → Fair s 8 at (readBad s at product n)
+  bad-fair : (product n at : ℕ) → at ≤ length s → Fair s 8 at (readBad s at product n)
   unfolding readBad
   bad-fair product n at h =
       fair-then s 8 at (readWithin s at 0 mostBad) _ (within-fair s at 0 mostBad h) (λ count p₁ h₁.
@@ -150,3 +160,10 @@ module _ (s : List ℕ) where
       (λ rows p₂. got (record { count = count; rows = rows }) p₂)
       (rounds-fair s 8 (entries-rounds s product n) (λ b at′ x h′. two-fair s at′ product n h′) count 0 p₁ (replicate (mostBad * 2) 0) h₁)
       (λ rows p₂ h₂. (omega arith, h₂)))
+
+  pub sets-fair : (product n at : ℕ) → at ≤ length s → Fair s 8 at (readSets s at product n)
+  unfolding readSets
+  sets-fair product n at h =
+      fair-then s 8 at (readMap s at product n) _ (map-fair product n at h) (λ R p₁ h₁.
+      fair-then s 8 p₁ (readBad s p₁ product n) (λ B p₂. got (record { map = R; bad = B }) p₂) (bad-fair product n p₁ h₁)
+      (λ B p₂ h₂. (omega arith, h₂)))

@@ -14,7 +14,7 @@ use Rattle.session.specs.Limits.{mostQueues, mostMessages}
 use Rattle.numbers.specs.Part.{got}
 use Rattle.numbers.specs.Laws.Parts.{andThen-got, same-value}
 use Rattle.numbers.specs.Number.{readWithin}
-use Rattle.session.specs.Queues.{readTerm, readCounts, readQueues, firstOf}
+use Rattle.session.specs.Queues.{readTerm, readCounts, readQueues, firstOf, OfQueue}
 use Rattle.numbers.specs.Laws.Ranges.{within-range}
 use Rattle.session.specs.Laws.Ranges.{term-within, term-range}
 use Rattle.numbers.specs.Laws.Written.{Entries, entries-none, entries-more, zeros-hold}
@@ -65,12 +65,6 @@ message-placed t (suc n) m h = go (message-placed t n m) (ltb m (firstOf t n)) r
     go earlier true e =
         let q = earlier (ltb-true m (firstOf t n) e) in (q .0, omega (arith, q .1), q .2, q .3)
     go earlier false e = (n, omega arith, ltb-false m (firstOf t n) e, h)
-
--- message m is of queue p
-pub record OfQueue (q : Queues) (p m : ℕ) : Type 0 where
-  pub queue : p < q .count
-  pub from : firstOf (q .messages) p ≤ m
-  pub below : m < firstOf (q .messages) (suc p)
 
 pub record QueuesValid (q : Queues) : Type 0 where
   pub least : 1 ≤ q .count

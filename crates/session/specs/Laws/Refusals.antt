@@ -11,47 +11,37 @@ use borrow.Author.Tests.{leb-true, leb-false, lt-leb}
 use native.Mathlib.Omega.{arith}
 use Rattle.numbers.specs.Limits.{mostBytes}
 use Rattle.numbers.specs.Part.{Part, got, refused, provided}
-use Rattle.session.specs.Machines.{readMachines}
-use Rattle.session.specs.Queues.{readQueues}
-use Rattle.session.specs.Transitions.{readTransitions}
 use Rattle.session.specs.Pool.{readPool}
-use Rattle.session.specs.Order.{inQueueOrder}
-use Rattle.session.specs.Map.{readMap}
-use Rattle.session.specs.Bad.{readBad}
-use Rattle.session.specs.File.{fromBad, fromMap, fromPool, fromTransitions, fromQueues, fromMachines, readFile}
-use Rattle.session.specs.Laws.Order.{QueueOrdered, ordered-is}
+use Rattle.session.specs.Lowest.{inQueueOrder}
+use Rattle.session.specs.Model.{readModel}
+use Rattle.session.specs.Sets.{readSets}
+use Rattle.session.specs.File.{readFile}
+use Rattle.session.specs.Order.{QueueOrdered}
+use Rattle.session.specs.Laws.Order.{ordered-is}
 use Rattle.numbers.specs.Laws.Places.{Placed, refuses-late, Fair, fair-more, fair-provided, fair-then}
-use Rattle.session.specs.Laws.Places.{machines-fair, queues-fair, transitions-fair, pool-fair, map-fair, bad-fair}
-use Rattle.session.specs.Laws.Fields.{ToPool, to-pool, Fields, to-end, Late, Reached, reached, Ended, ended}
+use Rattle.session.specs.Laws.Places.{model-fair, pool-fair, sets-fair}
+use Rattle.session.specs.Laws.Fields.{ToPool, to-pool, Fields, to-end, fromSets, parts, file-is, Late, Reached, reached, Ended, ended}
 use Rattle.session.specs.Laws.Valid.{pool-ready}
-use Rattle.session.specs.declared.tables.Machines.{Machines}
-use Rattle.session.specs.declared.tables.Queues.{Queues}
-use Rattle.session.specs.declared.tables.Transitions.{Transitions}
+use Rattle.session.specs.declared.tables.ModelTables.{ModelTables}
 use Rattle.session.specs.declared.tables.Pool.{Pool}
 use Rattle.session.specs.declared.tables.Tables.{Tables}
 
 module _ (s : List ℕ) where
-  map-on-fair : (at : ℕ) (m : Machines) (q : Queues) (τ : Transitions) (P : Pool) → at ≤ length s
-      → Fair s 10 at (fromMap s at m q τ P)
-  unfolding fromMap fromBad
-  map-on-fair at m q τ P h =
-      fair-then s 10 at (readMap s at (m .product) (P .count)) _
-      (fair-more s 8 10 at (readMap s at (m .product) (P .count)) (omega arith) (map-fair s (m .product) (P .count) at h)) (λ R p h₁.
-      fair-then s 10 p (readBad s p (m .product) (P .count)) _
-      (fair-more s 8 10 p (readBad s p (m .product) (P .count)) (omega arith) (bad-fair s (m .product) (P .count) p h₁)) (λ B next h₂.
-      fair-provided s 10 next (leb (length s) next) 10 next _ (refuses-late s next 10 (omega arith) (omega arith) h₂) (omega arith, h₂)))
+  sets-on-fair : (at : ℕ) (M : ModelTables) (P : Pool) → at ≤ length s → Fair s 10 at (fromSets s at M P)
+  sets-on-fair at M P h =
+      fair-then s 10 at (readSets s at (M .machines .product) (P .count)) _
+      (fair-more s 8 10 at (readSets s at (M .machines .product) (P .count)) (omega arith)
+      (sets-fair s (M .machines .product) (P .count) at h))
+      (λ D next h₁.
+      fair-provided s 10 next (leb (length s) next) 10 next _ (refuses-late s next 10 (omega arith) (omega arith) h₁) (omega arith, h₁))
 
-  pub fields-fair : Fair s 10 0 (fromMachines s)
-  unfolding fromMachines fromQueues fromTransitions fromPool
+  pub fields-fair : Fair s 10 0 (parts s)
   fields-fair =
-      fair-then s 10 0 (readMachines s 0) _ (fair-more s 8 10 0 (readMachines s 0) (omega arith) (machines-fair s 0 (omega arith))) (λ m p₁ h₁.
-      fair-then s 10 p₁ (readQueues s p₁) _ (fair-more s 8 10 p₁ (readQueues s p₁) (omega arith) (queues-fair s p₁ h₁)) (λ q p₂ h₂.
-      fair-then s 10 p₂ (readTransitions s p₂ m q) _
-      (fair-more s 8 10 p₂ (readTransitions s p₂ m q) (omega arith) (transitions-fair s m q p₂ h₂)) (λ τ p₃ h₃.
-      fair-then s 10 p₃ (readPool s p₃ (q .sum)) _
-      (fair-more s 8 10 p₃ (readPool s p₃ (q .sum)) (omega arith) (pool-fair s (q .sum) p₃ h₃)) (λ P p₄ h₄.
-      fair-provided s 10 p₄ (inQueueOrder q P) 9 p₄ (fromMap s p₄ m q τ P) (refuses-late s p₄ 9 (omega arith) (omega arith) h₄)
-      (map-on-fair p₄ m q τ P h₄)))))
+      fair-then s 10 0 (readModel s 0) _ (fair-more s 8 10 0 (readModel s 0) (omega arith) (model-fair s 0 (omega arith))) (λ M p₁ h₁.
+      fair-then s 10 p₁ (readPool s p₁ (M .queues .sum)) _
+      (fair-more s 8 10 p₁ (readPool s p₁ (M .queues .sum)) (omega arith) (pool-fair s (M .queues .sum) p₁ h₁)) (λ P p₂ h₂.
+      fair-provided s 10 p₂ (inQueueOrder (M .queues) P) 9 p₂ (fromSets s p₂ M P) (refuses-late s p₂ 9 (omega arith) (omega arith) h₂)
+      (sets-on-fair p₂ M P h₂)))
 
 -- the two ways to be refused: the file is too long, or a field of it is refused at a place within it
 pub record Overlong (s : List ℕ) (k p : ℕ) : Type 0 where
@@ -67,10 +57,9 @@ pub record Within (s : List ℕ) (k p : ℕ) : Type 0 where
   pub placed : Placed s k p
 
 pub refusal-is : (s : List ℕ) (k p : ℕ) → readFile s ≡ refused k p → Overlong s k p ⊎ Within s k p
-unfolding readFile
-refusal-is s k p e = go (leb (length s) mostBytes) refl e
+refusal-is s k p e = go (leb (length s) mostBytes) refl (sym (file-is s) ∙ e)
   where
-    go : (b : Bool) → leb (length s) mostBytes ≡ b → provided b 1 mostBytes (fromMachines s) ≡ refused k p → Overlong s k p ⊎ Within s k p
+    go : (b : Bool) → leb (length s) mostBytes ≡ b → provided b 1 mostBytes (parts s) ≡ refused k p → Overlong s k p ⊎ Within s k p
     go true f g =
         let h = subst (Fair s 10 0) g (fields-fair s) in
         inr
@@ -96,11 +85,10 @@ module _ (s : List ℕ) where
 
   -- 1: MORE THAN 16,384 BYTES
   pub refused-one : (p : ℕ) → (readFile s ≡ refused 1 p) ↔ ((p ≡ mostBytes) × (mostBytes < length s))
-  unfolding readFile
   refused-one p = (
     λ e. go (refusal-is s 1 p e),
     λ h.
-        ap (λ b. provided b 1 mostBytes (fromMachines s)) (lt-leb (length s) mostBytes (h .1)) ∙ ap (refused 1) (sym (h .0)),
+        file-is s ∙ ap (λ b. provided b 1 mostBytes (parts s)) (lt-leb (length s) mostBytes (h .1)) ∙ ap (refused 1) (sym (h .0)),
   )
     where
       go : Overlong s 1 p ⊎ Within s 1 p → (p ≡ mostBytes) × (mostBytes < length s)
@@ -108,23 +96,20 @@ module _ (s : List ℕ) where
       go (inr h) = absurd (omega (arith, h .least))
 
 -- what comes of a file that is not too long
-fields-refused : (s : List ℕ) (k p : ℕ) → 1 < k → readFile s ≡ refused k p → (length s ≤ mostBytes) × (fromMachines s ≡ refused k p)
-unfolding readFile
-fields-refused s k p h e = go (leb (length s) mostBytes) refl e
+fields-refused : (s : List ℕ) (k p : ℕ) → 1 < k → readFile s ≡ refused k p → (length s ≤ mostBytes) × (parts s ≡ refused k p)
+fields-refused s k p h e = go (leb (length s) mostBytes) refl (sym (file-is s) ∙ e)
   where
-    go : (b : Bool) → leb (length s) mostBytes ≡ b → provided b 1 mostBytes (fromMachines s) ≡ refused k p
-        → (length s ≤ mostBytes) × (fromMachines s ≡ refused k p)
+    go : (b : Bool) → leb (length s) mostBytes ≡ b → provided b 1 mostBytes (parts s) ≡ refused k p
+        → (length s ≤ mostBytes) × (parts s ≡ refused k p)
     go true f g = (leb-true (length s) mostBytes f, g)
     go false f g = let n : 1 ≡ k = cc in absurd (omega arith)
 
--- fields 1 to 4 are read, up to place p, and the pool is not in queue order
+-- model and pool are read, up to place p, and the pool is not in queue order
 pub record Disordered (s : List ℕ) (p : ℕ) : Type 0 where
-  pub machines : Machines
-  pub queues : Queues
-  pub transitions : Transitions
+  pub model : ModelTables
   pub pool : Pool
-  pub read : ToPool s machines queues transitions pool p
-  pub disordered : QueueOrdered queues pool → ⊥
+  pub read : ToPool s model pool p
+  pub disordered : QueueOrdered (model .queues) pool → ⊥
 
 -- all fields are read, up to place p, and bytes follow
 pub record Followed (s : List ℕ) (p : ℕ) : Type 0 where
@@ -139,13 +124,13 @@ refusedBy k p = refused k p
 -- what comes after field 4, and after field 6
 module _ (s : List ℕ) (y : Part Tables) where
   after-pool : Late y → (r : Reached s y)
-      → ((inQueueOrder (r .queues) (r .pool) ≡ false) × (refusedBy 9 (r .place) ≡ y)) ⊎ Ended s y
-  after-pool late r = go (inQueueOrder (r .queues) (r .pool)) refl (r .then)
+      → ((inQueueOrder (r .model .queues) (r .pool) ≡ false) × (refusedBy 9 (r .place) ≡ y)) ⊎ Ended s y
+  after-pool late r = go (inQueueOrder (r .model .queues) (r .pool)) refl (r .then)
     where
-      go : (b : Bool) → inQueueOrder (r .queues) (r .pool) ≡ b
-          → provided b 9 (r .place) (fromMap s (r .place) (r .machines) (r .queues) (r .transitions) (r .pool)) ≡ y
-          → ((inQueueOrder (r .queues) (r .pool) ≡ false) × (refusedBy 9 (r .place) ≡ y)) ⊎ Ended s y
-      go true f e = inr (ended s (r .machines) (r .queues) (r .transitions) (r .pool) (r .place) (r .read) f late (r .inside) e)
+      go : (b : Bool) → inQueueOrder (r .model .queues) (r .pool) ≡ b
+          → provided b 9 (r .place) (fromSets s (r .place) (r .model) (r .pool)) ≡ y
+          → ((inQueueOrder (r .model .queues) (r .pool) ≡ false) × (refusedBy 9 (r .place) ≡ y)) ⊎ Ended s y
+      go true f e = inr (ended s (r .model) (r .pool) (r .place) (r .read) f late (r .inside) e)
       go false f e = inl (f, e)
 
   after-bad : (z : Ended s y) → (got (z .tables) (z .place) ≡ y) ⊎ ((z .place < length s) × (refusedBy 10 (z .place) ≡ y))
@@ -165,34 +150,32 @@ module _ (s : List ℕ) (p : ℕ) where
       no-end z (inl e) = let n : _≡_ {A = ℕ} 0 1 = cc in omega arith
       no-end z (inr e) = let n : _≡_ {A = ℕ} 10 9 = cc in omega arith
 
-      go : ((inQueueOrder (r .queues) (r .pool) ≡ false) × (refusedBy 9 (r .place) ≡ refused 9 p)) ⊎ Ended s (refused 9 p) → Disordered s p
+      go : ((inQueueOrder (r .model .queues) (r .pool) ≡ false) × (refusedBy 9 (r .place) ≡ refused 9 p)) ⊎ Ended s (refused 9 p) → Disordered s p
       go (inl h) =
           let n : r .place ≡ p = cc (h .1) in
           let v = pool-ready (r .read) in
           record {
-            machines = r .machines;
-            queues = r .queues;
-            transitions = r .transitions;
+            model = r .model;
             pool = r .pool;
-            read = subst (ToPool s (r .machines) (r .queues) (r .transitions) (r .pool)) n (r .read);
+            read = subst (ToPool s (r .model) (r .pool)) n (r .read);
             disordered =
                 λ o.
-                let t = ordered-is (r .queues) (r .pool) (v .queues) (v .pool) .1 o in
+                let t = ordered-is (r .model .queues) (r .pool) (v .model .queues) (v .pool) .1 o in
                 let c : _≡_ {A = ℕ} 0 1 = cc (h .0, t) in
                 omega arith;
           }
       go (inr z) = absurd (no-end z (after-bad s (refused 9 p) z))
 
   disordered-refused : Disordered s p → readFile s ≡ refused 9 p
-  disordered-refused d = go (inQueueOrder (d .queues) (d .pool)) refl
+  disordered-refused d = go (inQueueOrder (d .model .queues) (d .pool)) refl
     where
-      go : (b : Bool) → inQueueOrder (d .queues) (d .pool) ≡ b → readFile s ≡ refused 9 p
+      go : (b : Bool) → inQueueOrder (d .model .queues) (d .pool) ≡ b → readFile s ≡ refused 9 p
       go true f =
           let v = pool-ready (d .read) in
-          absurd (d .disordered (ordered-is (d .queues) (d .pool) (v .queues) (v .pool) .0 f))
+          absurd (d .disordered (ordered-is (d .model .queues) (d .pool) (v .model .queues) (v .pool) .0 f))
       go false f =
           to-pool (d .read)
-          ∙ ap (λ b. provided b 9 p (fromMap s p (d .machines) (d .queues) (d .transitions) (d .pool))) f
+          ∙ ap (λ b. provided b 9 p (fromSets s p (d .model) (d .pool))) f
 
   -- 9: POOL NOT IN QUEUE ORDER
   pub refused-nine : (readFile s ≡ refused 9 p) ↔ Disordered s p
@@ -213,7 +196,7 @@ module _ (s : List ℕ) (p : ℕ) where
           let n : z .place ≡ p = cc (e .1) in
           record { tables = z .tables; read = subst (Fields s (z .tables)) n (z .read); further = omega (arith, e .0) }
 
-      go : ((inQueueOrder (r .queues) (r .pool) ≡ false) × (refusedBy 9 (r .place) ≡ refused 10 p)) ⊎ Ended s (refused 10 p) → Followed s p
+      go : ((inQueueOrder (r .model .queues) (r .pool) ≡ false) × (refusedBy 9 (r .place) ≡ refused 10 p)) ⊎ Ended s (refused 10 p) → Followed s p
       go (inl h) = let n : _≡_ {A = ℕ} 9 10 = cc (h .1) in absurd (omega arith)
       go (inr z) = end z (after-bad s (refused 10 p) z)
 

@@ -13,13 +13,12 @@ use Rattle.session.specs.Limits.{mostTransitions, mostWord}
 use Rattle.numbers.specs.Part.{got, andThen}
 use Rattle.numbers.specs.Laws.Parts.{andThen-got, same-value}
 use Rattle.numbers.specs.Number.{readWithin, readBelow, readTwo}
-use Rattle.session.specs.Queues.{firstOf}
+use Rattle.session.specs.Queues.{firstOf, OfQueue}
 use Rattle.session.specs.Transitions.{readMessage, readWord, readAction, readTransition, readRows, readTransitions}
 use Rattle.numbers.specs.Laws.Ranges.{below-range, within-range, two-range}
 use Rattle.session.specs.Laws.Ranges.{message-range}
 use Rattle.numbers.specs.Laws.Written.{Changed, changed-none, changed-set, changed-then, changed-wider, Entries, entries-none, entries-more, Written, written-none, written-more, zeros-hold}
 use Rattle.numbers.specs.Laws.Rounds.{Rounds, rounds-keep}
-use Rattle.session.specs.Laws.Queues.{OfQueue}
 use Rattle.session.specs.declared.tables.Machines.{Machines}
 use Rattle.session.specs.declared.tables.Queues.{Queues}
 use Rattle.session.specs.declared.tables.Transitions.{Transitions}

@@ -1,21 +1,30 @@
 -- What holds of the tables of every file that was read.
-use Prim.Native.Nat.{ℕ}
-use mathlib.Core.Path.{_≡_}
+use Prim.Native.Nat.{ℕ, _≤_}
+use mathlib.Core.Path.{_≡_, subst}
 use mathlib.Core.List.{List}
 use Rattle.numbers.specs.Part.{got}
+use Rattle.numbers.specs.Laws.Parts.{andThen-got, same-value}
+use Rattle.session.specs.Limits.{mostControls}
+use Rattle.session.specs.Machines.{readMachines}
+use Rattle.session.specs.Queues.{readQueues}
+use Rattle.session.specs.Transitions.{readTransitions}
+use Rattle.session.specs.Map.{readMap}
+use Rattle.session.specs.Bad.{readBad}
+use Rattle.session.specs.Model.{readModel}
+use Rattle.session.specs.Sets.{readSets}
 use Rattle.session.specs.File.{readFile}
 use Rattle.session.specs.Laws.Machines.{MachinesValid, machines-valid}
 use Rattle.session.specs.Laws.Queues.{QueuesValid, queues-valid}
 use Rattle.session.specs.Laws.Transitions.{TransitionsValid, transitions-valid}
 use Rattle.session.specs.Laws.Pool.{PoolValid, pool-valid}
-use Rattle.session.specs.Laws.Order.{QueueOrdered, ordered-is}
+use Rattle.session.specs.Order.{QueueOrdered}
+use Rattle.session.specs.Laws.Order.{ordered-is}
 use Rattle.session.specs.Laws.Map.{MapValid, map-valid}
 use Rattle.session.specs.Laws.Bad.{BadValid, bad-valid}
 use Rattle.session.specs.Laws.Fields.{ToPool, read-is}
-use Rattle.session.specs.declared.tables.Machines.{Machines}
-use Rattle.session.specs.declared.tables.Queues.{Queues}
-use Rattle.session.specs.declared.tables.Transitions.{Transitions}
+use Rattle.session.specs.declared.tables.ModelTables.{ModelTables}
 use Rattle.session.specs.declared.tables.Pool.{Pool}
+use Rattle.session.specs.declared.tables.SetTables.{SetTables}
 use Rattle.session.specs.declared.tables.Tables.{Tables}
 
 pub record Valid (T : Tables) : Type 0 where
@@ -27,36 +36,61 @@ pub record Valid (T : Tables) : Type 0 where
   pub map : MapValid (T .machines .product) (T .pool .count) (T .map)
   pub bad : BadValid (T .machines .product) (T .pool .count) (T .bad)
 
--- what holds as soon as fields 1 to 4 are read
-pub record PoolReady (m : Machines) (q : Queues) (τ : Transitions) (P : Pool) : Type 0 where
-  pub machines : MachinesValid m
-  pub queues : QueuesValid q
-  pub transitions : TransitionsValid m q τ
-  pub pool : PoolValid (q .sum) P
+-- THE MODEL AND THE SETS of a file that was read, each from its own fields
+pub record ModelValid (M : ModelTables) : Type 0 where
+  pub machines : MachinesValid (M .machines)
+  pub queues : QueuesValid (M .queues)
+  pub transitions : TransitionsValid (M .machines) (M .queues) (M .transitions)
 
-pub pool-ready : {s : List ℕ} {m : Machines} {q : Queues} {τ : Transitions} {P : Pool} {at : ℕ} → ToPool s m q τ P at
-    → PoolReady m q τ P
-pool-ready {s} {m} {q} r =
-    let queues = queues-valid s (r .afterMachines) (r .queues) in
-    record {
-      machines = machines-valid s 0 (r .machines);
+pub record SetsValid (product n : ℕ) (D : SetTables) : Type 0 where
+  pub map : MapValid product n (D .map)
+  pub bad : BadValid product n (D .bad)
+
+pub model-valid : (s : List ℕ) (at : ℕ) {M : ModelTables} {next : ℕ} → readModel s at ≡ got M next → ModelValid M
+unfolding readModel
+model-valid s at e =
+    let m = andThen-got (readMachines s at) e in
+    let q = andThen-got (readQueues s (m .place)) (m .then) in
+    let τ = andThen-got (readTransitions s (q .place) (m .value) (q .value)) (q .then) in
+    let queues = queues-valid s (m .place) (q .first) in
+    subst ModelValid (same-value (τ .then))
+    (record {
+      machines = machines-valid s at (m .first);
       queues = queues;
-      transitions = transitions-valid s m q (queues .least) (r .afterQueues) (r .transitions);
-      pool = pool-valid s (q .sum) (r .afterTransitions) (queues .sumMost) (r .pool);
-    }
+      transitions = transitions-valid s (m .value) (q .value) (queues .least) (q .place) (τ .first);
+    })
+
+pub sets-valid : (s : List ℕ) (product n at : ℕ) {D : SetTables} {next : ℕ} → product ≤ mostControls
+    → readSets s at product n ≡ got D next → SetsValid product n D
+unfolding readSets
+sets-valid s product n at h e =
+    let R = andThen-got (readMap s at product n) e in
+    let B = andThen-got (readBad s (R .place) product n) (R .then) in
+    subst (SetsValid product n) (same-value (B .then))
+    (record { map = map-valid s n product at h (R .first); bad = bad-valid s product n (R .place) (B .first) })
+
+-- what holds as soon as model and pool are read
+pub record PoolReady (M : ModelTables) (P : Pool) : Type 0 where
+  pub model : ModelValid M
+  pub pool : PoolValid (M .queues .sum) P
+
+pub pool-ready : {s : List ℕ} {M : ModelTables} {P : Pool} {at : ℕ} → ToPool s M P at → PoolReady M P
+pool-ready {s} {M} r =
+    let model = model-valid s 0 (r .model) in
+    record { model = model; pool = pool-valid s (M .queues .sum) (r .afterModel) (model .queues .sumMost) (r .pool) }
 
 -- THE TABLES OF A FILE THAT WAS READ
 pub valid : (s : List ℕ) {T : Tables} {next : ℕ} → readFile s ≡ got T next → Valid T
 valid s {T} {next} e =
     let f = read-is s T next .0 e .0 in
     let r = pool-ready (f .toPool) in
+    let d = sets-valid s (T .machines .product) (T .pool .count) (f .afterPool) (r .model .machines .productMost) (f .sets) in
     record {
-      machines = r .machines;
-      queues = r .queues;
-      transitions = r .transitions;
+      machines = r .model .machines;
+      queues = r .model .queues;
+      transitions = r .model .transitions;
       pool = r .pool;
-      ordered = ordered-is (T .queues) (T .pool) (r .queues) (r .pool) .0 (f .ordered);
-      map =
-          map-valid s (T .pool .count) (T .machines .product) (f .afterPool) (r .machines .productMost) (f .map);
-      bad = bad-valid s (T .machines .product) (T .pool .count) (f .afterMap) (f .bad);
+      ordered = ordered-is (T .queues) (T .pool) (r .model .queues) (r .pool) .0 (f .ordered);
+      map = d .map;
+      bad = d .bad;
     }

@@ -1,4 +1,4 @@
-use Rattle.session.specs.Laws.Lowest.{arcs-skip, arcs-on, arcs-fail}
+use Rattle.session.specs.Laws.Testing.{arcs-skip, arcs-on, arcs-fail}
 use mathlib.Core.Path.{subst}
 use borrow.Author.Needs.{needs}
 use Prim.Native.Nat.{_≤_, _-_}
@@ -8,7 +8,7 @@ use native.Mathlib.Nat.{sub-eq-zero-of-le}
 use borrow.Author.Tests.{le-leb, lt-leb}
 use Rattle.numbers.specs.Laws.Parts.{one-more}
 use Rattle.session.specs.Said.{saidArc}
-use Rattle.session.specs.Order.{arcsOrdered}
+use Rattle.session.specs.Lowest.{arcsOrdered}
 use Rattle.session.proofs.Arcs.{nowhere-told}
 use Rattle.session.proofs.order.arcs_ordered.Statement.{statement}
 use Rattle.session.proofs.order.arcs_ordered.Tie as tie

@@ -4,7 +4,7 @@ use mathlib.Core.Path.{_≡_, sym, ap, _∙_}
 use native.Mathlib.Omega.{arith}
 use native.Mathlib.Nat.{sub-zero, sub-eq-zero-of-le}
 use Rattle.numbers.specs.Laws.Parts.{one-more}
-use Rattle.session.specs.Order.{lowests}
+use Rattle.session.specs.Lowest.{lowests}
 use Rattle.session.proofs.order.fill_lowest.Statement.{statement}
 use Rattle.session.proofs.order.fill_lowest.Tie as tie
 use Rattle.session.proofs.order.fill_lowest.Reads as reads

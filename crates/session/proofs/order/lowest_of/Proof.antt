@@ -1,11 +1,11 @@
-use Rattle.session.specs.Laws.Lowest.{lowest-on, lowest-here}
+use Rattle.session.specs.Laws.Testing.{lowest-on, lowest-here}
 use borrow.Author.Needs.{needs}
 use Prim.Native.Nat.{_≤_, _-_}
 use mathlib.Core.Path.{_≡_, sym, ap, _∙_}
 use native.Mathlib.Omega.{arith}
 use native.Mathlib.Nat.{sub-zero, sub-eq-zero-of-le}
 use Rattle.numbers.specs.Laws.Parts.{one-more}
-use Rattle.session.specs.Order.{lowest}
+use Rattle.session.specs.Lowest.{lowest}
 use Rattle.session.proofs.Arcs.{nowhere-told, target-told}
 use Rattle.session.proofs.order.lowest_of.Statement.{statement}
 use Rattle.session.proofs.order.lowest_of.Tie as tie

@@ -8,8 +8,8 @@ use borrow.Author.Tests.{not-true, not-false}
 use Rattle.numbers.specs.Laws.Parts.{one-more}
 use Rattle.session.specs.Queues.{firstOf}
 use Rattle.session.specs.Laws.Queues.{end-within, first-step}
-use Rattle.session.specs.Order.{queuesOrdered}
-use Rattle.session.specs.Laws.Lowest.{queues-on, queues-fail}
+use Rattle.session.specs.Lowest.{queuesOrdered}
+use Rattle.session.specs.Laws.Testing.{queues-on, queues-fail}
 use Rattle.session.proofs.order.queues_ordered.Statement.{statement}
 use Rattle.session.proofs.order.queues_ordered.Tie as tie
 use Rattle.session.proofs.order.queues_ordered.Reads as reads

@@ -7,7 +7,7 @@ use mathlib.Core.Option.{none, some}
 use lib.ListN.{length, getD, set, length-set}
 use borrow.Author.Tests.{le-leb, lt-leb}
 use Rattle.session.specs.Pool.{arcAt}
-use Rattle.session.specs.Order.{lowest, lowests, arcsOrdered, statesOrdered, queuesOrdered}
+use Rattle.session.specs.Lowest.{lowest, lowests, arcsOrdered, statesOrdered, queuesOrdered}
 
 module _ (arcs : List ℕ) (s left m : ℕ) where
   pub lowest-on : arcAt arcs s m ≡ none → lowest arcs s (suc left) m ≡ lowest arcs s left (m + 1)
