@@ -2,7 +2,7 @@
 --     made          a reader is made of what its bytes own and a place
 --     lends-bytes   what the bytes own is had beside the reader: a `&` is Copy
 --     placed        the place is set
---     lies, room    a reader lies in a local, ready to be lent;  and after the loan the local's cell is had again
+--     lies, room    a reader lies in a local, ready to be lent;  and after the loan the local's cell is had again, with what the reader owns
 -- Assumes `Given`.
 use mathlib.Core.Path.{_≡_, refl}
 use Prim.Native.Nat.{ℕ, _<_, _^_}
@@ -70,9 +70,9 @@ module _ {M : Type 1} (𝓤 : URA M) (H : Heap 𝓤) (A : Atoms 𝓤) (W : Given
       qed W (‵ (fat fullShare (T′.mir erased) l 0 u) ∷ ‵ (T.the-row α .own d (u ∷ [])) ∷ []) ∵ use1 W (‵ (cellAt fullShare (T.the-row α .mir) (u ∷ []) l 0)) (W .laws .at-raw fullShare (T′.mir erased) l 0 u) $
       fjoin ! $ fpack ! (List Val) (λ vs. fsep (cellAt fullShare (T.the-row α .mir) vs l 0) (T.the-row α .own d vs)) (u ∷ []) $ done !
 
-  pub room : (d : Reader) (l : ℕ) → ent 𝓤 (sem 𝓤 H A (mem (T.the-row α) .lies d l 0)) (sem 𝓤 H A (fat fullShare (T′.mir erased) l 0 (T′.lowered d)))
+  pub room : (d : Reader) (l : ℕ) → ent 𝓤 (sem 𝓤 H A (mem (T.the-row α) .lies d l 0)) (sep 𝓤 (sem 𝓤 H A (fat fullShare (T′.mir erased) l 0 (T′.lowered d))) (sem 𝓤 H A (Held α d)))
   unfolding partOf
   room d l =
       qed W (‵ (mem (T.the-row α) .lies d l 0) ∷ []) ∵ fpick ! (λ vs. fsplit ! $
       spelt ! (T.the-row α) (Is (T.the-row α)) (shows 𝓤 H A (T.the-row α)) (LL.vals (T.the-type α) (T′.the-laws α)) (LL.tells (T.the-type α) (T′.the-laws α)) fullShare d vs l 0 $
-      move ! (1 ∷ []) $ drop ! $ use1 W (‵ (fat fullShare (T′.mir erased) l 0 (T′.lowered d))) (W .laws .raw-at fullShare (T′.mir erased) l 0 (T′.lowered d)) $ done !)
+      use1 W (‵ (fat fullShare (T′.mir erased) l 0 (T′.lowered d))) (W .laws .raw-at fullShare (T′.mir erased) l 0 (T′.lowered d)) $ done !)

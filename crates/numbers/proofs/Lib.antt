@@ -1,2 +1,3 @@
 -- Laws that several functions' proofs cite.
 pub mod Held
+pub mod Local

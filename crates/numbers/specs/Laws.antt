@@ -6,3 +6,4 @@ pub mod Rounds
 pub mod Written
 pub mod Places
 pub mod Put
+pub mod Reader

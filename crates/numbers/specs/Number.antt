@@ -22,6 +22,10 @@ readWithin s at least most =
     andThen (readNumber s at) (λ v next.
     provided (leb least v) 5 at (provided (leb v most) 5 at (got v next)))
 
+-- the number that was read at a place, if it is below a limit
+abbrev pub below : Part ℕ → ℕ → ℕ → Part ℕ
+below n at limit = andThen n (λ v next. provided (ltb v limit) 5 at (got v next))
+
 -- a number below a limit, as every index is
 unfoldable pub readBelow : List ℕ → ℕ → ℕ → Part ℕ
 readBelow s at limit = andThen (readNumber s at) (λ v next. provided (ltb v limit) 5 at (got v next))

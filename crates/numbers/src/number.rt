@@ -1,11 +1,12 @@
 // The numbers of a session file, and what reading them answers.
 use crate::reader::number_at;
+use crate::reader::two_at;
 use crate::refusal::Refusal;
 ghost use mathlib.Core.Path.{_≡_};
 ghost use Prim.Native.Nat.{_≤_};
 ghost use lib.ListN.{getD};
 ghost use Rattle.numbers.specs.Said.{Widened, saidNumber, saidField, saidPair};
-ghost use Rattle.numbers.specs.Number.{readNumber, readWithin, readBelow, readTwo};
+ghost use Rattle.numbers.specs.Number.{readNumber, readWithin, below, readBelow, readTwo};
 
 // A number and the place after it.
 pub enum Number {
@@ -86,12 +87,12 @@ pub fn read_within(s: &[u8], at: usize, least: u8, most: u8) -> Field
     }
 }
 
-// A number below a limit.
-pub fn read_below(s: &[u8], at: usize, limit: usize) -> Field
+// The number read at a place, if it is below a limit.
+pub fn below(n: Number, at: usize, limit: usize) -> Field
     requires { ⌜ limit ≤ 256 ⌝ }
-    ensures { λ r. ⌜ saidField r ≡ readBelow (now (s .entry)) at limit ⌝ }
+    ensures { λ r. ⌜ saidField r ≡ below (saidNumber n) at limit ⌝ }
 {
-    match number_at(s, at) {
+    match n {
         Number::Refused(why) => Field::Refused(why),
         Number::Value(v, next) => {
             if limit <= v {
@@ -102,17 +103,28 @@ pub fn read_below(s: &[u8], at: usize, limit: usize) -> Field
     }
 }
 
+// A number below a limit.
+pub fn read_below(s: &[u8], at: usize, limit: usize) -> Field
+    requires { ⌜ limit ≤ 256 ⌝ }
+    ensures { λ r. ⌜ saidField r ≡ readBelow (now (s .entry)) at limit ⌝ }
+{
+    below(number_at(s, at), at, limit)
+}
+
 // Two numbers, each below a limit of its own.
 pub fn read_two(s: &[u8], at: usize, first: usize, second: usize) -> Pair
     requires { ⌜ first ≤ 256 ⌝ }
     requires { ⌜ second ≤ 256 ⌝ }
     ensures { λ r. ⌜ saidPair r ≡ readTwo (now (s .entry)) at first second ⌝ }
 {
-    match read_below(s, at, first) {
+    let two = two_at(s, at);
+    let x = two.first;
+    let y = two.second;
+    match below(x, at, first) {
         Field::Refused(why) => Pair::Refused(why),
-        Field::Value(x, place) => match read_below(s, place, second) {
+        Field::Value(a, place) => match below(y, place, second) {
             Field::Refused(why) => Pair::Refused(why),
-            Field::Value(y, next) => Pair::Values(x, y, next),
+            Field::Value(b, _) => Pair::Values(a, b, two.place),
         },
     }
 }
