@@ -16,6 +16,10 @@ readNumber s at =
     (provided (ltb (getD s (at + 1) 0) 128) 4 at
     (got (getD s at 0 - 128 + 128 * getD s (at + 1) 0) (at + 2))))))
 
+-- the number that was read at a place, if it is from least to most
+abbrev pub within : Part ℕ → ℕ → ℕ → ℕ → Part ℕ
+within n at least most = andThen n (λ v next. provided (leb least v) 5 at (provided (leb v most) 5 at (got v next)))
+
 -- a number from least to most
 unfoldable pub readWithin : List ℕ → ℕ → ℕ → ℕ → Part ℕ
 readWithin s at least most =

@@ -6,7 +6,7 @@ ghost use mathlib.Core.Path.{_≡_};
 ghost use Prim.Native.Nat.{_≤_};
 ghost use lib.ListN.{getD};
 ghost use Rattle.numbers.specs.Said.{Widened, saidNumber, saidField, saidPair};
-ghost use Rattle.numbers.specs.Number.{readNumber, readWithin, below, readBelow, readTwo};
+ghost use Rattle.numbers.specs.Number.{readNumber, within, readWithin, below, readBelow, readTwo};
 
 // A number and the place after it.
 pub enum Number {
@@ -69,11 +69,11 @@ pub fn read_number(s: &[u8], at: usize) -> Number
     Number::Value(low - 128 + 128 * high, at + 2)
 }
 
-// A number from least to most.
-pub fn read_within(s: &[u8], at: usize, least: u8, most: u8) -> Field
-    ensures { λ r. ⌜ saidField r ≡ readWithin (now (s .entry)) at least most ⌝ }
+// The number read at a place, if it is from least to most.
+pub fn within(n: Number, at: usize, least: u8, most: u8) -> Field
+    ensures { λ r. ⌜ saidField r ≡ within (saidNumber n) at least most ⌝ }
 {
-    match number_at(s, at) {
+    match n {
         Number::Refused(why) => Field::Refused(why),
         Number::Value(v, next) => {
             if v < (least as usize) {
@@ -85,6 +85,13 @@ pub fn read_within(s: &[u8], at: usize, least: u8, most: u8) -> Field
             Field::Value(v as u8, next)
         }
     }
+}
+
+// A number from least to most.
+pub fn read_within(s: &[u8], at: usize, least: u8, most: u8) -> Field
+    ensures { λ r. ⌜ saidField r ≡ readWithin (now (s .entry)) at least most ⌝ }
+{
+    within(number_at(s, at), at, least, most)
 }
 
 // The number read at a place, if it is below a limit.

@@ -4,7 +4,7 @@ use mathlib.Core.Path.{_≡_, sym, ap, _∙_}
 use mathlib.Core.List.{List}
 use Rattle.numbers.specs.Part.{Part, got}
 use Rattle.numbers.specs.Said.{saidNumber}
-use Rattle.numbers.specs.Number.{readNumber, below, readBelow}
+use Rattle.numbers.specs.Number.{readNumber, within, readWithin, below, readBelow}
 use Rattle.numbers.specs.Reader.{placeAfter, TwoRead}
 use Rattle.numbers.specs.declared.reader.Two.{Two}
 
@@ -21,6 +21,11 @@ module _ {s : List ℕ} {at : ℕ} {t : Two} (two : TwoRead s at t) where
     pub two-second-below : (limit : ℕ) {x : Part ℕ} → below (saidNumber (t .second)) p limit ≡ x → readBelow s p limit ≡ x
     unfolding readBelow
     two-second-below limit e = ap (λ n. below n p limit) (sym two-second-number) ∙ e
+
+    pub two-second-within : (least most : ℕ) {x : Part ℕ} → within (saidNumber (t .second)) p least most ≡ x
+        → readWithin s p least most ≡ x
+    unfolding readWithin
+    two-second-within least most e = ap (λ n. within n p least most) (sym two-second-number) ∙ e
 
     -- and the reader has come to the place after it
     pub two-place : {w next : ℕ} → readNumber s p ≡ got w next → t .place ≡ next
