@@ -7,7 +7,7 @@ use lib.ListN.{getD, set, replicate}
 use lib.Dec.{leb, eqb}
 use Rattle.session.specs.Limits.{mostPool, mostMessages}
 use Rattle.numbers.specs.Part.{Part, got, provided, andThen}
-use Rattle.numbers.specs.Number.{readWithin, readBelow}
+use Rattle.numbers.specs.Number.{readWithin, below, readBelow}
 use Rattle.session.specs.declared.tables.Pool.{Pool}
 
 -- entries of the table of arcs
@@ -18,6 +18,10 @@ poolArcs = mostPool * mostMessages
 abbrev pub arcAt : List ℕ → ℕ → ℕ → Option ℕ
 arcAt arcs s m =
     cond (eqb (getD arcs (s * mostMessages + m) 0) 0) none (some (getD arcs (s * mostMessages + m) 0 - 1))
+
+-- an arc's message that was read at a place, if it is below the sum and not below the least that still ascends
+abbrev pub ascends : Part ℕ → ℕ → ℕ → ℕ → Part ℕ
+ascends n at sum least = andThen (below n at sum) (λ m next. provided (leb least m) 8 at (got m next))
 
 -- an arc's message: below the sum, and not below the least that still ascends
 unfoldable pub readAscending : List ℕ → ℕ → ℕ → ℕ → Part ℕ

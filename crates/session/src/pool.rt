@@ -7,17 +7,20 @@ use crate::tables::POOL_ARCS;
 use crate::tables::Pool;
 use numbers::number::Field;
 use numbers::number::Filled;
+use numbers::number::Number;
 use numbers::number::Pair;
-use numbers::number::read_below;
+use numbers::number::below;
 use numbers::number::read_within;
 use numbers::number::wide;
+use numbers::number::within;
+use numbers::reader::two_at;
 use numbers::refusal::Refusal;
 ghost use mathlib.Core.Path.{_≡_};
 ghost use Prim.Native.Nat.{_+_, _≤_};
-ghost use Rattle.numbers.specs.Said.{saidField, saidPair, fieldWith, filledWith};
+ghost use Rattle.numbers.specs.Said.{saidNumber, saidField, saidPair, fieldWith, filledWith};
 ghost use Rattle.session.specs.Said.{saidArc};
 ghost use Rattle.session.specs.Limits.{mostPool, mostMessages};
-ghost use Rattle.session.specs.Pool.{poolArcs, arcAt, readAscending, readArc, readArcs, readState, readStates, readPool};
+ghost use Rattle.session.specs.Pool.{poolArcs, arcAt, ascends, readAscending, readArc, readArcs, readState, readStates, readPool};
 
 // Where an arc leads.
 pub enum Arc {
@@ -45,11 +48,11 @@ pub fn arc_of(arcs: &[u8], s: DiagramState, m: Message) -> Arc
     Arc::Nowhere
 }
 
-// An arc's message, which is not below the least that still ascends.
-fn read_ascending(s: &[u8], at: usize, sum: u8, least: usize) -> Field
-    ensures { λ r. ⌜ saidField r ≡ readAscending (now (s .entry)) at sum least ⌝ }
+// An arc's message, which was read at a place: not below the least that still ascends.
+fn ascending(message: Number, at: usize, sum: u8, least: usize) -> Field
+    ensures { λ r. ⌜ saidField r ≡ ascends (saidNumber message) at sum least ⌝ }
 {
-    match read_below(s, at, wide(sum)) {
+    match below(message, at, wide(sum)) {
         Field::Refused(why) => Field::Refused(why),
         Field::Value(m, next) => {
             if wide(m) < least {
@@ -64,11 +67,14 @@ fn read_ascending(s: &[u8], at: usize, sum: u8, least: usize) -> Field
 fn read_arc(s: &[u8], at: usize, n: u8, sum: u8, least: usize) -> Pair
     ensures { λ r. ⌜ saidPair r ≡ readArc (now (s .entry)) at n sum least ⌝ }
 {
-    match read_ascending(s, at, sum, least) {
+    let two = two_at(s, at);
+    let message = two.first;
+    let target = two.second;
+    match ascending(message, at, sum, least) {
         Field::Refused(why) => Pair::Refused(why),
-        Field::Value(m, place) => match read_below(s, place, wide(n)) {
+        Field::Value(m, place) => match below(target, place, wide(n)) {
             Field::Refused(why) => Pair::Refused(why),
-            Field::Value(t, next) => Pair::Values(m, t, next),
+            Field::Value(t, _) => Pair::Values(m, t, two.place),
         },
     }
 }
@@ -113,13 +119,16 @@ fn read_state(s: &[u8], at: usize, n: u8, sum: u8, row: usize, arcs: &mut [u8; P
     requires { ⌜ row + mostMessages ≤ poolArcs ⌝ }
     ensures { λ r. ⌜ fieldWith r (now (arcs .exit)) ≡ readState (now (s .entry)) at n sum row (now (arcs .entry)) ⌝ }
 {
-    match read_below(s, at, 2) {
+    let two = two_at(s, at);
+    let mark = two.first;
+    let many = two.second;
+    match below(mark, at, 2) {
         Field::Refused(why) => Field::Refused(why),
-        Field::Value(last, place) => match read_within(s, place, 0, sum) {
+        Field::Value(last, place) => match within(many, place, 0, sum) {
             Field::Refused(why) => Field::Refused(why),
-            Field::Value(count, begin) => match read_arcs(
+            Field::Value(count, _) => match read_arcs(
                 s,
-                begin,
+                two.place,
                 n,
                 sum,
                 row,

@@ -16,11 +16,14 @@ use crate::tables::WORD;
 use numbers::number::Field;
 use numbers::number::Filled;
 use numbers::number::Pair;
+use numbers::number::below;
 use numbers::number::entry;
 use numbers::number::read_below;
 use numbers::number::read_two;
 use numbers::number::read_within;
 use numbers::number::wide;
+use numbers::number::within;
+use numbers::reader::two_at;
 use numbers::refusal::Refusal;
 ghost use mathlib.Core.Path.{_≡_};
 ghost use Prim.Native.Nat.{_+_, _-_, _≤_};
@@ -89,11 +92,14 @@ fn read_action(s: &[u8], at: usize, q: Queues, row: usize, rows: &mut [u8; ROWS]
     requires { ⌜ row + rowLength ≤ rowsLength ⌝ }
     ensures { λ r. ⌜ filledWith r (now (rows .exit)) ≡ readAction (now (s .entry)) at q row (now (rows .entry)) ⌝ }
 {
-    match read_below(s, at, wide(q.count)) {
+    let two = two_at(s, at);
+    let first = two.first;
+    let second = two.second;
+    match below(first, at, wide(q.count)) {
         Field::Refused(why) => Filled::Refused(why),
-        Field::Value(queue, place) => match read_within(s, place, 0, MOST_WORD) {
+        Field::Value(queue, place) => match within(second, place, 0, MOST_WORD) {
             Field::Refused(why) => Filled::Refused(why),
-            Field::Value(length, next) => {
+            Field::Value(length, _) => {
                 rows[row + QUEUE] = queue;
                 rows[row + LENGTH] = length;
                 let messages = q.messages;
@@ -101,7 +107,7 @@ fn read_action(s: &[u8], at: usize, q: Queues, row: usize, rows: &mut [u8; ROWS]
                 let start = row + WORD;
                 read_word(
                     s,
-                    next,
+                    two.place,
                     q.sum,
                     own.lo,
                     own.hi,

@@ -1,6 +1,6 @@
 -- The ranges of what is read: a value lies where its field says.
 use Prim.Native.Nat.{ℕ, _+_, _*_, _≤_, _<_}
-use mathlib.Core.Path.{_≡_, sym, subst, _∙_}
+use mathlib.Core.Path.{_≡_, sym, ap, subst, _∙_}
 use mathlib.Core.List.{List}
 use mathlib.Core.Bool.{Bool, true}
 use lib.Dec.{ltb, leb}
@@ -8,12 +8,15 @@ use borrow.Author.Tests.{ltb-true, leb-true}
 use Rattle.session.specs.Limits.{mostStates, mostControls, mostMessages}
 use Rattle.numbers.specs.Part.{Part, got, refused, provided, andThen}
 use Rattle.numbers.specs.Laws.Parts.{not-refused, provided-got, andThen-got, same-value}
-use Rattle.numbers.specs.Number.{readWithin, readBelow}
-use Rattle.numbers.specs.Laws.Ranges.{below-range, within-range, tested-got}
+use Rattle.numbers.specs.Said.{saidNumber}
+use Rattle.numbers.specs.Number.{readNumber, readWithin, readBelow}
+use Rattle.numbers.specs.Reader.{TwoRead}
+use Rattle.numbers.specs.declared.reader.Two.{Two}
+use Rattle.numbers.specs.Laws.Ranges.{below-range, within-range, tested-got, below-number}
 use Rattle.session.specs.Machines.{readFactor}
 use Rattle.session.specs.Queues.{readTerm}
 use Rattle.session.specs.Transitions.{readMessage}
-use Rattle.session.specs.Pool.{readAscending, readArc}
+use Rattle.session.specs.Pool.{ascends, readAscending, readArc}
 
 module _ (s : List ℕ) (at : ℕ) {v next : ℕ} where
   -- a machine's states: in range, and so is the product with those before it
@@ -50,6 +53,10 @@ module _ (s : List ℕ) (at : ℕ) {v next : ℕ} where
       let t = tested-got (readBelow s at sum) (λ w. leb least w) 8 at e in
       (leb-true least v (t .1), below-range s at sum (t .0))
 
+  pub ascending-number : (sum least : ℕ) → readAscending s at sum least ≡ got v next → readNumber s at ≡ got v next
+  unfolding readAscending
+  ascending-number sum least e = below-number s at sum (tested-got (readBelow s at sum) (λ w. leb least w) 8 at e .0)
+
   -- a message of a transition's word
   pub message-range : (sum lo hi : ℕ) → readMessage s at sum lo hi ≡ got v next → (lo ≤ v) × (v < hi) × (v < sum)
   unfolding readMessage
@@ -70,3 +77,9 @@ module _ (s : List ℕ) (at : ℕ) {xy : ℕ × ℕ} {next : ℕ} where
       let r = ascending-range s at sum least (t .first) in
       subst (λ z. (least ≤ z .0) × (z .0 < sum) × (z .1 < n)) (same-value (u .then))
       (r .0, r .1, below-range s (t .place) n (u .first))
+
+-- the first of two numbers, as an arc's message
+pub two-first-ascending : {s : List ℕ} {at : ℕ} {t : Two} → TwoRead s at t → (sum least : ℕ) {x : Part ℕ}
+    → ascends (saidNumber (t .first)) at sum least ≡ x → readAscending s at sum least ≡ x
+unfolding readAscending readBelow
+two-first-ascending {at = at} two sum least e = ap (λ n. ascends n at sum least) (sym (two .first)) ∙ e
