@@ -26,7 +26,8 @@ pub record Answers (file seen₀ queue₀ contents₀ buffer₀ seen₁ queue₁
 abbrev pub mostLine : ℕ
 mostLine = 131113
 
--- WHAT THE PROGRAM PRINTS: the line of the reply to the file fills the front of the buffer, and r is its length
+-- WHAT THE PROGRAM PRINTS: the line of the reply to the file, where the buffer has room for it, fills the front of the buffer, and r is its
+-- length. A buffer of `mostLine` bytes has room for every line (`Laws.room-for-all`)
 pub record Lines (file buffer₀ buffer₁ : List ℕ) (r : ℕ) : Type 0 where
-  pub reply : r ≡ length (lineOf (replyOf file))
-  pub buffer : buffer₁ ≡ lineOf (replyOf file) ++ drop (length (lineOf (replyOf file))) buffer₀
+  pub reply : r ≡ length (lineIn (length buffer₀) (replyOf file))
+  pub buffer : buffer₁ ≡ lineIn (length buffer₀) (replyOf file) ++ drop (length (lineIn (length buffer₀) (replyOf file))) buffer₀

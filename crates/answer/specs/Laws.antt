@@ -103,23 +103,17 @@ counted-by {file} {seen} {queue} {contents} {seen₁} {queue₁} {contents₁} v
     let own = subst (λ x. Checks file seen queue contents x seen₁ queue₁ contents₁) (said-printed v contents₁ ∙ ap (λ l. said l contents₁) (sym e)) checks in
     (own .reply, counted p own)
 
--- with enough lent the line is that of the reply to the file
-line-whole : (file seen queue contents : List ℕ) (room : ℕ) → tableLeast ≤ length seen → tableLeast ≤ length queue
-    → contentsLeast ≤ length contents → mostLine ≤ room → lineIn room (checkOf file seen queue contents .reply) ≡ lineOf (replyOf file)
+-- with enough lent checking's reply is the reply to the file
+reply-whole : (file seen queue contents : List ℕ) → tableLeast ≤ length seen → tableLeast ≤ length queue → contentsLeast ≤ length contents
+    → checkOf file seen queue contents .reply ≡ replyOf file
 unfolding replyOf
-line-whole file seen queue contents room a b c h =
-    let e = ap replyTo (lent-enough file seen queue contents (long-enough file seen queue contents a b c)) in
-    let few = shown-fits (readLent file seen queue contents) (lent-sound file seen queue contents) in
-    let n = length (shownOf (replyTo (readLent file seen queue contents))) in
-    let wide : 4 * n + 41 ≤ room = omega (arith, few) in
-    ap (λ t. given t (lineOf (replyTo (readLent file seen queue contents)))) (le-leb (4 * n + 41) room wide) ∙ ap lineOf e
+reply-whole file seen queue contents a b c = ap replyTo (lent-enough file seen queue contents (long-enough file seen queue contents a b c))
 
 -- ANSWERED WITH ENOUGH LENT: the line of the file
 pub lines : {file seen queue contents buffer seen₁ queue₁ contents₁ buffer₁ : List ℕ} {r : ℕ} → tableLeast ≤ length seen → tableLeast ≤ length queue
-    → contentsLeast ≤ length contents → mostLine ≤ length buffer
-    → Answers file seen queue contents buffer seen₁ queue₁ contents₁ buffer₁ r → Lines file buffer buffer₁ r
-lines {file} {seen} {queue} {contents} {buffer} {seen₁} {queue₁} {contents₁} {buffer₁} a b c h answers =
-    let e = line-whole file seen queue contents (length buffer) a b c h in
+    → contentsLeast ≤ length contents → Answers file seen queue contents buffer seen₁ queue₁ contents₁ buffer₁ r → Lines file buffer buffer₁ r
+lines {file} {seen} {queue} {contents} {buffer} {seen₁} {queue₁} {contents₁} {buffer₁} a b c answers =
+    let e = ap (lineIn (length buffer)) (reply-whole file seen queue contents a b c) in
     record {
       reply = answers .reply ∙ ap length e;
       buffer = subst (λ (t : List ℕ). buffer₁ ≡ t ++ drop (length t) buffer) e (answers .buffer);
@@ -128,3 +122,15 @@ lines {file} {seen} {queue} {contents} {buffer} {seen₁} {queue₁} {contents�
 -- a new table has the length that was asked for
 pub new-long : (n : ℕ) → n ≤ length {A = ℕ} (replicate n 0)
 new-long n = let l : length {A = ℕ} (replicate n 0) ≡ n = length-replicate n 0 in omega (arith, l)
+
+-- THERE IS ROOM FOR EVERY LINE
+pub room-for-all : (file : List ℕ) (room : ℕ) → mostLine ≤ room → lineIn room (replyOf file) ≡ lineOf (replyOf file)
+room-for-all file room h =
+    let seen : List ℕ = replicate tableLeast 0 in
+    let contents : List ℕ = replicate contentsLeast 0 in
+    let e = reply-whole file seen seen contents (new-long tableLeast) (new-long tableLeast) (new-long contentsLeast) in
+    let few =
+    subst (λ r. length (shownOf r) ≤ 32516) e (shown-fits (readLent file seen seen contents) (lent-sound file seen seen contents))
+    in
+    let wide : 4 * length (shownOf (replyOf file)) + 41 ≤ room = omega (arith, few) in
+    ap (λ b. given b (lineOf (replyOf file))) (le-leb (4 * length (shownOf (replyOf file)) + 41) room wide)

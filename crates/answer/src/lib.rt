@@ -6,11 +6,9 @@ use numbers::refusal::number;
 use numbers::refusal::place;
 use verdict::check::Verdict;
 use verdict::check::check;
-ghost use Prim.Native.Nat.{_≤_};
 ghost use mathlib.Core.Path.{_≡_};
-ghost use lib.ListN.{length};
 ghost use Rattle.answer.specs.Printed.{printedOf};
-ghost use Rattle.answer.specs.Answer.{Answers, mostLine, Lines};
+ghost use Rattle.answer.specs.Answer.{Answers, Lines};
 
 // What is printed of a verdict: of a refusal its number and its place.
 pub fn printed(v: Verdict) -> Printed
@@ -40,9 +38,9 @@ pub fn answer(
     write_line(buffer, printed(verdict), contents)
 }
 
-// The line of a file, at the front of a buffer that holds any: its length. Tables and contents are of a size that is always enough.
+// The line of a file, at the front of the buffer: its length, or 0 where the buffer has no room for it. Tables and contents are of a
+// size that is always enough.
 pub fn line_of(file: &[u8], buffer: &mut [u8]) -> usize
-    requires { ⌜ mostLine ≤ length (now buffer) ⌝ }
     ensures { λ r. ⌜ Lines (now (file .entry)) (now (buffer .entry)) (now (buffer .exit)) r ⌝ }
 {
     let mut seen = [0u16; 32512];

@@ -28,7 +28,7 @@ same-length c = search needs
 
 -- src/lib.rt:43:1
 returns : tie.Need-returns
-returns c = lines (new-long 32512) (new-long 32512) (new-long 32768) (c .before .before .before .before .before .before .before .before .before .before .before .before .pre) (c .before .before .before .before .before .answer .ensures)
+returns c = lines (new-long 32512) (new-long 32512) (new-long 32768) (c .before .before .before .before .before .answer .ensures)
 
 pub line-of-spec : {M : Type 1} → statement M
 line-of-spec =
