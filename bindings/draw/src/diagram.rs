@@ -2,11 +2,10 @@
 
 use std::collections::{BTreeMap, BTreeSet};
 
-use swarmbanner::{DiagramState, Session};
+use swarmbanner::{DiagramState, End, Session, Way};
 
 use crate::dot::{Attribute, Dot};
 use crate::text::ranges;
-use crate::way::{End, Way};
 
 const TAKEN: &str = "#1f5fbf";
 const TAKEN_FILL: &str = "#dbe8fb";

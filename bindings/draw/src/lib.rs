@@ -8,7 +8,5 @@ mod dot;
 mod machines;
 mod picture;
 mod text;
-mod way;
 
 pub use picture::{pictures, Picture};
-pub use way::{End, Failure, Way};

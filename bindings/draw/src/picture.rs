@@ -1,10 +1,9 @@
-use swarmbanner::{Reply, Session};
+use swarmbanner::{End, Failure, Reply, Session, Way};
 
 use crate::diagram::Diagram;
 use crate::dot::Dot;
 use crate::machines;
 use crate::text;
-use crate::way::{End, Failure, Way};
 
 /// A picture and what it is called.
 #[derive(Clone, Debug, PartialEq, Eq)]

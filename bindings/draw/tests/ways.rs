@@ -5,8 +5,8 @@ use std::collections::BTreeMap;
 use reference_checker::diagram::accepts;
 use reference_checker::generate::verdicts::Plans;
 use reference_checker::read::{read, Tables};
-use swarmbanner::{Checker, Session};
-use swarmbanner_draw::{pictures, End, Failure, Picture, Way};
+use swarmbanner::{Checker, End, Failure, Session, Way};
+use swarmbanner_draw::{pictures, Picture};
 
 const FILES: usize = 6_000;
 const SEED: u64 = 20_261_115;

@@ -23,6 +23,7 @@
 //! | check many files in the same memory | [`Checker`] |
 //! | ask whether contents lie in a set | [`member`] |
 //! | see what a file has in it | [`read`] and [`Session`] |
+//! | follow the contents that a reply shows | [`Failure`] and [`Way`] |
 //! | lend memory of one's own | [`lent`] |
 //!
 //! Replies, contents shown and tables come from the proved library. What this crate does with them, the methods of
@@ -37,8 +38,10 @@ pub mod lent;
 mod refusal;
 mod reply;
 mod session;
+mod way;
 
 pub use checker::{check, member, Checker};
 pub use refusal::Refusal;
 pub use reply::Reply;
 pub use session::{read, Arc, BadEntry, DiagramState, Kind, Machine, PoolState, Queue, Session, Transition};
+pub use way::{End, Failure, Way};

@@ -1,4 +1,4 @@
-use swarmbanner::{DiagramState, Reply, Session};
+use crate::{DiagramState, Reply, Session};
 
 /// How a way through a diagram ends.
 #[derive(Clone, Copy, Debug, PartialEq, Eq)]
