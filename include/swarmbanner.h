@@ -70,6 +70,9 @@ extern "C" {
 #define SWARMBANNER_POOL_STATES_MOST 127u
 #define SWARMBANNER_BAD_ENTRIES_MOST 64u
 
+/* The number of this layout of the tables and of the replies; another one has another number. */
+#define SWARMBANNER_LAYOUT 1u
+
 /*
  * Where the tables lie in the space of `swarmbanner_read`, one byte an entry; entries beyond the counts are 0.
  *

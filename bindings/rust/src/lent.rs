@@ -30,6 +30,9 @@ pub const YES: usize = 7;
 /// The contents do not belong to the set.
 pub const NO: usize = 8;
 
+/// The number of the layout of the tables, SWARMBANNER_LAYOUT of the header.
+pub const LAYOUT: usize = 1;
+
 /// Entries that `reply` needs.
 pub const REPLY_LEAST: usize = 3;
 /// Bytes that the tables of a file need.
