@@ -1,0 +1,113 @@
+//! What the programs under `bin/` share: their words, reading a file once, speaking and ending.
+//!
+//! The shell commands have looked at the words before; here files are told from options and nothing is turned down.
+
+use std::ffi::{OsStr, OsString};
+use std::fs::File;
+use std::io::{self, Read, Write};
+use std::os::unix::ffi::OsStrExt;
+use std::process::exit;
+
+/// The exit status for a file that is refused.
+pub const REFUSED: u8 = 2;
+/// The exit status for what could not be tried.
+pub const NOT_TRIED: u8 = 3;
+
+/// What the shell says of a command that a closed pipe ended.
+const PIPE_CLOSED: i32 = 141;
+
+/// A file may have 16,384 bytes; one more shows that it is too long.
+const BYTES_READ: u64 = 16_385;
+
+/// The files among words: all that does not begin with a dash, `-` itself, and what follows `--`.
+pub fn files(words: impl Iterator<Item = OsString>) -> Vec<OsString> {
+    let mut ended = false;
+    let is_file = |word: &OsString| {
+        if !ended && word == "--" {
+            ended = true;
+            return false;
+        }
+        ended || word == "-" || !word.as_bytes().starts_with(b"-")
+    };
+    words.filter(is_file).collect()
+}
+
+/// The bytes of a file, or of standard input for `-`, no more than are looked at; else the system's reason.
+pub fn read_once(name: &OsStr) -> Result<Vec<u8>, String> {
+    let mut bytes = vec![];
+    let outcome = match name == "-" {
+        true => io::stdin().lock().take(BYTES_READ).read_to_end(&mut bytes),
+        false => File::open(name).and_then(|file| file.take(BYTES_READ).read_to_end(&mut bytes)),
+    };
+    outcome.map(|_| bytes).map_err(|error| reason(&error))
+}
+
+/// The system's reason, without its number.
+pub fn reason(error: &io::Error) -> String {
+    let text = error.to_string();
+    match text.find(" (os error") {
+        Some(end) => text[..end].to_string(),
+        None => text,
+    }
+}
+
+/// A command that is running: its name, whether it names the files, and the status it will end with.
+pub struct Command {
+    name: &'static str,
+    names_files: bool,
+    status: u8,
+}
+
+impl Command {
+    /// Names go before the answers where there are several files.
+    pub fn new(name: &'static str, files: usize) -> Self {
+        Command { name, names_files: files > 1, status: 0 }
+    }
+
+    /// The highest status so far.
+    pub fn status(&self) -> u8 {
+        self.status
+    }
+
+    /// Raises the status.
+    pub fn raise(&mut self, status: u8) {
+        self.status = self.status.max(status);
+    }
+
+    /// An answer about a file, with its name before it where there are several.
+    pub fn answer(&self, file: &OsStr, text: &str) {
+        let before = if self.names_files { [file.as_bytes(), b": "].concat() } else { vec![] };
+        self.say(&[&before[..], text.as_bytes()].concat());
+    }
+
+    /// Lines on standard output. What cannot be written ends the command, in silence where the reader has gone.
+    pub fn say(&self, text: &[u8]) {
+        let mut out = io::stdout().lock();
+        let written = out.write_all(text).and_then(|()| out.write_all(b"\n")).and_then(|()| out.flush());
+        match written {
+            Ok(()) => {}
+            Err(error) if error.kind() == io::ErrorKind::BrokenPipe => exit(PIPE_CLOSED),
+            Err(error) => {
+                self.complain(&format!("standard output cannot be written to: {}", reason(&error)));
+                exit(NOT_TRIED.into())
+            }
+        }
+    }
+
+    /// A line on standard error.
+    pub fn complain(&self, text: &str) {
+        self.complain_of(&[text.as_bytes()]);
+    }
+
+    /// A file that could not be read, and why.
+    pub fn unreadable(&mut self, file: &OsStr, why: &str) {
+        self.complain_of(&[file.as_bytes(), b" cannot be read: ", why.as_bytes()]);
+        self.raise(NOT_TRIED);
+    }
+
+    /// Names of files are bytes of any kind. Where standard error cannot be written to, nobody is there to be told.
+    pub fn complain_of(&self, parts: &[&[u8]]) {
+        let line = [self.name.as_bytes(), b": ", &parts.concat(), b"\n"].concat();
+        let _ = io::stderr().write_all(&line);
+    }
+}

@@ -1,0 +1,19 @@
+//! What a session file has in it and what a verdict on it means: in words, by field, and as JSON.
+//!
+//! Replies and tables come from the proved library. The words are plain Rust, tested and not proved.
+
+#![deny(missing_docs)]
+#![forbid(unsafe_code)]
+
+pub mod command;
+mod fields;
+mod json;
+mod listing;
+mod refused;
+mod words;
+
+pub use fields::{Fields, Stop};
+pub use json::object;
+pub use listing::listing;
+pub use refused::Refused;
+pub use words::explained;

@@ -1,0 +1,108 @@
+//! Verdicts in words and as JSON: on the cases of document 01, and on generated files.
+
+use std::ffi::OsStr;
+
+use reference_checker::generate::document;
+use reference_checker::generate::verdicts::Plans;
+use swarmbanner::{Checker, Reply};
+use swarmbanner_explain::{explained, object};
+
+const FILES: usize = 6_000;
+const SEED: u64 = 20_261_115;
+
+fn lines(name: &str) -> Vec<String> {
+    let case = document::cases().into_iter().find(|case| case.name == name).expect("the document has the case");
+    explained(&case.bytes, &swarmbanner::check(&case.bytes))
+}
+
+#[test]
+fn a_closed_file() {
+    assert_eq!(
+        lines("a"),
+        [
+            "the start is inside, no step leads out, and nothing that is listed as bad is inside",
+            "this holds for queues of any length",
+            "1 of 1 control state with a root, 2 transitions, 0 bad entries; pairs compared: 4",
+        ]
+    );
+}
+
+#[test]
+fn a_step_that_has_nowhere_to_go() {
+    assert_eq!(
+        lines("c"),
+        [
+            "before: control state 0: machine 0 in state 0, machine 1 in state 0",
+            "  queue 0 holds 1 message: 0",
+            "inside: the set of control state 0 reads 1 of 1 message, from diagram state 0 to 1, which is final",
+            "step: transition 0: machine 0 goes from state 0 to state 0 and puts 0 at the end of queue 0",
+            "after: control state 0: machine 0 in state 0, machine 1 in state 0",
+            "  queue 0 holds 2 messages: 0 0",
+            "outside: the set of control state 0 reads 1 of 2 messages, from diagram state 0 to 1, which has no arc for the \
+             next, message 0 of queue 0",
+        ]
+    );
+}
+
+#[test]
+fn a_start_that_is_outside() {
+    assert_eq!(
+        lines("d"),
+        [
+            "start: control state 0: machine 0 in state 0, machine 1 in state 0",
+            "  queue 0 is empty",
+            "outside: the set of control state 0 reads 0 of 0 messages, from diagram state 0 to 0, which is not final",
+        ]
+    );
+}
+
+#[test]
+fn contents_that_are_bad() {
+    assert_eq!(
+        lines("e"),
+        [
+            "configuration: control state 0: machine 0 in state 0, machine 1 in state 0",
+            "  queue 0 is empty",
+            "inside: the set of control state 0 reads 0 of 0 messages, from diagram state 0 to 0, which is final",
+            "bad: the diagram of bad entry 0 reads 0 of 0 messages, from diagram state 0 to 0, which is final",
+        ]
+    );
+}
+
+/// What membership, asked of the library, says of the configuration after a step agrees with the words.
+#[test]
+fn generated_files() {
+    let mut plans = Plans::new(SEED);
+    let mut checker = Checker::new();
+    let (mut no_root, mut no_arc, mut not_final) = (0, 0, 0);
+    for _ in 0..FILES {
+        let file = plans.small().bytes();
+        let reply = checker.check(&file);
+        let lines = explained(&file, &reply);
+        let json = object(OsStr::new("f"), &file, &reply.to_string(), 0, &reply);
+        assert!(!json.contains('\n') && json.starts_with('{') && json.ends_with('}'));
+        let last = lines.last().expect("every verdict has words");
+        let Reply::Leaves { control, transition, contents } = &reply else { continue };
+        let session = swarmbanner::read(&file).expect("plans are session files");
+        let (target, after) = session.step(*control, *transition, contents).expect("the step can be taken");
+        assert_eq!(swarmbanner::member(&file, *control, contents), Ok(true));
+        assert_eq!(swarmbanner::member(&file, target, &after), Ok(false));
+        assert!(last.starts_with(&format!("outside: the set of control state {target} ")), "{last}");
+        no_root += usize::from(last.ends_with("has no root, so nothing is in it"));
+        no_arc += usize::from(last.contains("which has no arc for the next"));
+        not_final += usize::from(last.ends_with("which is not final"));
+    }
+    println!("{no_root} without a root, {no_arc} without an arc, {not_final} not final");
+    assert!(no_root > 50 && no_arc > 50 && not_final > 50, "too few files of some kind");
+}
+
+#[test]
+fn names_of_files_in_json() {
+    use std::os::unix::ffi::OsStrExt;
+    let file = [2, 1, 1, 0, 0, 1, 1, 2, 0, 0, 0, 1, 0, 1, 0, 1, 0, 0, 2, 0, 1, 0, 1, 1, 1, 0, 0, 1, 0];
+    let told = |name: &[u8]| object(OsStr::from_bytes(name), &file, "closed 4", 0, &swarmbanner::check(&file));
+    let rest = "\"line\":\"closed 4\",\"verdict\":\"closed\",\"status\":0,\"pairs\":4}";
+    assert_eq!(told(b"a\"b\\c\n"), format!("{{\"file\":\"a\\\"b\\\\c\\u000a\",{rest}"));
+    assert_eq!(told("ü".as_bytes()), format!("{{\"file\":\"ü\",{rest}"));
+    assert_eq!(told(b"\xff"), format!("{{\"file\":\"\u{fffd}\",\"file_bytes\":[255],{rest}"));
+}
