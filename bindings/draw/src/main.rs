@@ -1,102 +1,106 @@
-//! Draws a session file: swarmbanner-draw FILE [-o DIR] [--control C]
+//! What `bin/swarmbanner-draw` runs: DIR CONTROL FILE, CONTROL being empty where none is asked for.
 
-use std::fmt::Display;
+use std::ffi::{OsStr, OsString};
 use std::fs;
-use std::io::{self, Write};
+use std::io;
+use std::os::unix::ffi::OsStrExt;
 use std::path::{Path, PathBuf};
-use std::process::{Command, ExitCode};
+use std::process::{self, ExitCode};
 
 use swarmbanner_draw::{pictures, Picture};
-
-const USAGE: &str = "\
-usage: swarmbanner-draw FILE [-o DIR] [--control C]
-  -o DIR       where the pictures go (the folder it is called in)
-  --control C  draw the diagram of control state C";
+use swarmbanner_explain::command::{read_once, reason, Command, NOT_TRIED, REFUSED};
+use swarmbanner_explain::Refused;
 
 /// Laying out more arrows takes minutes and shows nothing.
 const ARROWS_MOST: usize = 1500;
 
-struct Options {
-    file: PathBuf,
-    folder: PathBuf,
-    control: Option<usize>,
-}
-
-fn options() -> Option<Options> {
-    let (mut file, mut folder, mut control) = (None, PathBuf::from("."), None);
-    let mut words = std::env::args_os().skip(1);
-    while let Some(word) = words.next() {
-        match word.to_str() {
-            Some("-o") => folder = words.next()?.into(),
-            Some("--control") => control = Some(words.next()?.to_str()?.parse().ok()?),
-            Some(option) if option.starts_with('-') => return None,
-            _ if file.is_some() => return None,
-            _ => file = Some(word.into()),
-        }
-    }
-    Some(Options { file: file?, folder, control })
-}
-
 fn main() -> ExitCode {
-    let Some(options) = options() else {
-        eprintln!("{USAGE}");
-        return ExitCode::from(2);
+    let words: Vec<OsString> = std::env::args_os().skip(1).collect();
+    let mut command = Command::new("swarmbanner-draw", 1);
+    let [folder, control, file] = &words[..] else {
+        command.complain("usage: swarmbanner-draw DIR CONTROL FILE; bin/swarmbanner-draw calls it");
+        return ExitCode::from(NOT_TRIED);
     };
-    match run(&options) {
-        Ok(()) => ExitCode::SUCCESS,
-        Err(complaint) => {
-            eprintln!("swarmbanner-draw: {complaint}");
-            ExitCode::from(2)
+    let bytes = match read_once(file) {
+        Ok(bytes) => bytes,
+        Err(why) => {
+            command.unreadable(file, &why);
+            return ExitCode::from(command.status());
         }
+    };
+    let control = control.to_str().filter(|control| !control.is_empty());
+    if let Err(complaint) = draw(&mut command, Path::new(folder), control, file, &bytes) {
+        command.complain_of(&[&complaint]);
+        command.raise(NOT_TRIED);
     }
+    ExitCode::from(command.status())
 }
 
-fn run(options: &Options) -> Result<(), String> {
-    let about = |path: &Path| {
-        let path = path.display().to_string();
-        move |error: io::Error| format!("{path}: {error}")
+/// A complaint has names of files in it, which are bytes of any kind.
+type Complaint = Vec<u8>;
+
+fn about(path: &Path, why: &str) -> Complaint {
+    [path.as_os_str().as_bytes(), b" cannot be written: ", why.as_bytes()].concat()
+}
+
+fn draw(
+    command: &mut Command,
+    folder: &Path,
+    control: Option<&str>,
+    file: &OsStr,
+    bytes: &[u8],
+) -> Result<(), Complaint> {
+    let reply = swarmbanner::check(bytes);
+    let session = match swarmbanner::read(bytes) {
+        Ok(session) => session,
+        Err(refusal) => {
+            command.raise(REFUSED);
+            let lines = [vec![refusal.to_string()], Refused::new(bytes, refusal).lines()].concat();
+            command.say(lines.join("\n  ").as_bytes());
+            return Ok(());
+        }
     };
-    let bytes = fs::read(&options.file).map_err(about(&options.file))?;
-    let reply = swarmbanner::check(&bytes);
-    say(&reply)?;
-    let session = swarmbanner::read(&bytes).map_err(|refusal| refusal.explain())?;
-    if let Some(control) = options.control.filter(|&control| control >= session.control_states()) {
-        return Err(format!("there is no control state {control}, only 0 to {}", session.control_states() - 1));
-    }
-    fs::create_dir_all(&options.folder).map_err(about(&options.folder))?;
-    let stem = options.file.file_stem().unwrap_or_default().to_string_lossy();
-    for picture in pictures(&session, &reply, options.control) {
-        let path = options.folder.join(format!("{stem}-{}.dot", picture.name));
-        fs::write(&path, &picture.dot).map_err(about(&path))?;
-        say(&path.display())?;
-        render(&picture, &path)?;
+    let control = control.map(|control| within(control, session.control_states())).transpose()?;
+    command.say(reply.to_string().as_bytes());
+    fs::create_dir_all(folder).map_err(|error| about(folder, &reason(&error)))?;
+    for picture in pictures(&session, &reply, control) {
+        let path = folder.join(named(file, &picture));
+        fs::write(&path, &picture.dot).map_err(|error| about(&path, &reason(&error)))?;
+        command.say(path.as_os_str().as_bytes());
+        render(command, &picture, &path)?;
     }
     Ok(())
 }
 
-/// A line on standard output, which may have been closed.
-fn say(line: &dyn Display) -> Result<(), String> {
-    writeln!(io::stdout(), "{line}").map_err(|error| format!("standard output: {error}"))
+/// A number of a control state that the file has.
+fn within(control: &str, count: usize) -> Result<usize, Complaint> {
+    let number = control.parse().ok().filter(|&number| number < count);
+    number.ok_or_else(|| format!("there is no control state {control}, only 0 to {}", count - 1).into_bytes())
 }
 
-/// An SVG beside the DOT, where Graphviz is installed.
-fn render(picture: &Picture, dot: &Path) -> Result<(), String> {
-    let svg = dot.with_extension("svg");
+/// The name of the session file without its ending, then what the picture shows.
+fn named(file: &OsStr, picture: &Picture) -> OsString {
+    let stem = if file == "-" { OsStr::new("input") } else { Path::new(file).file_stem().unwrap_or_default() };
+    let mut name = stem.to_os_string();
+    name.push(format!("-{}.dot", picture.name));
+    name
+}
+
+/// An SVG beside the DOT, where Graphviz is installed. A name that begins with a dash is no option of dot's, as it has a folder.
+fn render(command: &Command, picture: &Picture, dot: &Path) -> Result<(), Complaint> {
+    let svg: PathBuf = dot.with_extension("svg");
+    let none = |why: &str| {
+        command.complain_of(&[why.as_bytes(), b", so there is no ", svg.as_os_str().as_bytes()]);
+        Ok(())
+    };
     if picture.arrows > ARROWS_MOST {
-        eprintln!(
-            "swarmbanner-draw: {} arrows are too many for a picture, so there is no {}",
-            picture.arrows,
-            svg.display()
-        );
-        return Ok(());
+        return none(&format!("{} arrows are too many for a picture", picture.arrows));
     }
-    match Command::new("dot").arg("-Tsvg").arg("-o").arg(&svg).arg(dot).status() {
-        Ok(status) if status.success() => say(&svg.display()),
-        Ok(status) => Err(format!("dot fails on {}: {status}", dot.display())),
-        Err(error) if error.kind() == io::ErrorKind::NotFound => {
-            eprintln!("swarmbanner-draw: dot (Graphviz) is not installed, so there is no {}", svg.display());
-            Ok(())
-        }
-        Err(error) => Err(format!("dot: {error}")),
+    match process::Command::new("dot").arg("-Tsvg").arg("-o").arg(&svg).arg(dot).status() {
+        Ok(status) if status.success() => command.say(svg.as_os_str().as_bytes()),
+        Ok(status) => return Err(about(&svg, &format!("dot ended with {status}"))),
+        Err(error) if error.kind() == io::ErrorKind::NotFound => return none("dot (Graphviz) is not installed"),
+        Err(error) => return Err(about(&svg, &format!("dot: {}", reason(&error)))),
     }
+    Ok(())
 }
