@@ -1,10 +1,13 @@
 /*
  * Prints the verdict on each session file named, with its name before it where there are several.
- * Exit status, the highest over all files: 0 closed; 1 outside, leaves or bad; 2 refused, or cannot be read.
+ * Exit status, the highest over all files: 0 closed; 1 outside, leaves or bad; 2 refused; 3 wrong usage, a file that cannot
+ * be read, or a verdict that cannot be written.
  */
 #include "swarmbanner.h"
 
+#include <errno.h>
 #include <stdio.h>
+#include <string.h>
 
 static uint16_t seen[SWARMBANNER_TABLE_LEAST];
 static uint16_t queue[SWARMBANNER_TABLE_LEAST];
@@ -49,23 +52,31 @@ static int verdict(size_t length)
     }
 }
 
-static int verdict_of(const char *name)
+/* Says why something was not tried. */
+static int complain(const char *what, const char *of_it)
+{
+    fprintf(stderr, "verdict: %s %s: %s\n", what, of_it, strerror(errno));
+    return 3;
+}
+
+/* The name goes before the verdict only when there is one. */
+static int verdict_of(const char *name, int is_named)
 {
     FILE *stream = fopen(name, "rb");
     size_t length;
-    int failed;
+    int grade;
 
-    if (stream == NULL) {
-        perror(name);
-        return 2;
-    }
+    if (stream == NULL)
+        return complain(name, "cannot be read");
     length = fread(file, 1, sizeof file, stream);
-    failed = ferror(stream);
-    fclose(stream);
-    if (failed) {
-        fprintf(stderr, "%s cannot be read\n", name);
-        return 2;
+    if (ferror(stream)) {
+        grade = complain(name, "cannot be read");
+        fclose(stream);
+        return grade;
     }
+    fclose(stream);
+    if (is_named)
+        printf("%s: ", name);
     return verdict(length);
 }
 
@@ -76,16 +87,15 @@ int main(int count, char **words)
 
     if (count < 2) {
         fprintf(stderr, "usage: verdict FILE..\n");
-        return 2;
+        return 3;
     }
     for (i = 1; i < count; i++) {
-        int grade;
+        int grade = verdict_of(words[i], count > 2);
 
-        if (count > 2)
-            printf("%s: ", words[i]);
-        grade = verdict_of(words[i]);
         if (grade > status)
             status = grade;
     }
+    if (fflush(stdout) != 0)
+        return complain("standard output", "cannot be written to");
     return status;
 }
