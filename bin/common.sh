@@ -106,21 +106,30 @@ digest() {
     sha256sum | cut -c 1-64
 }
 
-# A digest of all that a proof depends on. Names stand beside the digests of the files, so a moved file counts too.
+# files_in FOLDER PART..: each file with its digest, in a fixed order. Names are there too, so a moved file counts.
+files_in() {
+    found=$(cd "$1" && shift && find "$@" -type f -exec sha256sum {} + 2> /dev/null) || die "the source in $1 cannot be read"
+    printf '%s\n' "$found" | LC_ALL=C sort
+}
+
+# A digest of all that a proof depends on.
 source_digest() {
     command -v rt > /dev/null || die 'rt, the Rattle kit, is not on the path'
-    { rt version && uname -m && cd "$top" && find crates.txt crates -type f -exec sha256sum {} + | LC_ALL=C sort; } | digest
+    kit=$(rt version 2> /dev/null) || die 'rt, the Rattle kit, does not say its version'
+    parts=$(files_in "$top" crates.txt crates) || exit 3
+    printf '%s\n' "$kit" "$(uname -m)" "$parts" | digest
 }
 
 # .. and of what the Rust programs are made from beside the library
 rust_digest() {
-    (cd "$top/bindings" && find . -name target -prune -o -type f -exec sha256sum {} + | LC_ALL=C sort) | digest
+    parts=$(files_in "$top/bindings" Cargo.toml Cargo.lock rust explain draw) || exit 3
+    printf '%s\n' "$parts" | digest
 }
 
 # is_made FILE DIGEST: it is the file that was made from what has this digest, byte for byte. Nothing is written to find that out,
 # so what is built can be used where nothing can be written.
 is_made() {
-    [ -f "$1" ] && [ -r "$records/${1##*/}.made" ] && [ "$(cat "$records/${1##*/}.made")" = "$2 $(digest < "$1")" ]
+    [ -f "$1" ] && [ -r "$1" ] && [ -r "$records/${1##*/}.made" ] && [ "$(cat "$records/${1##*/}.made")" = "$2 $(digest < "$1")" ]
 }
 
 note_made() {
@@ -131,6 +140,7 @@ note_made() {
 need_proved() {
     source=$(source_digest) || exit 3
     is_made "$1" "$source" || locked prove "$@"
+    is_made "$1" "$source" || die "$1 was not made from the source as it is"
 }
 
 # Called with the lock, which another build may have held until now.
@@ -159,7 +169,7 @@ progress() {
     { cd "$top" && rt "$@" 2>&1; echo "status $?"; } | while IFS= read -r line; do
         printf '%s\n' "$line" >&3
         case $line in
-        'rt: '*' proved ('*' s)' | 'rt: '*'NOT PROVED'* | 'rt: '*FAILED*) complain "${line#rt: }" ;;
+        'rt: '*' proved ('*' s)' | 'rt: target/staticlib/'* | 'rt: '*'NOT PROVED'* | 'rt: '*FAILED*) complain "${line#rt: }" ;;
         esac
         [ "$line" = 'status 0' ]
     done 3> "$records/log"
@@ -168,8 +178,10 @@ progress() {
 # need_rust NAME: builds the program, and the library under it, unless it was made from what is there
 need_rust() {
     source=$(source_digest) || exit 3
-    made_from=$source-$(rust_digest)
+    made_from=$(rust_digest) || exit 3
+    made_from=$source-$made_from
     is_made "$rust/release/$1" "$made_from" || locked build_rust "$1"
+    is_made "$rust/release/$1" "$made_from" || die "$rust/release/$1 was not made from the source as it is"
 }
 
 # From nothing: cargo goes by the times of files, which say less than their digests.
