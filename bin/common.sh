@@ -106,8 +106,11 @@ digest() {
     sha256sum | cut -c 1-64
 }
 
-# files_in FOLDER PART..: each file with its digest, in a fixed order. Names are there too, so a moved file counts.
+# files_in FOLDER PART..: each file with its digest, in a fixed order. Names are there too, so a moved file counts. A link would say
+# nothing of what it leads to, and rt does not look there either.
 files_in() {
+    odd=$(cd "$1" && shift && find "$@" ! -type f ! -type d 2> /dev/null) || die "the source in $1 cannot be read"
+    [ -z "$odd" ] || die "$1/$odd is neither a file nor a folder, so no proof is of what it has"
     found=$(cd "$1" && shift && find "$@" -type f -exec sha256sum {} + 2> /dev/null) || die "the source in $1 cannot be read"
     printf '%s\n' "$found" | LC_ALL=C sort
 }
@@ -115,7 +118,7 @@ files_in() {
 # A digest of all that a proof depends on.
 source_digest() {
     command -v rt > /dev/null || die 'rt, the Rattle kit, is not on the path'
-    kit=$(rt version 2> /dev/null) || die 'rt, the Rattle kit, does not say its version'
+    kit=$(rt version < /dev/null 2> /dev/null) || die 'rt, the Rattle kit, does not say its version'
     parts=$(files_in "$top" crates.txt crates) || exit 3
     printf '%s\n' "$kit" "$(uname -m)" "$parts" | digest
 }
@@ -165,8 +168,9 @@ forget() {
 }
 
 # Runs rt and says, as it goes, which crates it proved or not. Its status comes by the same pipe as its words, as the last line.
+# Standard input may be a session file, so no build gets it.
 progress() {
-    { cd "$top" && rt "$@" 2>&1; echo "status $?"; } | while IFS= read -r line; do
+    { cd "$top" && rt "$@" < /dev/null 2>&1; echo "status $?"; } | while IFS= read -r line; do
         printf '%s\n' "$line" >&3
         case $line in
         'rt: '*' proved ('*' s)' | 'rt: target/staticlib/'* | 'rt: '*'NOT PROVED'* | 'rt: '*FAILED*) complain "${line#rt: }" ;;
@@ -192,7 +196,7 @@ build_rust() {
     complain 'building the programs over the library'
     rm -rf "$rust"
     (cd "$top/bindings" && env -u SWARMBANNER_LIB_DIR -u CARGO_BUILD_TARGET cargo build --quiet --release --offline \
-        --target-dir "$rust" --bins -p swarmbanner-draw -p swarmbanner-explain) > "$records/log" 2>&1 ||
+        --target-dir "$rust" --bins -p swarmbanner-draw -p swarmbanner-explain) < /dev/null > "$records/log" 2>&1 ||
         die "not built; $records/log has what cargo said"
     [ "$(source_digest)-$(rust_digest)" = "$made_from" ] || die 'the source changed while it was built: call again'
     for made in "$rust"/release/swarmbanner-*; do
