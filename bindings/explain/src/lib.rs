@@ -12,7 +12,7 @@ mod listing;
 mod refused;
 mod words;
 
-pub use fields::{Fields, Stop};
+pub use fields::{Fields, Limit, Stop};
 pub use json::object;
 pub use listing::listing;
 pub use refused::Refused;
