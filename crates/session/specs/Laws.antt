@@ -3,6 +3,7 @@ pub mod Ranges
 pub mod Testing
 pub mod Machines
 pub mod Queues
+pub mod Kinds
 pub mod Map
 pub mod Bad
 pub mod Transitions

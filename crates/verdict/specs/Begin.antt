@@ -1,18 +1,11 @@
--- The start of a run, by the tables.
-use Prim.Native.Nat.{ℕ, _≤_, _<_}
+-- What is asked to judge the start.
+use Prim.Native.Nat.{ℕ, _≤_}
 use mathlib.Core.Path.{_≡_}
-use mathlib.Core.Bool.{Bool, true, false}
-use mathlib.Core.Option.{Option, none, some}
 use mathlib.Core.List.{List}
-use lib.ListN.{length, getD, take}
-use lib.Dec.{eqb}
-use Rattle.session.specs.declared.tables.Machines.{Machines}
-
--- for each machine its starting state
-abbrev pub startsOf : Machines → List ℕ
-startsOf m = take (m .count) (m .starts)
+use lib.ListN.{length, getD}
+use Rattle.session.specs.Limits.{mostPool}
 
 -- every root has its final mark
 pub record RootsIn (roots finals : List ℕ) : Type 0 where
-  pub long : length finals ≡ 127
-  pub small : (i : ℕ) → getD roots i 0 ≤ 127
+  pub long : length finals ≡ mostPool
+  pub small : (i : ℕ) → getD roots i 0 ≤ mostPool

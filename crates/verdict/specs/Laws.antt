@@ -1,5 +1,4 @@
 -- What the proofs of checking rest on.
-pub mod Controls
 pub mod Start
 pub mod Turns
 pub mod Judged

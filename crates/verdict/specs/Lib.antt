@@ -1,4 +1,3 @@
-pub mod Controls
 pub mod Start
 pub mod Judging
 pub mod Begin

@@ -1,22 +1,18 @@
 -- What the start of an item's walk is, in the model's words.
 use Prim.Native.Nat.{ℕ, suc, _+_, _≤_}
 use mathlib.Core.Path.{_≡_}
-use mathlib.Core.Bool.{Bool}
 use mathlib.Core.Option.{Option}
 use mathlib.Core.Logic.{_⊎_}
 use mathlib.Core.List.{List}
-use lib.ListN.{getD, take, set}
-use lib.Dec.{eqb}
-use Rattle.session.specs.declared.tables.Machines.{Machines}
+use lib.ListN.{take}
 use Rattle.session.specs.declared.tables.Queues.{Queues}
-use Rattle.model.specs.Model.{Action, local, send, receive, firstOf, number, places}
+use Rattle.model.specs.Model.{Action, local, send, receive, firstOf}
 use Rattle.model.specs.Judge.{out, into, rootPair}
 use Rattle.meaning.specs.Tables.{actionOf, rootOf}
 use Rattle.walk.specs.Pairs.{place, sideOf}
 use Rattle.walk.specs.Over.{wordOver}
-use Rattle.verdict.specs.Controls.{sizesOf}
 use Rattle.verdict.specs.declared.start.Cut.{Cut}
-use Rattle.session.specs.Rows.{wordEntry, machineAt, fromAt, toAt, kindAt, queueAt, lengthAt, wordAt}
+use Rattle.session.specs.Rows.{wordEntry, kindAt, queueAt, lengthAt, wordAt}
 
 -- the action of the transition whose row begins here
 abbrev pub actionAt : List ℕ → ℕ → Action
@@ -41,9 +37,3 @@ pub record Cuts (q : Queues) (rows : List ℕ) (row : ℕ) (r : Cut) : Type 0 wh
 pub record PlaceAt (roots : List ℕ) (c r : ℕ) : Type 0 where
   pub is : place r ≡ rootOf roots c
   pub most : r ≤ 127
-
-abbrev pub IsAt : Machines → List ℕ → ℕ → ℕ → Bool → Type 0
-IsAt m rows row c r = r ≡ eqb (getD (places (sizesOf m) c) (machineAt rows row) 0) (fromAt rows row)
-
-abbrev pub Moved : Machines → List ℕ → ℕ → ℕ → ℕ → Type 0
-Moved m rows row c r = r ≡ number (sizesOf m) (set (places (sizesOf m) c) (machineAt rows row) (toAt rows row))

@@ -1,41 +1,13 @@
-// The start: the control state that a run begins in, and whether empty queues are in its set.
-use crate::controls::product_from;
+// The start: whether empty queues are in the set of the control state that a run begins in.
 use crate::start::place_of;
-use numbers::number::wide;
-use session::kinds::ControlState;
+use controls::begin::first_control;
 use session::tables::Machines;
 ghost use mathlib.Core.Path.{_≡_};
-ghost use lib.ListN.{take};
 ghost use Rattle.session.specs.Laws.Machines.{MachinesValid};
 ghost use Rattle.model.specs.Model.{number};
 ghost use Rattle.meaning.specs.Tables.{rootOf, finalAt};
-ghost use Rattle.verdict.specs.Controls.{sizesOf};
-ghost use Rattle.verdict.specs.Begin.{startsOf, RootsIn};
-ghost use Rattle.verdict.specs.Laws.Begin.{Numberable};
-
-// The number of the control state in which machine i is in state starts[i].
-fn number_of(states: [u8; 4], starts: [u8; 4], count: usize) -> usize
-    requires { ⌜ Numberable states starts count ⌝ }
-    ensures { λ r. ⌜ r ≡ number (take count states) (take count starts) ⌝ }
-{
-    let mut sum: usize = 0;
-    let mut i: usize = 0;
-    while i < count {
-        sum = sum + wide(starts[i]) * product_from(states, count, i + 1);
-        i += 1;
-    }
-    sum
-}
-
-// The control state of the starting states.
-fn first_control(m: Machines) -> ControlState
-    requires { ⌜ MachinesValid m ⌝ }
-    ensures { λ r. ⌜ r .0 ≡ number (sizesOf m) (startsOf m) ⌝ }
-{
-    let states = m.states;
-    let starts = m.starts;
-    ControlState::new(number_of(states, starts, wide(m.count)))
-}
+ghost use Rattle.controls.specs.Controls.{sizesOf, startsOf};
+ghost use Rattle.verdict.specs.Begin.{RootsIn};
 
 // Whether empty queues are in the set of the control state that the machines start in.
 pub fn begins_inside(m: Machines, roots: &[u8], finals: &[u8]) -> bool

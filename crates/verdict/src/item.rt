@@ -1,7 +1,7 @@
 // One item, judged by itself.
 use crate::start::cut_of;
-use crate::start::moved;
 use crate::start::place_of;
+use controls::moves::moved;
 use session::kinds::ControlState;
 use session::kinds::DiagramState;
 use session::tables::Machines;

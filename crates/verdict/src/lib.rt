@@ -1,7 +1,6 @@
 // Checking: the items of a session in order, each judged by a walk, and the reply.
 pub mod begin;
 pub mod check;
-pub mod controls;
 pub mod entries;
 pub mod item;
 pub mod items;

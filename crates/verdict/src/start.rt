@@ -1,26 +1,19 @@
 // Where the walk of an item starts: how its action parts the contents, and where source and target stand.
-use crate::controls::part_at;
 use numbers::number::entry;
 use numbers::number::wide;
 use session::kinds::ControlState;
 use session::queues::messages_of;
-use session::tables::FROM;
 use session::tables::KIND;
 use session::tables::LENGTH;
-use session::tables::Machines;
 use session::tables::QUEUE;
 use session::tables::Queues;
-use session::tables::TO;
 use walk::pairs::AFTER;
 use walk::pairs::NOWHERE;
-ghost use mathlib.Core.Path.{_≡_};
 ghost use Prim.Native.Nat.{_+_, _<_, _≤_};
 ghost use lib.ListN.{length, getD};
-ghost use Rattle.session.specs.Rows.{rowLength, machineAt, toAt, queueAt};
-ghost use Rattle.session.specs.Laws.Machines.{MachinesValid};
+ghost use Rattle.session.specs.Rows.{rowLength, queueAt};
 ghost use Rattle.session.specs.Laws.Queues.{QueuesValid};
-ghost use Rattle.verdict.specs.Controls.{sizesOf};
-ghost use Rattle.verdict.specs.Start.{Cuts, PlaceAt, IsAt, Moved};
+ghost use Rattle.verdict.specs.Start.{Cuts, PlaceAt};
 
 // How an action parts the contents: the side it starts on, the first message that is read after it, and how many messages of
 // its word are taken out and put in.
@@ -76,29 +69,4 @@ pub fn place_of(roots: &[u8], c: ControlState) -> u8
         return NOWHERE;
     }
     root - 1
-}
-
-// Whether the machine of the transition is in its from-state.
-pub fn is_at(m: Machines, rows: &[u8], row: usize, c: ControlState) -> bool
-    requires { ⌜ MachinesValid m ⌝ }
-    requires { ⌜ row + rowLength ≤ length (now rows) ⌝ }
-    requires { ⌜ machineAt (now rows) row < m .count ⌝ }
-    requires { ⌜ c .0 < m .product ⌝ }
-    ensures { λ r. ⌜ IsAt m (now (rows .entry)) row (c .0) r ⌝ }
-{
-    let p = part_at(m, c, rows[row]);
-    p.rest / p.stride == wide(rows[row + FROM])
-}
-
-// The control state that the transition leads to.
-pub fn moved(m: Machines, rows: &[u8], row: usize, c: ControlState) -> ControlState
-    requires { ⌜ MachinesValid m ⌝ }
-    requires { ⌜ row + rowLength ≤ length (now rows) ⌝ }
-    requires { ⌜ machineAt (now rows) row < m .count ⌝ }
-    requires { ⌜ toAt (now rows) row < getD (m .states) (machineAt (now rows) row) 0 ⌝ }
-    requires { ⌜ c .0 < m .product ⌝ }
-    ensures { λ r. ⌜ Moved m (now (rows .entry)) row (c .0) (r .0) ⌝ }
-{
-    let p = part_at(m, c, rows[row]);
-    ControlState::new(p.base + (wide(rows[row + TO]) * p.stride + p.rest % p.stride))
 }

@@ -1,7 +1,7 @@
 // The steps, by control state and within it by transition number.
 use crate::item::judge_step;
 use crate::judged::Progress;
-use crate::start::is_at;
+use controls::moves::is_at;
 use session::kinds::ControlState;
 use session::tables::Machines;
 use session::tables::Queues;

@@ -6,8 +6,7 @@ use mathlib.Core.List.{List}
 use lib.ListN.{getD, take}
 use borrow.Author.Tests.{lt-ltb, eq-eqb, ne-eqb}
 use native.Mathlib.Omega.{arith}
-use Rattle.session.specs.Limits.{mostMessages, mostControls}
-use Rattle.session.specs.Kinds.{limited}
+use Rattle.session.specs.Limits.{mostMessages}
 use Rattle.session.specs.Laws.Machines.{MachinesValid}
 use Rattle.session.specs.Laws.Queues.{QueuesValid}
 use Rattle.session.specs.declared.tables.Machines.{Machines}
@@ -24,16 +23,6 @@ controls-are {m} v = product-is (m .states) (m .count) (omega (arith, v .most, v
 
 pub messages-are : {q : Queues} → QueuesValid q → total (take (q .count) (q .messages)) ≡ q .sum
 messages-are {q} v = total-is (q .messages) (q .count) (omega (arith, v .most, v .long)) ∙ sym (v .sum)
-
--- a number within its kind's limit is made as it is
-made-is : (limit raw : ℕ) {x : ℕ} → raw < limit → x ≡ limited limit raw → x ≡ raw
-made-is limit raw h e = e ∙ rw (lt-ltb raw limit h)
-
-pub message-made : {q : Queues} → QueuesValid q → {m wide raw : ℕ} → raw < q .sum → wide ≡ raw → m ≡ limited mostMessages wide → m ≡ raw
-message-made v {wide = wide} h w e = made-is mostMessages wide (omega (arith, v .sumMost)) e ∙ w
-
-pub control-made : {m : Machines} → MachinesValid m → {x : ℕ} (c : ℕ) → c < m .product → x ≡ limited mostControls c → x ≡ c
-control-made v c h e = made-is mostControls c (omega (arith, v .productMost)) e
 
 module _ (roots : List ℕ) (c : ℕ) {v : ℕ} (e : v ≡ getD roots c 0) where
   pub root-missing : v ≡ 0 → none ≡ rootOf roots c

@@ -1,8 +1,9 @@
 -- The model's transitions and bad entries are the rows of the tables, and so are within the ranges of the rows.
 use Prim.Native.Nat.{ℕ, zero, suc, _+_, _*_, _≤_, _<_}
-use mathlib.Core.Path.{_≡_, refl, sym, ap, subst}
+use mathlib.Core.Path.{_≡_, refl, sym, ap, subst, _∙_}
+use mathlib.Core.Option.{some}
 use mathlib.Core.List.{List, List·Memᴰ·not-nil}
-use lib.ListN.{length, getD, take, drop}
+use lib.ListN.{length, getD, getElem?, take, drop}
 use lib.Seq.{getD-drop, getD-take, length-take-le}
 use native.Mathlib.Omega.{arith}
 use Rattle.session.specs.Laws.Queues.{QueuesValid}
@@ -26,6 +27,14 @@ transitions-length rows (suc left) t = ap suc (transitions-length rows left (suc
 pub entries-length : (rows : List ℕ) (left b : ℕ) → length (entriesFrom rows left b) ≡ left
 entries-length rows zero b = refl
 entries-length rows (suc left) b = ap suc (entries-length rows left (suc b))
+
+-- transition i of a table
+pub transition-at : (rows : List ℕ) (left t i : ℕ) → i < left
+    → getElem? (transitionsFrom rows left t) i ≡ some (transitionAt rows ((t + i) * rowLength))
+transition-at rows zero t i h = absurd (omega arith)
+transition-at rows (suc left) t zero h = ap (λ n. some (transitionAt rows (n * rowLength))) (omega arith)
+transition-at rows (suc left) t (suc i) h =
+    transition-at rows left (suc t) i (omega arith) ∙ ap (λ n. some (transitionAt rows (n * rowLength))) (omega arith)
 
 -- which row a transition is
 pub transition-row : (rows : List ℕ) (left t : ℕ) (τ : Transition) → Mem τ (transitionsFrom rows left t)

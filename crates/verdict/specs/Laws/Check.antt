@@ -20,11 +20,11 @@ use Rattle.meaning.specs.Tables.{sessionOf, rootOf, entriesFrom as entriesIn, f
 use Rattle.meaning.specs.Reply.{FileReply, verdict}
 use Rattle.walk.specs.Pairs.{mostPairs}
 use Rattle.walk.specs.Marks.{Blank}
-use Rattle.verdict.specs.Controls.{sizesOf}
-use Rattle.verdict.specs.Begin.{startsOf, RootsIn}
+use Rattle.controls.specs.Controls.{sizesOf, startsOf}
+use Rattle.verdict.specs.Begin.{RootsIn}
 use Rattle.verdict.specs.Judging.{Kept, Scratch, saidSoFar, shownSoFar, Judges, AllParts, AllAsked}
 use Rattle.verdict.specs.Check.{saidVerdict, shownIn, concluded, Room, Concludes}
-use Rattle.verdict.specs.Laws.Controls.{sizes-product}
+use Rattle.controls.specs.Laws.Parting.{sizes-product}
 use Rattle.verdict.specs.Laws.Begin.{begin-inside, start-passes, start-fails}
 use Rattle.verdict.specs.Laws.Whole.{allHere, all-bad}
 use Rattle.verdict.specs.declared.judged.Progress.{Progress}

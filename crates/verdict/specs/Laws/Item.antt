@@ -29,7 +29,8 @@ use Rattle.walk.specs.Laws.Items.{item-fits}
 use Rattle.walk.specs.Laws.Valid.{over-session}
 use Rattle.walk.specs.declared.pairs.Walk.{Walk}
 use Rattle.walk.specs.declared.pairs.Node.{Node}
-use Rattle.verdict.specs.Start.{actionAt, cutOf, Cuts, PlaceAt, Moved}
+use Rattle.verdict.specs.Start.{actionAt, cutOf, Cuts, PlaceAt}
+use Rattle.controls.specs.Controls.{Moved}
 use Rattle.verdict.specs.declared.start.Cut.{Cut}
 use Rattle.session.specs.Rows.{wordEntry, lengthAt}
 

@@ -20,12 +20,12 @@ use Rattle.model.specs.Judge.{decide}
 use Rattle.model.specs.Searched.{judgeBySearch}
 use Rattle.model.specs.Laws.Items.{IsItem}
 use Rattle.meaning.specs.Tables.{sessionOf, transitionAt}
+use Rattle.meaning.specs.Laws.Rows.{transition-at}
 use Rattle.walk.specs.Pairs.{mostPairs}
-use Rattle.verdict.specs.Controls.{sizesOf}
-use Rattle.verdict.specs.Start.{IsAt}
+use Rattle.controls.specs.Controls.{sizesOf, IsAt}
 use Rattle.verdict.specs.Judging.{Kept, Scratch, Judging, saidSoFar, Judges, StepsAsked, StepAsked, Parts}
-use Rattle.verdict.specs.Laws.Controls.{sizes-product}
-use Rattle.verdict.specs.Laws.Turns.{transition-at, turn-skips, turn-passes, turn-fails}
+use Rattle.controls.specs.Laws.Parting.{sizes-product}
+use Rattle.verdict.specs.Laws.Turns.{turn-skips, turn-passes, turn-fails}
 use Rattle.walk.specs.declared.judge.Judged.{Judged}
 use Rattle.walk.specs.declared.judge.Judged.the-variants.{Passes, Fails}
 use Rattle.verdict.specs.declared.judged.Progress.the-variants.{Passed, Leaves}

@@ -2,11 +2,9 @@
 use Prim.Native.Nat.{ℕ, zero, suc, _+_, _*_, _≤_, _<_}
 use mathlib.Core.Path.{_≡_, refl, sym, ap, subst, _∙_}
 use mathlib.Core.Bool.{Bool, true, false}
-use mathlib.Core.Option.{some}
 use mathlib.Core.List.{List, [], _∷_, _++_}
 use native.Mathlib.Omega.{arith}
 use native.Mathlib.Nat.{mul-le-mul}
-use lib.ListN.{getElem?}
 use Rattle.session.specs.Laws.Valid.{Valid}
 use Rattle.session.specs.declared.tables.Tables.{Tables}
 use Rattle.model.specs.Model.{Model, Transition, isAt, controls}
@@ -17,18 +15,9 @@ use Rattle.model.specs.Searched.{judgeBySearch}
 use Rattle.model.specs.Laws.Items.{IsItem, step-here, step-not-here}
 use Rattle.model.specs.Laws.Deciding.{decide-passes, decide-fails, decide-append, unlessFailed}
 use Rattle.model.specs.Laws.Searches.{search-is}
-use Rattle.meaning.specs.Tables.{sessionOf, transitionAt, transitionsFrom}
+use Rattle.meaning.specs.Tables.{sessionOf}
 use Rattle.meaning.specs.Laws.Sessions.{well-formed}
 use Rattle.walk.specs.Pairs as Walk
-use Rattle.session.specs.Rows.{rowLength}
-
--- transition i of a table
-pub transition-at : (rows : List ℕ) (left t i : ℕ) → i < left
-    → getElem? (transitionsFrom rows left t) i ≡ some (transitionAt rows ((t + i) * rowLength))
-transition-at rows zero t i h = absurd (omega arith)
-transition-at rows (suc left) t zero h = ap (λ n. some (transitionAt rows (n * rowLength))) (omega arith)
-transition-at rows (suc left) t (suc i) h =
-    transition-at rows left (suc t) i (omega arith) ∙ ap (λ n. some (transitionAt rows (n * rowLength))) (omega arith)
 
 -- one transition after the other
 pub steps-split : (M : Model) (c t : ℕ) (τ : Transition) (τs : List Transition)

@@ -33,7 +33,8 @@ use Rattle.walk.specs.declared.pairs.Walk.{Walk}
 use Rattle.walk.specs.declared.pairs.Node.{Node}
 use Rattle.walk.specs.declared.judge.Judged.{Judged}
 use Rattle.walk.specs.declared.judge.Judged.the-variants.{Passes, Fails}
-use Rattle.verdict.specs.Start.{Cuts, PlaceAt, Moved}
+use Rattle.verdict.specs.Start.{Cuts, PlaceAt}
+use Rattle.controls.specs.Controls.{Moved}
 use Rattle.verdict.specs.Judging.{pairsOf, Kept, Scratch, Judging, Parts, EntryParts, StepAsked, EntryAsked}
 use Rattle.verdict.specs.Laws.Turns.{judged-item, few-pairs}
 use Rattle.verdict.specs.Laws.Item.{step-nothing, step-judged, step-fits, entry-nothing, entry-judged, entry-fits}

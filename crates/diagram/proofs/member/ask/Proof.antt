@@ -1,4 +1,4 @@
-use Rattle.diagram.specs.Laws.Tables.{control-made}
+use Rattle.session.specs.Laws.Kinds.{control-made}
 use mathlib.Core.Path.{sym, _∙_}
 use denote.Ref.{now}
 use Rattle.diagram.specs.Laws.Asking.{ask-unknown, ask-judged}

@@ -4,7 +4,7 @@ use mathlib.Core.Path.{refl, sym, _∙_}
 use lib.ListN.{length}
 use denote.Ref.{now}
 use Rattle.diagram.specs.Said.{saidReached}
-use Rattle.diagram.specs.Laws.Tables.{message-made}
+use Rattle.session.specs.Laws.Kinds.{message-made}
 use Rattle.diagram.specs.Laws.Judging.{Judging, judging-begin, judging-unknown, judging-earlier, judging-on, judging-end}
 use Rattle.diagram.proofs.member.judge.Statement.{statement}
 use Rattle.diagram.proofs.member.judge.Tie as tie

@@ -5,7 +5,7 @@ use Rattle.verdict.proofs.begin.begins_inside.Statement.{statement}
 use Rattle.verdict.proofs.begin.begins_inside.Tie as tie
 use Rattle.verdict.proofs.begin.begins_inside.Reads as reads
 use Rattle.verdict.proofs.begin.begins_inside.Lts as lts
-use Rattle.verdict.proofs.begin.first_control.Reads as first-control-reads
+use Rattle.controls.proofs.begin.first_control.Reads as first-control-reads
 use Rattle.verdict.proofs.start.place_of.Reads as place-of-reads
 
 -- src/begin.rt:46:9

@@ -8,7 +8,7 @@ use Rattle.verdict.proofs.item.judge_step.Tie as tie
 use Rattle.verdict.proofs.item.judge_step.Reads as reads
 use Rattle.verdict.proofs.item.judge_step.Lts as lts
 use Rattle.verdict.proofs.start.cut_of.Reads as cut-of-reads
-use Rattle.verdict.proofs.start.moved.Reads as moved-reads
+use Rattle.controls.proofs.moves.moved.Reads as moved-reads
 use Rattle.verdict.proofs.start.place_of.Reads as place-of-reads
 use Rattle.walk.proofs.judge.judge.Reads as judge-reads
 

@@ -1,4 +1,4 @@
-use Rattle.diagram.specs.Laws.Tables.{control-made}
+use Rattle.session.specs.Laws.Kinds.{control-made}
 use Rattle.verdict.specs.Laws.Judged.{machines-asked}
 use borrow.Author.Needs.{needs}
 use Prim.Native.Nat.{ℕ, _+_, _*_, _-_, _≤_}

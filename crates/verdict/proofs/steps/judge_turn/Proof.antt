@@ -1,5 +1,5 @@
 use Rattle.verdict.specs.Laws.Judged.{machines-asked, rows-long, count-most, row-asked}
-use Rattle.verdict.specs.Start.{IsAt}
+use Rattle.controls.specs.Controls.{IsAt}
 use mathlib.Core.Path.{subst}
 use mathlib.Core.List.{[]}
 use Prim.Native.Nat.{_≤_}
@@ -15,7 +15,7 @@ use Rattle.verdict.proofs.steps.judge_turn.Tie as tie
 use Rattle.verdict.proofs.steps.judge_turn.Reads as reads
 use Rattle.verdict.proofs.steps.judge_turn.Lts as lts
 use Rattle.verdict.proofs.item.judge_step.Reads as judge-step-reads
-use Rattle.verdict.proofs.start.is_at.Reads as is-at-reads
+use Rattle.controls.proofs.moves.is_at.Reads as is-at-reads
 
 -- src/steps.rt:41:15
 mul-row : tie.Need-mul-row

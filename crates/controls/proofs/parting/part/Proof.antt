@@ -1,15 +1,15 @@
 use lib.ListN.{take, drop}
-use Rattle.verdict.specs.Laws.Controls.{Front, front-begin, front-step, front-end, machine-there, control-small}
+use Rattle.controls.specs.Laws.Parting.{Front, front-begin, front-step, front-end, machine-there, control-small}
 use borrow.Author.Needs.{needs}
 use Prim.Native.Nat.{_≤_, _-_, _+_, _*_, _/_, _%_}
 use mathlib.Core.Path.{_≡_, sym, ap, subst, _∙_}
 use native.Mathlib.Omega.{arith}
 use native.Mathlib.Nat.{div-add-mod'}
-use Rattle.verdict.proofs.controls.part.Statement.{statement}
-use Rattle.verdict.proofs.controls.part.Tie as tie
-use Rattle.verdict.proofs.controls.part.Reads as reads
-use Rattle.verdict.proofs.controls.part.Lts as lts
-use Rattle.verdict.proofs.controls.product_from.Reads as product-from-reads
+use Rattle.controls.proofs.parting.part.Statement.{statement}
+use Rattle.controls.proofs.parting.part.Tie as tie
+use Rattle.controls.proofs.parting.part.Reads as reads
+use Rattle.controls.proofs.parting.part.Lts as lts
+use Rattle.controls.proofs.parting.product_from.Reads as product-from-reads
 
 abbrev Inv-loop : tie.InvT-loop
 Inv-loop states count c machine base₀ rest₀ i₀ base rest i = Front (take count states) c machine i base rest × (i ≤ machine)
@@ -17,57 +17,57 @@ Inv-loop states count c machine base₀ rest₀ i₀ base rest i = Front (take c
 abbrev μ-loop : tie.MeasureT-loop
 μ-loop states count c machine base₀ rest₀ i₀ base rest i = machine - i
 
--- src/controls.rt:47:5
+-- src/parting.rt:47:5
 loop-holds : tie.Need-loop-holds Inv-loop μ-loop
 loop-holds c = (front-begin _ _ _ (c .pre .below), omega arith)
 
--- src/controls.rt:48:50
+-- src/parting.rt:48:50
 add-product-from : tie.Need-add-product-from Inv-loop μ-loop
 add-product-from c = omega (arith, c .before .before .pre .within, c .before .before .pre .stepped .most)
 
--- src/controls.rt:48:13
+-- src/parting.rt:48:13
 product-from-requires : tie.Need-product-from-requires Inv-loop μ-loop
 product-from-requires c κs = (c .before .before .pre .stepped, omega (arith, c .before .before .pre .within))
 
--- src/controls.rt:49:23
+-- src/parting.rt:49:23
 div-base : tie.Need-div-base Inv-loop μ-loop
 div-base c = omega (arith, c .product-from .ensures, c .before .before .before .pre .stepped .small (c .before .before .loop .i + 1))
 
--- src/controls.rt:49:23
+-- src/parting.rt:49:23
 mul-base : tie.Need-mul-base Inv-loop μ-loop
 mul-base c = omega (arith, div-add-mod' (c .before .before .loop .rest) (c .product-from .result), c .before .before .loop .inv .0 .few, control-small (c .before .before .before .pre))
 
--- src/controls.rt:49:16
+-- src/parting.rt:49:16
 add-base : tie.Need-add-base Inv-loop μ-loop
 add-base c = omega (arith, div-add-mod' (c .before .before .loop .rest) (c .product-from .result), c .before .before .loop .inv .0 .few, control-small (c .before .before .before .pre))
 
--- src/controls.rt:50:16
+-- src/parting.rt:50:16
 rem-rest : tie.Need-rem-rest Inv-loop μ-loop
 rem-rest c = omega (arith, c .product-from .ensures, c .before .before .before .pre .stepped .small (c .before .before .loop .i + 1))
 
--- src/controls.rt:51:9
+-- src/parting.rt:51:9
 add-i : tie.Need-add-i Inv-loop μ-loop
 add-i c = search needs
 
--- src/controls.rt:47:5
+-- src/parting.rt:47:5
 loop-less : tie.Need-loop-less Inv-loop μ-loop
 loop-less c = search needs
 
--- src/controls.rt:47:5
+-- src/parting.rt:47:5
 loop-again : tie.Need-loop-again Inv-loop μ-loop
 loop-again c =
     let pos : 1 ≤ c .product-from .result = omega (arith, c .product-from .ensures, c .before .before .before .pre .stepped .small (c .before .before .loop .i + 1)) in
     (front-step _ _ _ _ _ _ (c .before .before .loop .inv .0) (c .before .loop-test .taken) (machine-there (c .before .before .before .pre)) _ (c .product-from .ensures) pos, omega arith)
 
--- src/controls.rt:53:46
+-- src/parting.rt:53:46
 add-product-from-2 : tie.Need-add-product-from-2 Inv-loop μ-loop
 add-product-from-2 c = omega (arith, c .before .before .pre .within, c .before .before .pre .stepped .most)
 
--- src/controls.rt:53:9
+-- src/parting.rt:53:9
 product-from-requires-2 : tie.Need-product-from-requires-2 Inv-loop μ-loop
 product-from-requires-2 c κs = (c .before .before .pre .stepped, omega (arith, c .before .before .pre .within))
 
--- src/controls.rt:37:1
+-- src/parting.rt:37:1
 returns : tie.Need-returns Inv-loop μ-loop
 returns c =
     let e : c .before .before .loop .i ≡ c .before .before .before .args .machine = omega arith in

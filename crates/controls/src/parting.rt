@@ -1,4 +1,4 @@
-// Control states: the state of one machine, and the control state after that machine has moved.
+// A control state parted at a machine.
 use numbers::number::wide;
 use session::kinds::ControlState;
 use session::tables::Machines;
@@ -7,8 +7,8 @@ ghost use Prim.Native.Nat.{_<_, _≤_};
 ghost use lib.ListN.{take, drop};
 ghost use Rattle.session.specs.Laws.Machines.{MachinesValid};
 ghost use Rattle.model.specs.Model.{product};
-ghost use Rattle.verdict.specs.Controls.{sizesOf, Located};
-ghost use Rattle.verdict.specs.Laws.Controls.{Stepped, Partable};
+ghost use Rattle.controls.specs.Controls.{sizesOf, Located};
+ghost use Rattle.controls.specs.Laws.Parting.{Stepped, Partable};
 
 // A control state parted at a machine: what the machines before it give, what is left, and how many control states one state
 // of the machine takes.

@@ -7,16 +7,16 @@ use native.Mathlib.Numerals.{add-one}
 use native.Mathlib.Nat.{mod-lt, div-add-mod', mul-le-mul, one-mul, zero-add, add-assoc, le-refl}
 use lib.ListN.{length, getD, set, take, drop, length-take, drop-of-length-le}
 use lib.Seq.{drop-cons, getD-take}
-use Rattle.session.specs.Limits.{mostControls}
+use Rattle.session.specs.Limits.{mostMachines, mostControls}
 use Rattle.session.specs.Kinds.{limited}
 use Rattle.session.specs.Laws.Machines.{MachinesValid}
 use Rattle.session.specs.declared.tables.Machines.{Machines}
 use Rattle.model.specs.Model.{product, number, places}
 use Rattle.model.specs.Laws.Controls.{number-places, number-below, places-are-states, states-set}
 use Rattle.meaning.specs.Laws.Counts.{product-is}
-use Rattle.diagram.specs.Laws.Tables.{control-made}
-use Rattle.verdict.specs.Controls.{sizesOf, Located}
-use Rattle.verdict.specs.declared.controls.Parted.{Parted}
+use Rattle.session.specs.Laws.Kinds.{control-made}
+use Rattle.controls.specs.Controls.{sizesOf, Located}
+use Rattle.controls.specs.declared.parting.Parted.{Parted}
 
 -- every machine has a state
 abbrev pub Positive : List ℕ → Type 0
@@ -40,11 +40,11 @@ product-drop (k ∷ ks) h (suc j) =
 
 -- the product from a machine on: of none it is 1, with one machine more it is multiplied, and it stays small
 pub record Stepped (states : List ℕ) (count : ℕ) : Type 0 where
-  pub most : count ≤ 4
+  pub most : count ≤ mostMachines
   pub end : product (drop count (take count states)) ≡ 1
   pub before : (j : ℕ) → j < count
       → getD states j 0 * product (drop (j + 1) (take count states)) ≡ product (drop j (take count states))
-  pub small : (j : ℕ) → (1 ≤ product (drop j (take count states))) × (product (drop j (take count states)) ≤ 256)
+  pub small : (j : ℕ) → (1 ≤ product (drop j (take count states))) × (product (drop j (take count states)) ≤ mostControls)
 
 -- one machine back
 pub stepped-back : (states : List ℕ) (count i j p x : ℕ) → Stepped states count → i < j → j ≤ count
@@ -73,7 +73,7 @@ module _ (m : Machines) (v : MachinesValid m) where
   pub sizes-product : product (sizesOf m) ≡ m .product
   sizes-product = product-is (m .states) (m .count) (omega (arith, v .statesLong, v .most)) ∙ sym (v .product)
 
-  pub sizes-small : (j : ℕ) → (1 ≤ product (drop j (sizesOf m))) × (product (drop j (sizesOf m)) ≤ 256)
+  pub sizes-small : (j : ℕ) → (1 ≤ product (drop j (sizesOf m))) × (product (drop j (sizesOf m)) ≤ mostControls)
   sizes-small j =
       let r = product-drop (sizesOf m) sizes-positive j in
       (r .0, omega (arith, r .1, sizes-product, v .productMost))
@@ -147,8 +147,8 @@ module _ (ks : List ℕ) (c machine : ℕ) where
             ∙ ap (λ js. base + number js (set (places js rest) (machine - i) to)) (sym cut)
             ∙ F .moved to
 
-  module _ (base rest : ℕ) (F : Front ks c machine machine base rest) (l : machine < length ks) (most : c ≤ 256)
-      (P : ℕ) (p : P ≡ product (drop (machine + 1) ks)) (pos : 1 ≤ P) (small : P ≤ 256) where
+  module _ (base rest : ℕ) (F : Front ks c machine machine base rest) (l : machine < length ks) (most : c ≤ mostControls)
+      (P : ℕ) (p : P ≡ product (drop (machine + 1) ks)) (pos : 1 ≤ P) (small : P ≤ mostControls) where
     end-cut : drop machine ks ≡ getD ks machine 0 ∷ drop (machine + 1) ks
     end-cut = drop-cons ks machine 0 l ∙ ap (λ n. getD ks machine 0 ∷ drop n ks) (sym (add-one machine))
 
@@ -193,7 +193,7 @@ module _ {states : List ℕ} {count c machine : ℕ} (A : Partable states count 
   pub machine-there : machine < length (take count states)
   machine-there = omega (arith, length-take count states, A .long, A .within)
 
-  pub control-small : c ≤ 256
+  pub control-small : c ≤ mostControls
   control-small = omega (arith, A .below, A .stepped .small 0)
 
 pub read-partable : (m : Machines) (v : MachinesValid m) (c machine : ℕ) → c < m .product → machine < m .count

@@ -5,13 +5,13 @@ use native.Mathlib.Omega.{arith}
 use native.Mathlib.Nat.{mul-le-mul, le-of-lt, zero-add, add-zero}
 use lib.ListN.{take, drop}
 use Rattle.model.specs.Model.{number}
-use Rattle.verdict.specs.Laws.Begin.{number-step, number-end}
-use Rattle.verdict.proofs.begin.number_of.Statement.{statement}
-use Rattle.verdict.proofs.begin.number_of.Tie as tie
-use Rattle.verdict.proofs.begin.number_of.Reads as reads
-use Rattle.verdict.proofs.begin.number_of.Lts as lts
+use Rattle.controls.specs.Laws.Begin.{number-step, number-end}
+use Rattle.controls.proofs.begin.number_of.Statement.{statement}
+use Rattle.controls.proofs.begin.number_of.Tie as tie
+use Rattle.controls.proofs.begin.number_of.Reads as reads
+use Rattle.controls.proofs.begin.number_of.Lts as lts
 use Rattle.numbers.proofs.number.wide.Reads as wide-reads
-use Rattle.verdict.proofs.controls.product_from.Reads as product-from-reads
+use Rattle.controls.proofs.parting.product_from.Reads as product-from-reads
 
 abbrev Inv-loop : tie.InvT-loop
 Inv-loop states count starts sum₀ i₀ sum i = (sum + number (drop i (take count states)) (drop i (take count starts)) ≡ number (take count states) (take count starts)) × (i ≤ count)

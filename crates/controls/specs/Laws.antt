@@ -1,0 +1,3 @@
+-- What the proofs of control states rest on.
+pub mod Parting
+pub mod Begin
