@@ -13,6 +13,7 @@ pub mod Places
 pub mod Fields
 pub mod Valid
 pub mod Refusals
+pub mod Causes
 pub mod Reading
 pub mod Arcs
 pub mod Listed

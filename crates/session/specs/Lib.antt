@@ -13,4 +13,5 @@ pub mod Bad
 pub mod Model
 pub mod Sets
 pub mod File
+pub mod Causes
 pub mod Laws

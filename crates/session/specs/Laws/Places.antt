@@ -33,13 +33,13 @@ use Rattle.numbers.specs.Laws.Places.{Fair, fair-provided, fair-cond, fair-then
 use Rattle.session.specs.Rows.{rowLength, rowsLength, fromEntry, toEntry, kindEntry, queueEntry, lengthEntry, wordEntry}
 
 module _ (s : List ℕ) where
-  factor-fair : (at product : ℕ) → at ≤ length s → Fair s 8 at (readFactor s at product)
+  pub factor-fair : (at product : ℕ) → at ≤ length s → Fair s 8 at (readFactor s at product)
   unfolding readFactor
   factor-fair at product h =
       tested-fair s at (readWithin s at 1 mostStates) (λ v. leb (product * v) mostControls) 6 (omega arith) (omega arith) h
       (λ v next e. within-number s at 1 mostStates e) (within-fair s at 1 mostStates h)
 
-  machines-fair : (at : ℕ) → at ≤ length s → Fair s 8 at (readMachines s at)
+  pub machines-fair : (at : ℕ) → at ≤ length s → Fair s 8 at (readMachines s at)
   unfolding readMachines countedMachines
   machines-fair at h =
       fair-then s 8 at (readWithin s at 1 mostMachines) _ (within-fair s at 1 mostMachines h) (λ count p h₁.
@@ -51,13 +51,13 @@ module _ (s : List ℕ) where
       (replicate mostMachines 0) h₂)
       (λ starts p₂ h₃. (omega arith, h₃))))
 
-  term-fair : (at sum : ℕ) → at ≤ length s → Fair s 8 at (readTerm s at sum)
+  pub term-fair : (at sum : ℕ) → at ≤ length s → Fair s 8 at (readTerm s at sum)
   unfolding readTerm
   term-fair at sum h =
       tested-fair s at (readWithin s at 1 mostMessages) (λ v. leb (sum + v) mostMessages) 6 (omega arith) (omega arith) h
       (λ v next e. within-number s at 1 mostMessages e) (within-fair s at 1 mostMessages h)
 
-  queues-fair : (at : ℕ) → at ≤ length s → Fair s 8 at (readQueues s at)
+  pub queues-fair : (at : ℕ) → at ≤ length s → Fair s 8 at (readQueues s at)
   unfolding readQueues
   queues-fair at h =
       fair-then s 8 at (readWithin s at 1 mostQueues) _ (within-fair s at 1 mostQueues h) (λ count p₁ h₁.
@@ -66,14 +66,14 @@ module _ (s : List ℕ) where
       (rounds-fair s 8 (counts-rounds s) (λ i at′ x h′. term-fair at′ (x .0) h′) count 0 p₁ (0, replicate mostQueues 0) h₁)
       (λ counted p₂ h₂. (omega arith, h₂)))
 
-  message-fair : (at sum lo hi : ℕ) → at ≤ length s → Fair s 8 at (readMessage s at sum lo hi)
+  pub message-fair : (at sum lo hi : ℕ) → at ≤ length s → Fair s 8 at (readMessage s at sum lo hi)
   unfolding readMessage
   message-fair at sum lo hi h =
       fair-tested s 8 at (readBelow s at sum) _ (below-fair s at sum h) (λ m next e l g.
       let r = refuses-number s at 7 (omega arith) (omega arith) h (below-number s at sum e) in
       fair-provided s 8 at (leb lo m) 7 at _ r (fair-provided s 8 at (ltb m hi) 7 at (got m next) r (l, g)))
 
-  action-fair : (q : Queues) (row at : ℕ) (rows : List ℕ) → at ≤ length s → Fair s 8 at (readAction s at q row rows)
+  pub action-fair : (q : Queues) (row at : ℕ) (rows : List ℕ) → at ≤ length s → Fair s 8 at (readAction s at q row rows)
   unfolding readAction
   action-fair q row at rows h =
       fair-then s 8 at (readBelow s at (q .count)) _ (below-fair s at (q .count) h) (λ queue p₁ h₁.
@@ -82,7 +82,7 @@ module _ (s : List ℕ) where
       (λ j at′ x h′. message-fair at′ (q .sum) (firstOf (q .messages) queue) (firstOf (q .messages) (suc queue)) h′) len (wordEntry row) p₂
       (set (set rows (queueEntry row) queue) (lengthEntry row) len) h₂))
 
-  transition-fair : (m : Machines) (q : Queues) (row at : ℕ) (rows : List ℕ) → at ≤ length s
+  pub transition-fair : (m : Machines) (q : Queues) (row at : ℕ) (rows : List ℕ) → at ≤ length s
       → Fair s 8 at (readTransition s at m q row rows)
   unfolding readTransition
   transition-fair m q row at rows h =
@@ -93,7 +93,7 @@ module _ (s : List ℕ) where
       fair-cond s 8 p₃ (eqb kind 0) (got _ p₃) (readAction s p₃ q row _) (omega arith, h₃)
       (action-fair q row p₃ (set (set (set (set rows row machine) (fromEntry row) (move .0)) (toEntry row) (move .1)) (kindEntry row) kind) h₃))))
 
-  transitions-fair : (m : Machines) (q : Queues) (at : ℕ) → at ≤ length s → Fair s 8 at (readTransitions s at m q)
+  pub transitions-fair : (m : Machines) (q : Queues) (at : ℕ) → at ≤ length s → Fair s 8 at (readTransitions s at m q)
   unfolding readTransitions
   transitions-fair m q at h =
       fair-then s 8 at (readWithin s at 0 mostTransitions) _ (within-fair s at 0 mostTransitions h) (λ count p₁ h₁.
@@ -111,23 +111,26 @@ module _ (s : List ℕ) where
       fair-then s 8 p₂ (readTransitions s p₂ m q) (λ τ p₃. got (record { machines = m; queues = q; transitions = τ }) p₃)
       (transitions-fair m q p₂ h₂) (λ τ p₃ h₃. (omega arith, h₃))))
 
-  arc-fair : (at n sum least : ℕ) → at ≤ length s → Fair s 8 at (readArc s at n sum least)
-  unfolding readArc readAscending
+  pub ascending-fair : (at sum least : ℕ) → at ≤ length s → Fair s 8 at (readAscending s at sum least)
+  unfolding readAscending
+  ascending-fair at sum least h =
+      tested-fair s at (readBelow s at sum) (λ m. leb least m) 8 (omega arith) (omega arith) h (λ v next e. below-number s at sum e)
+      (below-fair s at sum h)
+
+  pub arc-fair : (at n sum least : ℕ) → at ≤ length s → Fair s 8 at (readArc s at n sum least)
+  unfolding readArc
   arc-fair at n sum least h =
-      fair-then s 8 at (readAscending s at sum least) _
-      (tested-fair s at (readBelow s at sum) (λ m. leb least m) 8 (omega arith) (omega arith) h (λ v next e. below-number s at sum e)
-      (below-fair s at sum h))
-      (λ m p h₁.
+      fair-then s 8 at (readAscending s at sum least) _ (ascending-fair at sum least h) (λ m p h₁.
       fair-then s 8 p (readBelow s p n) (λ t next. got (m, t) next) (below-fair s p n h₁) (λ t next h₂. (omega arith, h₂)))
 
-  arcs-fair : (n sum row left at least : ℕ) (arcs : List ℕ) → at ≤ length s → Fair s 8 at (readArcs s at n sum least row left arcs)
+  pub arcs-fair : (n sum row left at least : ℕ) (arcs : List ℕ) → at ≤ length s → Fair s 8 at (readArcs s at n sum least row left arcs)
   unfolding readArcs
   arcs-fair n sum row zero at least arcs h = (omega arith, h)
   arcs-fair n sum row (suc left) at least arcs h =
       fair-then s 8 at (readArc s at n sum least) _ (arc-fair at n sum least h) (λ arc next h₁.
       arcs-fair n sum row left next (arc .0 + 1) (set arcs (row + arc .0) (arc .1 + 1)) h₁)
 
-  state-fair : (n sum row at : ℕ) (arcs : List ℕ) → at ≤ length s → Fair s 8 at (readState s at n sum row arcs)
+  pub state-fair : (n sum row at : ℕ) (arcs : List ℕ) → at ≤ length s → Fair s 8 at (readState s at n sum row arcs)
   unfolding readState
   state-fair n sum row at arcs h =
       fair-then s 8 at (readBelow s at 2) _ (below-fair s at 2 h) (λ final p₁ h₁.
@@ -145,14 +148,14 @@ module _ (s : List ℕ) where
       (replicate mostPool 0, replicate (mostPool * mostMessages) 0) h₁)
       (λ states p₂ h₂. (omega arith, h₂)))
 
-  map-fair : (product n at : ℕ) → at ≤ length s → Fair s 8 at (readMap s at product n)
+  pub map-fair : (product n at : ℕ) → at ≤ length s → Fair s 8 at (readMap s at product n)
   unfolding readMap
   map-fair product n at h =
       fair-then s 8 at (readRoots s at n product 0 (replicate mostControls 0)) (λ roots next. got (record { roots = roots }) next)
       (rounds-fair s 8 (roots-rounds s n) (λ i at′ x h′. within-fair s at′ 0 n h′) product 0 at (replicate mostControls 0) h)
       (λ roots next h₁. (omega arith, h₁))
 
-  bad-fair : (product n at : ℕ) → at ≤ length s → Fair s 8 at (readBad s at product n)
+  pub bad-fair : (product n at : ℕ) → at ≤ length s → Fair s 8 at (readBad s at product n)
   unfolding readBad
   bad-fair product n at h =
       fair-then s 8 at (readWithin s at 0 mostBad) _ (within-fair s at 0 mostBad h) (λ count p₁ h₁.

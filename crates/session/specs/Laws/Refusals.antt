@@ -1,5 +1,5 @@
 -- When a file is refused: the numbers and places there are, and the cases of 1, 9 and 10 exactly (document 01, "When a file or a
--- question is turned away").
+-- question is turned away"). `Causes` has the causes of 3 to 8.
 use Prim.Native.Nat.{ℕ, _≤_, _<_}
 use mathlib.Core.Path.{_≡_, refl, sym, ap, subst, _∙_}
 use mathlib.Core.Logic.{_↔_, _⊎_, inl, inr}
