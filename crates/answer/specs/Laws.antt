@@ -7,7 +7,7 @@ use lib.Dec.{leb}
 use borrow.Author.Tests.{le-leb}
 use native.Mathlib.Omega.{arith}
 use Rattle.meaning.specs.Reply.{FileReply, refused, verdict, shownOf, lineOf, replyOf, replyTo}
-use Rattle.meaning.specs.Checking.{checkOf, readLent, Checks, enough, tableLeast, contentsLeast}
+use Rattle.meaning.specs.Checking.{checkOf, readLent, Checks, enough, tableLeast, contentsLeast, mostShown}
 use Rattle.meaning.specs.Laws.Checking.{Ways, long, little, whole, ways, enough-long, long-enough, lent-enough, lent-sound}
 use Rattle.meaning.specs.Laws.Shown.{shown-fits, shown-within, contents-kept}
 use Rattle.line.specs.Said.{said, shownBy, holds, given, Writes}
@@ -39,15 +39,15 @@ shown-refused (Bad b n) contents e = absurd (let z : _≡_ {A = ℕ} 0 1 = cc in
 shown-refused (Refused k j) contents e = refl
 
 -- room for a line that shows no more messages than there are, and no more than any verdict shows
-room-for : (room contents shown : ℕ) → shown ≤ contents → shown ≤ 32516 → holds room contents shown ≡ leb (4 * shown + 41) room
-room-for room contents shown h k = rw (le-leb shown contents h, le-leb shown 32768 (omega arith))
+room-for : (room contents shown : ℕ) → shown ≤ contents → shown ≤ mostShown → holds room contents shown ≡ leb (4 * shown + 41) room
+room-for room contents shown h k = rw (le-leb shown contents h, le-leb shown contentsLeast (omega arith))
 
 module _ {file seen queue contents seen₁ queue₁ contents₁ : List ℕ} (p : Line) (checks : Checks file seen queue contents (said p contents₁) seen₁ queue₁ contents₁) where
   kept : length contents₁ ≡ length contents
   kept = ap length (checks .contents) ∙ contents-kept file seen queue contents
 
-  few : length (shownOf (said p contents₁)) ≤ 32516
-  few = subst (λ r. length (shownOf r) ≤ 32516) (sym (checks .reply)) (shown-fits (readLent file seen queue contents) (lent-sound file seen queue contents))
+  few : length (shownOf (said p contents₁)) ≤ mostShown
+  few = subst (λ r. length (shownOf r) ≤ mostShown) (sym (checks .reply)) (shown-fits (readLent file seen queue contents) (lent-sound file seen queue contents))
 
   within : length (shownOf (said p contents₁)) ≤ length contents₁
   within = let w = subst (λ r. length (shownOf r) ≤ length contents) (sym (checks .reply)) (shown-within file seen queue contents) in omega (arith, w, kept)
@@ -130,7 +130,7 @@ room-for-all file room h =
     let contents : List ℕ = replicate contentsLeast 0 in
     let e = reply-whole file seen seen contents (new-long tableLeast) (new-long tableLeast) (new-long contentsLeast) in
     let few =
-    subst (λ r. length (shownOf r) ≤ 32516) e (shown-fits (readLent file seen seen contents) (lent-sound file seen seen contents))
+    subst (λ r. length (shownOf r) ≤ mostShown) e (shown-fits (readLent file seen seen contents) (lent-sound file seen seen contents))
     in
     let wide : 4 * length (shownOf (replyOf file)) + 41 ≤ room = omega (arith, few) in
     ap (λ b. given b (lineOf (replyOf file))) (le-leb (4 * length (shownOf (replyOf file)) + 41) room wide)

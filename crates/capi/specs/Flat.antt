@@ -1,7 +1,10 @@
 -- The tables of a file one after the other, each over its whole length.
-use Prim.Native.Nat.{ℕ, _+_}
+use Prim.Native.Nat.{ℕ, _+_, _*_}
 use mathlib.Core.List.{List, [], _∷_, _++_}
 use lib.ListN.{length}
+use Rattle.session.specs.Limits.{mostMachines, mostControls, mostQueues, mostPool, mostBad}
+use Rattle.session.specs.Rows.{rowsLength}
+use Rattle.session.specs.Pool.{poolArcs}
 use Rattle.session.specs.declared.tables.Tables.{Tables}
 
 abbrev pub four : List ℕ → List ℕ → List ℕ → List ℕ → List ℕ
@@ -15,18 +18,24 @@ abbrev pub countsOf : Tables → List ℕ
 countsOf T =
     T .machines .count ∷ T .queues .count ∷ T .queues .sum ∷ T .transitions .count ∷ T .pool .count ∷ T .bad .count ∷ []
 
--- the counts; then for each machine its states and its starting state, for each queue its messages: 4 entries each
+-- the counts; then for each machine its states and its starting state, for each queue its messages
 abbrev pub small : Tables → List ℕ
 small T = four (countsOf T) (T .machines .states) (T .machines .starts) (T .queues .messages)
 
--- transitions (128 rows of 10), final marks (127), arcs (127 rows of 32), roots (256)
+-- transitions, final marks, arcs, roots
 abbrev pub large : Tables → List ℕ
 large T = four (T .transitions .rows) (T .pool .finals) (T .pool .arcs) (T .map .roots)
 
--- and bad entries (64 rows of 2)
+-- and bad entries
 abbrev pub flat : Tables → List ℕ
 flat T = (small T ++ large T) ++ T .bad .rows
 
 -- so many bytes
+abbrev pub smallLong : ℕ
+smallLong = 6 + 2 * mostMachines + mostQueues
+
+abbrev pub largeLong : ℕ
+largeLong = rowsLength + mostPool + poolArcs + mostControls
+
 abbrev pub tablesLeast : ℕ
-tablesLeast = 5873
+tablesLeast = smallLong + largeLong + mostBad * 2

@@ -1,14 +1,27 @@
 // The tables of a file that was read, one after the other in lent bytes.
-use line::put::put_word;
+use numbers::put::put_word;
+use session::kinds::DiagramState;
+use session::tables::ENTRIES;
+use session::tables::MOST_CONTROLS;
+use session::tables::MOST_MACHINES;
+use session::tables::MOST_QUEUES;
+use session::tables::POOL_ARCS;
+use session::tables::ROWS;
 use session::tables::Tables;
 ghost use Prim.Native.Nat.{_+_, _≤_};
 ghost use lib.ListN.{length};
 ghost use Rattle.session.specs.Laws.Valid.{Valid};
 ghost use Rattle.numbers.specs.Put.{Put};
-ghost use Rattle.capi.specs.Flat.{four, fourLong, small, large, flat};
+ghost use Rattle.capi.specs.Flat.{four, fourLong, smallLong, largeLong, tablesLeast, small, large, flat};
 
-// Bytes that the tables need.
-pub const TABLES_LEAST: usize = 5873;
+// Bytes of the counts with the tables of machines and queues, of the large tables, and of all.
+const COUNTS: usize = 6;
+
+const SMALL: usize = COUNTS + 2 * MOST_MACHINES as usize + MOST_QUEUES as usize;
+
+const LARGE: usize = ROWS + DiagramState::LIMIT + POOL_ARCS + MOST_CONTROLS;
+
+pub const TABLES_LEAST: usize = SMALL + LARGE + ENTRIES;
 
 // Four tables, from a place on.
 fn put_four(space: &mut [u8], at: usize, a: &[u8], b: &[u8], c: &[u8], d: &[u8]) -> usize
@@ -24,8 +37,8 @@ fn put_four(space: &mut [u8], at: usize, a: &[u8], b: &[u8], c: &[u8], d: &[u8])
 // The counts, and the tables of four entries.
 fn put_small(space: &mut [u8], t: Tables) -> usize
     requires { ⌜ Valid t ⌝ }
-    requires { ⌜ 5873 ≤ length (now space) ⌝ }
-    ensures { λ r. ⌜ Put (now (space .entry)) 0 18 (small t) (now (space .exit)) r ⌝ }
+    requires { ⌜ tablesLeast ≤ length (now space) ⌝ }
+    ensures { λ r. ⌜ Put (now (space .entry)) 0 smallLong (small t) (now (space .exit)) r ⌝ }
 {
     let machines = t.machines;
     let queues = t.queues;
@@ -49,9 +62,9 @@ fn put_small(space: &mut [u8], t: Tables) -> usize
 // Transitions, final marks, arcs and roots, from a place on.
 fn put_large(space: &mut [u8], at: usize, t: Tables) -> usize
     requires { ⌜ Valid t ⌝ }
-    requires { ⌜ at ≤ 18 ⌝ }
-    requires { ⌜ 5873 ≤ length (now space) ⌝ }
-    ensures { λ r. ⌜ Put (now (space .entry)) at 5727 (large t) (now (space .exit)) r ⌝ }
+    requires { ⌜ at ≤ smallLong ⌝ }
+    requires { ⌜ tablesLeast ≤ length (now space) ⌝ }
+    ensures { λ r. ⌜ Put (now (space .entry)) at largeLong (large t) (now (space .exit)) r ⌝ }
 {
     let transitions = t.transitions;
     let rows = transitions.rows;
@@ -64,10 +77,10 @@ fn put_large(space: &mut [u8], at: usize, t: Tables) -> usize
 }
 
 // All tables, at the front of the space. Returns how many bytes that is.
-pub fn put_tables(space: &mut [u8], t: Tables) -> usize
+pub(crate) fn put_tables(space: &mut [u8], t: Tables) -> usize
     requires { ⌜ Valid t ⌝ }
-    requires { ⌜ 5873 ≤ length (now space) ⌝ }
-    ensures { λ r. ⌜ Put (now (space .entry)) 0 5873 (flat t) (now (space .exit)) r ⌝ }
+    requires { ⌜ tablesLeast ≤ length (now space) ⌝ }
+    ensures { λ r. ⌜ Put (now (space .entry)) 0 tablesLeast (flat t) (now (space .exit)) r ⌝ }
 {
     let bad = t.bad;
     let entries = bad.rows;

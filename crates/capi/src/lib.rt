@@ -1,4 +1,4 @@
 // The services as C functions on numbers and slices: reading, membership and checking, for any input and any lent space.
 pub mod calls;
-pub mod flat;
-pub mod told;
+mod flat;
+mod told;

@@ -41,7 +41,7 @@ pub struct Told {
 }
 
 // A kind that no numbers go with.
-pub fn bare(kind: usize) -> Told
+pub(crate) fn bare(kind: usize) -> Told
     ensures { λ r. ⌜ r ≡ toldOf kind 0 0 0 ⌝ }
 {
     Told {
@@ -63,13 +63,13 @@ fn refused(number: usize, place: usize) -> Told
     }
 }
 
-pub fn tell_refusal(why: Refusal) -> Told
+pub(crate) fn tell_refusal(why: Refusal) -> Told
     ensures { λ r. ⌜ r ≡ toldRefusal (numberOf why) (placeOf why) ⌝ }
 {
     refused(number(why), place(why))
 }
 
-pub fn tell_verdict(v: Verdict) -> Told
+pub(crate) fn tell_verdict(v: Verdict) -> Told
     ensures { λ r. ⌜ r ≡ toldLine v ⌝ }
 {
     match v {
@@ -96,7 +96,7 @@ pub fn tell_verdict(v: Verdict) -> Told
     }
 }
 
-pub fn tell_member(m: Member) -> Told
+pub(crate) fn tell_member(m: Member) -> Told
     ensures { λ r. ⌜ r ≡ toldMember (saidMember m) ⌝ }
 {
     match m {
@@ -110,7 +110,7 @@ pub fn tell_member(m: Member) -> Told
 }
 
 // The numbers fill the front of the reply's space. Returns the kind.
-pub fn put_told(reply: &mut [usize], t: Told) -> usize
+pub(crate) fn put_told(reply: &mut [usize], t: Told) -> usize
     requires { ⌜ 3 ≤ length (now reply) ⌝ }
     ensures { λ r. ⌜ Tells t (now (reply .entry)) (now (reply .exit)) r ⌝ }
 {

@@ -1,3 +1,3 @@
 // The line that the program prints, written into a buffer.
-pub mod put;
+mod put;
 pub mod verdict;

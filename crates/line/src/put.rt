@@ -1,43 +1,24 @@
-// Bytes, words and numbers, each put into a buffer from a place on. Each function answers the place after what it put.
+// Numbers and messages in decimal, each put into a buffer from a place on. Each function answers the place after what it put.
 use numbers::number::wide;
+use numbers::put::put_byte;
 ghost use Prim.Native.Nat.{_+_, _*_, _≤_, _<_};
 ghost use mathlib.Core.Path.{_≡_};
-ghost use mathlib.Core.List.{_∷_, []};
+ghost use mathlib.Core.List.{_∷_};
 ghost use lib.ListN.{length, take};
 ghost use Rattle.model.specs.Line.{digits, spacedAll};
 ghost use Rattle.numbers.specs.Put.{Put};
 ghost use Rattle.line.specs.Shown.{shownFrom};
 
 // The byte of a decimal digit.
-pub fn digit(n: usize) -> u8
+pub(crate) fn digit(n: usize) -> u8
     requires { ⌜ n < 10 ⌝ }
     ensures { λ r. ⌜ r ≡ 48 + n ⌝ }
 {
     (48 + n) as u8
 }
 
-pub fn put_byte(s: &mut [u8], at: usize, b: u8) -> usize
-    requires { ⌜ at + 1 ≤ length (now s) ⌝ }
-    ensures { λ r. ⌜ Put (now (s .entry)) at 1 (b ∷ []) (now (s .exit)) r ⌝ }
-{
-    s[at] = b;
-    at + 1
-}
-
-pub fn put_word(s: &mut [u8], at: usize, word: &[u8]) -> usize
-    requires { ⌜ at + length (now word) ≤ length (now s) ⌝ }
-    ensures { λ r. ⌜ Put (now (s .entry)) at (length (now (word .entry))) (now (word .entry)) (now (s .exit)) r ⌝ }
-{
-    let mut i = 0;
-    while i < word.len() {
-        s[at + i] = word[i];
-        i += 1;
-    }
-    at + i
-}
-
 // A number by its digits, the last so many of them.
-pub fn put_digits(s: &mut [u8], at: usize, most: usize, n: usize) -> usize
+pub(crate) fn put_digits(s: &mut [u8], at: usize, most: usize, n: usize) -> usize
     requires { ⌜ at + most ≤ length (now s) ⌝ }
     ensures { λ r. ⌜ Put (now (s .entry)) at most (digits most n) (now (s .exit)) r ⌝ }
 {
@@ -52,7 +33,7 @@ pub fn put_digits(s: &mut [u8], at: usize, most: usize, n: usize) -> usize
 }
 
 // A space and a number.
-pub fn put_spaced(s: &mut [u8], at: usize, most: usize, n: usize) -> usize
+pub(crate) fn put_spaced(s: &mut [u8], at: usize, most: usize, n: usize) -> usize
     requires { ⌜ at + (1 + most) ≤ length (now s) ⌝ }
     ensures { λ r. ⌜ Put (now (s .entry)) at (1 + most) (32 ∷ digits most n) (now (s .exit)) r ⌝ }
 {
@@ -61,7 +42,7 @@ pub fn put_spaced(s: &mut [u8], at: usize, most: usize, n: usize) -> usize
 }
 
 // The first messages of the contents, each after a space. A byte has at most three digits.
-pub fn put_messages(s: &mut [u8], at: usize, contents: &[u8], count: usize) -> usize
+pub(crate) fn put_messages(s: &mut [u8], at: usize, contents: &[u8], count: usize) -> usize
     requires { ⌜ (at + 4 * count ≤ length (now s)) × (count ≤ length (now contents)) ⌝ }
     ensures { λ r. ⌜ Put (now (s .entry)) at (4 * count) (spacedAll (take count (now (contents .entry)))) (now (s .exit)) r ⌝ }
 {
@@ -75,7 +56,7 @@ pub fn put_messages(s: &mut [u8], at: usize, contents: &[u8], count: usize) -> u
 }
 
 // How many messages, a colon, and the messages.
-pub fn put_shown(s: &mut [u8], at: usize, contents: &[u8], count: usize) -> usize
+pub(crate) fn put_shown(s: &mut [u8], at: usize, contents: &[u8], count: usize) -> usize
     requires { ⌜ (at + (12 + 4 * count) ≤ length (now s)) × (count ≤ length (now contents)) ⌝ }
     ensures { λ r. ⌜ Put (now (s .entry)) at (12 + 4 * count) (shownFrom (now (contents .entry)) count) (now (s .exit)) r ⌝ }
 {

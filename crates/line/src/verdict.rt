@@ -1,8 +1,8 @@
 // What is printed, by value, and the line of it.
-use crate::put::put_byte;
 use crate::put::put_shown;
 use crate::put::put_spaced;
-use crate::put::put_word;
+use numbers::put::put_byte;
+use numbers::put::put_word;
 ghost use mathlib.Core.List.{[]};
 ghost use lib.ListN.{take};
 ghost use Rattle.model.specs.Verdict.{closed, outside, leaves, bad};

@@ -1,6 +1,6 @@
 -- Checking with lent memory (document 01, "When a file or a question is turned away" and "The verdict"): the reply, both scratch tables and
 -- the contents buffer, for every file and whatever is lent.
-use Prim.Native.Nat.{ℕ}
+use Prim.Native.Nat.{ℕ, _+_}
 use mathlib.Core.Path.{_≡_}
 use mathlib.Core.Bool.{Bool, _&&_}
 use mathlib.Core.List.{List, _++_}
@@ -8,6 +8,7 @@ use lib.ListN.{length, drop, replicate}
 use lib.Dec.{leb}
 use Rattle.numbers.specs.Limits.{mostBytes}
 use Rattle.numbers.specs.Part.{Part, provided}
+use Rattle.session.specs.Limits.{mostWord}
 use Rattle.session.specs.File.{readFile}
 use Rattle.session.specs.declared.tables.Tables.{Tables}
 use Rattle.meaning.specs.Reply.{FileReply, refused, verdict, replyTo, shownOf}
@@ -19,6 +20,11 @@ tableLeast = 32512
 
 abbrev pub contentsLeast : ℕ
 contentsLeast = 32768
+
+-- the most messages that are shown: the shortest way to a pair that fails passes each pair of its step once, and a received word is
+-- shown too
+abbrev pub mostShown : ℕ
+mostShown = tableLeast + mostWord
 
 -- is enough lent?
 abbrev pub enough : List ℕ → List ℕ → List ℕ → Bool

@@ -48,7 +48,7 @@ fn read_entries(
     Filled::To(place)
 }
 
-pub fn read_bad(s: &[u8], at: usize, product: usize, n: u8) -> BadRead
+pub(crate) fn read_bad(s: &[u8], at: usize, product: usize, n: u8) -> BadRead
     requires { ⌜ product ≤ mostControls ⌝ }
     ensures { λ r. ⌜ filledWith (r .filled) (r .bad) ≡ readBad (now (s .entry)) at product n ⌝ }
 {

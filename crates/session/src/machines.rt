@@ -117,7 +117,7 @@ fn read_counted(s: &[u8], at: usize, count: u8) -> MachinesRead
     }
 }
 
-pub fn read_machines(s: &[u8], at: usize) -> MachinesRead
+pub(crate) fn read_machines(s: &[u8], at: usize) -> MachinesRead
     ensures { λ r. ⌜ filledWith (r .filled) (r .machines) ≡ readMachines (now (s .entry)) at ⌝ }
 {
     match read_within(s, at, 1, MOST_MACHINES) {

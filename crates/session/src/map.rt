@@ -34,7 +34,7 @@ fn read_roots(s: &[u8], at: usize, n: u8, count: usize, roots: &mut [u8; MOST_CO
     Filled::To(place)
 }
 
-pub fn read_map(s: &[u8], at: usize, product: usize, n: u8) -> MapRead
+pub(crate) fn read_map(s: &[u8], at: usize, product: usize, n: u8) -> MapRead
     requires { ⌜ product ≤ mostControls ⌝ }
     ensures { λ r. ⌜ filledWith (r .filled) (r .map) ≡ readMap (now (s .entry)) at product n ⌝ }
 {

@@ -99,7 +99,7 @@ fn queues_ordered(
 }
 
 // THE TEST OF QUEUE ORDER.
-pub fn in_queue_order(q: Queues, pool: Pool) -> bool
+pub(crate) fn in_queue_order(q: Queues, pool: Pool) -> bool
     requires { ⌜ pool .count ≤ mostPool ⌝ }
     requires { ⌜ q .count ≤ mostQueues ⌝ }
     requires { ⌜ firstOf (q .messages) (q .count) ≤ mostMessages ⌝ }

@@ -62,7 +62,7 @@ fn read_counts(s: &[u8], at: usize, count: usize, counts: &mut [u8; MOST_QUEUES 
     Field::Value(sum, place)
 }
 
-pub fn read_queues(s: &[u8], at: usize) -> QueuesRead
+pub(crate) fn read_queues(s: &[u8], at: usize) -> QueuesRead
     ensures { λ r. ⌜ filledWith (r .filled) (r .queues) ≡ readQueues (now (s .entry)) at ⌝ }
 {
     let mut messages = [0u8; MOST_QUEUES as usize];

@@ -189,7 +189,7 @@ fn read_rows(
     Filled::To(place)
 }
 
-pub fn read_transitions(s: &[u8], at: usize, m: Machines, q: Queues) -> TransitionsRead
+pub(crate) fn read_transitions(s: &[u8], at: usize, m: Machines, q: Queues) -> TransitionsRead
     ensures { λ r. ⌜ filledWith (r .filled) (r .transitions) ≡ readTransitions (now (s .entry)) at m q ⌝ }
 {
     let mut rows = [0u8; ROWS];

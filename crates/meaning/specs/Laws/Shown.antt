@@ -23,13 +23,13 @@ use Rattle.model.specs.Laws.Lengths.{taken, shown-bound}
 use Rattle.model.specs.Laws.Verdicts.{verdict-means}
 use Rattle.meaning.specs.Tables.{actionOf, sessionOf}
 use Rattle.meaning.specs.Reply.{FileReply, refused, verdict, replyTo, shownOf}
-use Rattle.meaning.specs.Checking.{readLent, contentsAfter, checkOf}
+use Rattle.meaning.specs.Checking.{mostShown, readLent, contentsAfter, checkOf}
 use Rattle.meaning.specs.Laws.Rows.{transition-row}
 use Rattle.meaning.specs.Laws.Order.{messages-are}
 use Rattle.meaning.specs.Laws.Sessions.{well-formed}
 use Rattle.meaning.specs.Laws.Claims.{Sound}
 use Rattle.meaning.specs.Laws.Checking.{Ways, long, little, whole, ways, enough-long, lent-sound}
-use Rattle.session.specs.Rows.{rowLength}
+use Rattle.session.specs.Rows.{rowLength, wordEntry, kindAt, queueAt, lengthAt}
 
 -- a failing item shows no more than w
 reply-shows : (i : Item) (w : List ℕ) (b : ℕ) → length w ≤ b → length (shownOf (verdict (reply i w))) ≤ b
@@ -65,23 +65,23 @@ module _ (T : Tables) (ok : Valid T) where
       let rows = T .transitions .rows in
       let (j, m, e) = transition-row rows (T .transitions .count) 0 τ (at-place (sessionOf T .model .transitions) t g) in
       subst (λ σ. length (out (σ .action)) ≤ mostWord) (sym e)
-      (out-short (getD rows (j * rowLength + 3) 0) (getD rows (j * rowLength + 4) 0) (getD rows (j * rowLength + 5) 0)
-      (drop (j * rowLength + 6) rows) (ok .transitions .row j (omega arith) .action .most))
+      (out-short (kindAt rows (j * rowLength)) (queueAt rows (j * rowLength)) (lengthAt rows (j * rowLength))
+      (drop (wordEntry (j * rowLength)) rows) (ok .transitions .row j (omega arith) .action .most))
   taken-short (entry b e) h = zero-le
 
-  shown-most : (i : Item) → IsItem (sessionOf T) i → mostPairs (T .pool .count) + length (taken i) ≤ 32516
+  shown-most : (i : Item) → IsItem (sessionOf T) i → mostPairs (T .pool .count) + length (taken i) ≤ mostShown
   shown-most i h =
       let n = T .pool .count in
       let few : n ≤ 127 = ok .pool .most in
       let more : n + 1 ≤ 128 = omega arith in
       omega (arith, mul-le-mul few more, taken-short i h)
 
-  session-fits : length (shownOf (verdict (Judge.verdict (sessionOf T)))) ≤ 32516
+  session-fits : length (shownOf (verdict (Judge.verdict (sessionOf T)))) ≤ mostShown
   unfolding Judge.verdict
-  session-fits = decided-fits (sessionOf T) (well-formed T ok) 32516 shown-most (items (sessionOf T)) 0 (item-is (sessionOf T))
+  session-fits = decided-fits (sessionOf T) (well-formed T ok) mostShown shown-most (items (sessionOf T)) 0 (item-is (sessionOf T))
 
 -- THE CONTENTS SHOWN FIT
-pub shown-fits : (x : Part.Part Tables) → Sound x → length (shownOf (replyTo x)) ≤ 32516
+pub shown-fits : (x : Part.Part Tables) → Sound x → length (shownOf (replyTo x)) ≤ mostShown
 shown-fits (Part.refused k p) ok = zero-le
 shown-fits (Part.got T next) ok = session-fits T (ok T next refl)
 

@@ -4,7 +4,7 @@ use Rattle.capi.proofs.flat.put_four.Statement.{statement}
 use Rattle.capi.proofs.flat.put_four.Tie as tie
 use Rattle.capi.proofs.flat.put_four.Reads as reads
 use Rattle.capi.proofs.flat.put_four.Lts as lts
-use Rattle.line.proofs.put.put_word.Reads as put-word-reads
+use Rattle.numbers.proofs.put.put_word.Reads as put-word-reads
 
 -- src/flat.rt:18:9
 put-word-requires : tie.Need-put-word-requires

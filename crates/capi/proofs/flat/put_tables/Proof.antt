@@ -6,7 +6,7 @@ use Rattle.capi.proofs.flat.put_tables.Reads as reads
 use Rattle.capi.proofs.flat.put_tables.Lts as lts
 use Rattle.capi.proofs.flat.put_large.Reads as put-large-reads
 use Rattle.capi.proofs.flat.put_small.Reads as put-small-reads
-use Rattle.line.proofs.put.put_word.Reads as put-word-reads
+use Rattle.numbers.proofs.put.put_word.Reads as put-word-reads
 
 -- src/flat.rt:74:9
 put-small-requires : tie.Need-put-small-requires

@@ -7,7 +7,7 @@ use Rattle.line.proofs.put.put_digits.Reads as put-digits
 use Rattle.line.proofs.put.put_digits.Kinds as put-digits-kinds
 use Rattle.line.proofs.put.+put_digits.Lts-put_digits as put-digits-lts
 use Rattle.line.proofs.put.digit.Reads as digit-reads
-use Rattle.line.proofs.put.put_byte.Reads as put-byte-reads
+use Rattle.numbers.proofs.put.put_byte.Reads as put-byte-reads
 use Rattle.line.proofs.put.+put_digits.{statement}
 use Rattle.line.proofs.put.+put_digits.Tie.{close}
 

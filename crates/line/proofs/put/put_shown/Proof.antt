@@ -5,7 +5,7 @@ use Rattle.line.proofs.put.put_shown.Statement.{statement}
 use Rattle.line.proofs.put.put_shown.Tie as tie
 use Rattle.line.proofs.put.put_shown.Reads as reads
 use Rattle.line.proofs.put.put_shown.Lts as lts
-use Rattle.line.proofs.put.put_byte.Reads as put-byte-reads
+use Rattle.numbers.proofs.put.put_byte.Reads as put-byte-reads
 use Rattle.line.proofs.put.put_messages.Reads as put-messages-reads
 use Rattle.line.proofs.put.put_spaced.Reads as put-spaced-reads
 

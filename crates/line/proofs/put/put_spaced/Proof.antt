@@ -5,7 +5,7 @@ use Rattle.line.proofs.put.put_spaced.Statement.{statement}
 use Rattle.line.proofs.put.put_spaced.Tie as tie
 use Rattle.line.proofs.put.put_spaced.Reads as reads
 use Rattle.line.proofs.put.put_spaced.Lts as lts
-use Rattle.line.proofs.put.put_byte.Reads as put-byte-reads
+use Rattle.numbers.proofs.put.put_byte.Reads as put-byte-reads
 use Rattle.line.proofs.put.put_digits.Reads as put-digits-reads
 
 -- src/put.rt:63:9

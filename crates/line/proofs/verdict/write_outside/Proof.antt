@@ -5,8 +5,8 @@ use Rattle.line.proofs.verdict.write_outside.Statement.{statement}
 use Rattle.line.proofs.verdict.write_outside.Tie as tie
 use Rattle.line.proofs.verdict.write_outside.Reads as reads
 use Rattle.line.proofs.verdict.write_outside.Lts as lts
-use Rattle.line.proofs.put.put_byte.Reads as put-byte-reads
-use Rattle.line.proofs.put.put_word.Reads as put-word-reads
+use Rattle.numbers.proofs.put.put_byte.Reads as put-byte-reads
+use Rattle.numbers.proofs.put.put_word.Reads as put-word-reads
 use Rattle.line.proofs.verdict.has_room.Reads as has-room-reads
 
 -- src/verdict.rt:55:8

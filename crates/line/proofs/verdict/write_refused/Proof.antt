@@ -5,9 +5,9 @@ use Rattle.line.proofs.verdict.write_refused.Statement.{statement}
 use Rattle.line.proofs.verdict.write_refused.Tie as tie
 use Rattle.line.proofs.verdict.write_refused.Reads as reads
 use Rattle.line.proofs.verdict.write_refused.Lts as lts
-use Rattle.line.proofs.put.put_byte.Reads as put-byte-reads
+use Rattle.numbers.proofs.put.put_byte.Reads as put-byte-reads
 use Rattle.line.proofs.put.put_spaced.Reads as put-spaced-reads
-use Rattle.line.proofs.put.put_word.Reads as put-word-reads
+use Rattle.numbers.proofs.put.put_word.Reads as put-word-reads
 use Rattle.line.proofs.verdict.has_room.Reads as has-room-reads
 
 -- src/verdict.rt:66:8

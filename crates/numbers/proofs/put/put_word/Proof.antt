@@ -1,12 +1,12 @@
 use borrow.Author.Needs.{needs}
 use Rattle.numbers.specs.Laws.Put.{Left, left-zero, left-byte, left-whole}
 use Prim.Native.Nat.{_≤_, _+_, _-_}
 use lib.ListN.{length, drop}
 use native.Mathlib.Omega.{arith}
-use Rattle.line.proofs.put.put_word.Statement.{statement}
-use Rattle.line.proofs.put.put_word.Tie as tie
-use Rattle.line.proofs.put.put_word.Reads as reads
-use Rattle.line.proofs.put.put_word.Lts as lts
+use Rattle.numbers.proofs.put.put_word.Statement.{statement}
+use Rattle.numbers.proofs.put.put_word.Tie as tie
+use Rattle.numbers.proofs.put.put_word.Reads as reads
+use Rattle.numbers.proofs.put.put_word.Lts as lts
 
 abbrev Inv-loop : tie.InvT-loop
 Inv-loop s₀ at word i₀ s i = Left s₀ at word s (at + i) (drop i word) × (i ≤ length word)
