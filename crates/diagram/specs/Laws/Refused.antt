@@ -1,7 +1,7 @@
--- A REFUSAL IS RIGHT: what each one means.
+-- A REFUSAL IS RIGHT: what each one means, and that each one is given where it is meant.
 use Prim.Native.Nat.{ℕ, _+_, _≤_, _<_}
 use mathlib.Core.Path.{_≡_, refl, sym, ap, ap₂, subst, _∙_}
-use mathlib.Core.Logic.{_⊎_, inl, inr}
+use mathlib.Core.Logic.{_↔_, _⊎_, inl, inr}
 use mathlib.Core.Bool.{Bool, true, false}
 use mathlib.Core.Option.{Option}
 use mathlib.Core.List.{List, [], _∷_, _++_}
@@ -9,6 +9,7 @@ use lib.ListN.{length}
 use lib.Dec.{ltb, leb}
 use borrow.Author.Tests.{ltb-true, ltb-false, leb-true, leb-false}
 use native.Mathlib.Omega.{arith}
+use native.Mathlib.Nat.{add-zero}
 use Rattle.numbers.specs.Part.{Part, got, refused}
 use Rattle.session.specs.File.{readFile}
 use Rattle.session.specs.declared.tables.Tables.{Tables}
@@ -18,7 +19,7 @@ use Rattle.meaning.specs.Tables.{sessionOf}
 use Rattle.diagram.specs.Member.{refusal, judge, ask, memberOf}
 use Rattle.diagram.specs.Refused.{lastQueue, Stopped, Refused, unread, no-control, stopped}
 use Rattle.diagram.specs.Laws.Judging.{judge-unknown, judge-earlier, judge-on}
-use Rattle.diagram.specs.Laws.Order.{Rises, at-last, further, split}
+use Rattle.diagram.specs.Laws.Order.{Rises, at-last, further, contents-rise, split}
 use Rattle.diagram.specs.Laws.Asking.{member-unread, member-asked}
 use Rattle.diagram.specs.Laws.Meaning.{refusal-no-answer, ask-on, ask-off}
 
@@ -98,6 +99,23 @@ module _ (ns : List ℕ) (P : Pool) where
         cause = H .cause;
       }
 
+  -- contents in order up to a message that is refused
+  stopped-walk : (place : ℕ) {q : ℕ} (s : Option ℕ) {front : List ℕ} (m : ℕ) (rest : List ℕ) {k : ℕ} → Rises (queueOf ns) (total ns) q front
+      → ((k ≡ 12) × (total ns ≤ m)) ⊎ ((k ≡ 13) × (m < total ns) × (queueOf ns m < lastQueue ns q front))
+      → judge ns P place q s (front ++ (m ∷ rest)) ≡ refusal k (place + length front)
+  stopped-walk place {q} s m rest at-last (inl c) =
+      judge-unknown ns P place q s m rest (c .1) ∙ ap₂ refusal (sym (c .0)) (sym (add-zero place))
+  stopped-walk place {q} s m rest at-last (inr c) =
+      judge-earlier ns P place q s m rest (c .1) (c .2) ∙ ap₂ refusal (sym (c .0)) (sym (add-zero place))
+  stopped-walk place {q} s m rest {k} (further {m = n} {u = u} h l r) c =
+      judge-on ns P place q s n (u ++ (m ∷ rest)) h l ∙ stopped-walk (place + 1) (along P s n) m rest r c ∙ ap (refusal k) (omega arith)
+
+  stops-judge : (s : Option ℕ) (u : List ℕ) {k p : ℕ} → Stopped ns u k p → judge ns P 0 0 s u ≡ refusal k p
+  stops-judge s u {k} {p} S =
+      let rises = subst (Rises (queueOf ns) (total ns) 0) (S .words) (contents-rise (S .own)) in
+      ap (judge ns P 0 0 s) (S .whole) ∙ stopped-walk 0 s (S .message) (S .rest) rises (S .cause)
+      ∙ ap (refusal k) (omega (arith, S .place))
+
 -- WHAT A REFUSAL MEANS
 pub refusal-means : (file : List ℕ) (c : ℕ) (contents : List ℕ) {k p : ℕ} → memberOf file c contents ≡ refusal k p → Refused file c contents k p
 refusal-means file c contents {k} {p} e = byReading (readFile file) refl
@@ -118,3 +136,16 @@ refusal-means file c contents {k} {p} e = byReading (readFile file) refl
         let g = sym e ∙ member-unread file c contents f in
         unread (f ∙ ap₂ refused (sym (same-number g)) (sym (same-place g)))
     byReading (got T next) f = byControl f (ltb c (controls (sessionOf T .model))) refl (sym (member-asked file c contents f) ∙ e)
+
+-- AND WHERE IT IS MEANT IT IS GIVEN
+pub means-refusal : (file : List ℕ) (c : ℕ) (contents : List ℕ) {k p : ℕ} → Refused file c contents k p → memberOf file c contents ≡ refusal k p
+means-refusal file c contents (unread e) = member-unread file c contents e
+means-refusal file c contents (no-control {T = T} r h) = member-asked file c contents r ∙ ask-off (sessionOf T) c contents h
+means-refusal file c contents (stopped {T = T} r h S) =
+    member-asked file c contents r
+    ∙ ask-on (sessionOf T) c contents h
+    ∙ stops-judge (sessionOf T .model .queues) (sessionOf T .pool) (sessionOf T .root c) contents S
+
+-- THE REFUSALS OF MEMBERSHIP: each exactly in its case
+pub member-refusal-is : (file : List ℕ) (c : ℕ) (contents : List ℕ) (k p : ℕ) → (memberOf file c contents ≡ refusal k p) ↔ Refused file c contents k p
+member-refusal-is file c contents k p = (refusal-means file c contents, means-refusal file c contents)
