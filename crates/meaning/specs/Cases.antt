@@ -1,5 +1,5 @@
--- The fourteen lettered cases of document 01, "What the program prints", as one list with one claim about it:
--- files in hex, and the lines printed for them. At the end, what shuts out each of the worthless versions.
+-- The fourteen lettered cases of document 01, "What the program prints", as one list with one claim about it: files in hex, and the lines
+-- printed for them; and further ones, in the same form. At the end, what shuts out each of the worthless versions.
 use Prim.Native.Nat.{ℕ, _+_, _-_, _*_}
 use Prim.Native.Char.{code}
 use Prim.Native.String.{String}
@@ -102,9 +102,64 @@ cases =
 abbrev pub secondLeaves : List ℕ
 secondLeaves = hex "01 01 00 01 01 02 00 00 00 00 00 00 00 01 00 01 00 01 01 00 01 00"
 
--- further: a product of 256 passes, and a second step is looked at
+-- One machine of four states over two queues, with messages 0 and 1, 2 and 3: at state 1 it sends 3 to queue 1 and goes to 2, or sends 1 to queue
+-- 0 and goes to 3. The pool has the sets of the words -, 0 2, 0 2 3 and 0 1 2, from states 0, 1, 3 and 6; with these roots and last field.
+abbrev fileQ : String → String → List ℕ
+fileQ roots last =
+    hex "01 04 00 02 02 02 02 00 01 02 01 01 01 03 00 01 03 01 00 01 01"
+    ++ (hex "08 01 00 00 01 00 02 00 01 02 00 00 01 00 04 00 01 02 05 00 01 03 00 00 01 00 07 00 01 01 02" ++ (hex roots ++ hex last))
+
+-- Two machines of two states: machine 0 goes from 0 to 1 and sends 0 1 0, machine 1 goes from 0 to 1 and receives a word. The sets of control
+-- states 0, 2 and 3 are the words -, 0 1 0 and -.
+abbrev fileH : String → List ℕ
+fileH received =
+    hex "02 02 02 00 00 01 02 02 00 00 01 01 00 03 00 01 00 01 00 01 02 00"
+    ++ (hex received ++ hex "04 01 00 00 01 00 02 00 01 01 03 00 01 00 00 01 00 02 01 00")
+
+-- FURTHER CASES: machines of two states and more, longer words, two queues. With each stands what would print another line.
 abbrev pub furtherCases : List Case
-furtherCases = case "product" (hex "02 10 10") "refused 3 at 3\n" ∷ case "second" secondLeaves "leaves 0 1 0:\n" ∷ []
+furtherCases =
+    -- a product of 256 refused
+    case "product" (hex "02 10 10") "refused 3 at 3\n"
+    -- a second step waved through
+    ∷ case "second" secondLeaves "leaves 0 1 0:\n"
+    -- a machine goes from 0 to 1 and sends 0; the sets are - and 0: from and to exchanged; a root taken for 1 more than it is
+    ∷ case "from" (hex "01 02 00 01 01 01 00 00 01 01 00 01 00 02 01 00 00 01 00 00 01 02 00") "closed 2\n"
+    -- machines of 2 and 3 states at (0, 2), and transition 1 leads to (1, 2): control states numbered with machine 0 least significant; from and
+    -- to exchanged
+    ∷ case "controls" (hex "02 02 03 00 02 01 01 02 01 00 01 00 00 00 01 01 00 01 00 01 01 00 00 00 01 00 00 01 00") "leaves 2 1 0:\n"
+    -- a local step from (1, 0) to (0, 0), in machines of two states: the same
+    ∷ case "local" (hex "02 02 02 01 00 01 02 01 00 01 00 00 04 01 00 00 01 00 02 00 01 01 03 00 01 00 00 02 02 01 00 00") "leaves 2 0 0:\n"
+    -- 2 3 3 4 is sent to queue 1, then 2 3 received: either word reversed; a receive from the queue's end; sends and receives exchanged
+    ∷ case "word"
+    (hex "01 03 00 02 02 03 02 00 00 01 01 01 04 02 03 03 04 00 01 02 02 01 02 02 03 06 01 00 00 01 02 02 00 01 03 03 00 01 03 04 00 01 04 05 01 00 01 02 04 00")
+    "closed 6\n"
+    -- a message of queue 1 put at the end of queue 0; a send to a queue's front
+    ∷ case "queues" (fileQ "01 02 04 07" "00") "closed 11\n"
+    -- control state 3 has no root: a target that has nowhere to go dropped
+    ∷ case "nowhere" (fileQ "01 02 04 00" "00") "leaves 1 1 2: 0 2\n"
+    -- entry 0 is of control state 0, entry 1 of 1, both with pool state 1 for root: a bad entry's root taken for 1 less than it is
+    ∷ case "bad" (fileQ "01 02 04 07" "02 00 01 01 01") "bad 1 2: 0 2\n"
+    -- machine 1 receives what machine 0 sent: a receive from the queue's end; control states numbered the other way round
+    ∷ case "received" (fileH "03 00 01 00") "closed 5\n"
+    -- machine 1 receives 0 1 alone: the word reversed; a receive from the queue's end
+    ∷ case "part" (fileH "02 00 01") "leaves 2 1 3: 0 1 0\n"
+    -- a starting state that is as much as its machine's states taken; a state of machine 0 held to the states of machine 1
+    ∷ case "start" (hex "02 02 03 00 03") "refused 5 at 4\n"
+    ∷ case "to" (hex "02 02 03 00 00 01 01 01 00 01 02") "refused 5 at 10\n"
+    -- a message that is not below the sum told by 7; one of the queue before taken, or of the queue after
+    ∷ case "message" (hex "01 01 00 02 02 02 01 00 00 00 01 01 02 02 04") "refused 5 at 14\n"
+    ∷ case "before" (hex "01 01 00 02 02 02 01 00 00 00 01 01 02 02 01") "refused 7 at 14\n"
+    ∷ case "after" (hex "01 01 00 02 02 02 01 00 00 00 02 00 02 00 02") "refused 7 at 14\n"
+    -- the same message twice in a state taken
+    ∷ case "twice" (hex "01 01 00 01 02 00 01 01 02 01 00 01 00") "refused 8 at 11\n"
+    -- a root of the map past 1 plus the last state taken; a bad entry's root with the 1 added taken
+    ∷ case "root" (hex "01 01 00 01 01 00 01 01 00 02 00") "refused 5 at 9\n"
+    ∷ case "entry" (hex "01 01 00 01 01 00 01 01 00 01 01 00 01") "refused 5 at 12\n"
+    -- a sum of 33 taken; a second byte of 128 taken
+    ∷ case "sum" (hex "01 01 00 02 20 01") "refused 6 at 5\n"
+    ∷ case "second byte" (hex "01 01 00 01 81 80") "refused 4 at 4\n"
+    ∷ []
 
 -- what is claimed of a list of cases
 abbrev pub Printed : List Case → Type 0
@@ -158,9 +213,12 @@ unfolding
 computed =
     record { lettered = refl; further = refl; a = refl; b = refl; b-run = refl; c = refl; f = refl; second = refl; second-run = refl }
 
--- the fourteen lettered cases
+-- the fourteen lettered cases, and the further ones
 pub as-printed : Printed cases
 as-printed = computed .lettered
+
+pub further-as-printed : Printed furtherCases
+further-as-printed = computed .further
 
 -- WORTHLESS VERSIONS, and what shuts them out (laws of Laws.Worthless)
 --
