@@ -2,11 +2,12 @@
 -- list of numbers (demand 3).
 use Prim.Native.Nat.{ℕ, _≤_}
 use mathlib.Core.Path.{_≡_}
+use mathlib.Core.Logic.{_↔_}
 use mathlib.Core.List.{List}
 use Rattle.numbers.specs.Part as Part
 use Rattle.session.specs.File.{readFile}
 use Rattle.session.specs.declared.tables.Tables.{Tables}
-use Rattle.model.specs.Verdict.{Reply, closed, items, Means}
+use Rattle.model.specs.Verdict.{Reply, closed, items, Means, Closed}
 use Rattle.model.specs.TwoRuns.{TwoRuns}
 use Rattle.meaning.specs.Tables.{sessionOf}
 use Rattle.meaning.specs.Reply.{FileReply, refused, verdict, replyTo}
@@ -22,6 +23,8 @@ pub record Meant (x : Part.Part Tables) (r : FileReply) : Type 0 where
   -- what is read has a verdict: the first failing item of its session with the contents shown, or closed with the number of pairs
   pub judges : (T : Tables) (next : ℕ) → x ≡ Part.got T next
       → (v : Reply) × (r ≡ verdict v) × Means (sessionOf T) (items (sessionOf T)) v
+  -- and it is closed exactly if the start is inside, no step that can be taken leads out, and no listed bad contents are inside
+  pub closes : (T : Tables) (next : ℕ) → x ≡ Part.got T next → ((n : ℕ) × (r ≡ verdict (closed n))) ↔ Closed (sessionOf T)
   pub few : (n : ℕ) → r ≡ verdict (closed n) → n ≤ mostInAll
 
 -- DEMAND 3: what a reply says of the run fed the list ts where reading gave x

@@ -9,11 +9,12 @@ use Rattle.numbers.specs.Laws.Parts.{not-refused, same-value}
 use Rattle.session.specs.File.{readFile}
 use Rattle.session.specs.Laws.Valid.{Valid, valid}
 use Rattle.session.specs.declared.tables.Tables.{Tables}
-use Rattle.model.specs.Verdict.{Reply, closed, items, Means}
+use Rattle.model.specs.Verdict.{Reply, closed, items, Means, Closed}
+use Rattle.model.specs.Session.{Session}
 use Rattle.model.specs.Judge as Judge
 use Rattle.model.specs.TwoRuns.{TwoRuns}
 use Rattle.model.specs.Laws.Replies.{one-reply}
-use Rattle.model.specs.Laws.Verdicts.{verdict-means, closed-bound, two-runs}
+use Rattle.model.specs.Laws.Verdicts.{verdict-means, closed-is, closed-bound, two-runs}
 use Rattle.meaning.specs.Tables.{sessionOf}
 use Rattle.meaning.specs.Reply.{FileReply, refused, verdict, replyTo, replyOf}
 use Rattle.meaning.specs.Claims.{Meant, TwoRunsTo, MeansOf, TwoRunsOf}
@@ -26,6 +27,17 @@ Sound x = (T : Tables) (next : ℕ) → x ≡ Part.got T next → Valid T
 -- a refusal is no verdict
 refused-not-verdict : {X : Type 0} {k p : ℕ} {v : Reply} → _≡_ {A = FileReply} (refused k p) (verdict v) → X
 refused-not-verdict e = absurd (let z : _≡_ {A = ℕ} 0 1 = cc in omega arith)
+
+-- as the verdict on a session is closed, so is the reply to its file
+verdict-closes : (S : Session) → ((n : ℕ) × (Judge.verdict S ≡ closed n)) ↔ Closed S
+    → ((n : ℕ) × (verdict (Judge.verdict S) ≡ verdict (closed n))) ↔ Closed S
+verdict-closes S c = (
+  λ (n, e). c .0 (n, same n e),
+  λ C. let (n, e) = c .1 C in (n, ap verdict e),
+)
+  where
+    same : (n : ℕ) → verdict (Judge.verdict S) ≡ verdict (closed n) → Judge.verdict S ≡ closed n
+    same n e = cc
 
 -- ONE REPLY HAS THE MEANING
 pub meant-one : (x : Part.Part Tables) (r r′ : FileReply) → Meant x r → Meant x r′ → r ≡ r′
@@ -40,10 +52,12 @@ reply-meant (Part.refused k p) ok =
     record {
       refuses = λ j q e. let a : k ≡ j = cc in let b : p ≡ q = cc in ap (λ n. refused n p) a ∙ ap (refused j) b;
       judges = λ T next e. absurd (not-refused e);
+      closes = λ T next e. absurd (not-refused e);
       few = λ n e. refused-not-verdict e;
     }
 reply-meant (Part.got T next) ok =
     let wf = well-formed T (ok T next refl) in
+    let closes = verdict-closes (sessionOf T) (closed-is (sessionOf T) wf) in
     record {
       refuses = λ k p e. absurd (not-refused (sym e));
       judges =
@@ -52,6 +66,8 @@ reply-meant (Part.got T next) ok =
             refl,
             subst (λ U. Means (sessionOf U) (items (sessionOf U)) (Judge.verdict (sessionOf T))) (same-value e) (verdict-means (sessionOf T) wf),
           );
+      closes =
+          λ T′ next′ e. subst (λ U. ((n : ℕ) × (verdict (Judge.verdict (sessionOf T)) ≡ verdict (closed n))) ↔ Closed (sessionOf U)) (same-value e) closes;
       few =
           λ n e.
           let same : Judge.verdict (sessionOf T) ≡ closed n = cc in
