@@ -19,7 +19,7 @@ pub struct Parted {
 }
 
 // The product of the states of the machines from number i on.
-pub fn product_from(states: [u8; 4], count: usize, i: usize) -> usize
+pub(crate) fn product_from(states: [u8; 4], count: usize, i: usize) -> usize
     requires { ⌜ Stepped states count ⌝ }
     requires { ⌜ i ≤ count ⌝ }
     ensures { λ r. ⌜ r ≡ product (drop i (take count states)) ⌝ }

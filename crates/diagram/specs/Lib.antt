@@ -1,5 +1,4 @@
--- Membership: what is to be believed stands in Follow, Member, Said, Meaning and Refused; the laws are proved from them.
-pub mod Follow
+-- Membership: what is to be believed stands in Member, Said, Meaning and Refused; the laws are proved from them.
 pub mod Member
 pub mod Said
 pub mod Meaning

@@ -1,4 +1,3 @@
-// Queue diagrams: where a word leads from a control state's root, and whether contents belong to a control state.
-pub mod follow;
+// Queue diagrams: whether contents belong to a control state of a session file.
 pub mod member;
 pub mod reply;

@@ -1,25 +1,29 @@
 // Membership: whether contents belong to a control state of a session file.
-use crate::follow::Reached;
-use crate::follow::along;
-use crate::follow::begin;
-use crate::follow::is_final;
 use crate::reply::Member;
 use numbers::number::entry;
 use numbers::number::wide;
 use session::kinds::ControlState;
 use session::kinds::Message;
+use session::kinds::Reached;
+use session::lookup::along;
+use session::lookup::is_final;
+use session::lookup::root_of;
 use session::reading::Answer;
 use session::reading::read;
 use session::tables::Pool;
 use session::tables::Queues;
 use session::tables::Tables;
 ghost use mathlib.Core.Path.{_≡_};
+ghost use Prim.Native.Nat.{_≤_};
 ghost use lib.ListN.{take};
+ghost use Rattle.session.specs.Limits.{mostPool};
+ghost use Rattle.session.specs.Kinds.{reachedOf};
 ghost use Rattle.session.specs.Laws.Queues.{QueuesValid};
+ghost use Rattle.session.specs.Laws.Pool.{PoolValid};
 ghost use Rattle.session.specs.Laws.Valid.{Valid};
 ghost use Rattle.model.specs.Model.{queueOf};
 ghost use Rattle.meaning.specs.Tables.{poolOf, sessionOf};
-ghost use Rattle.diagram.specs.Said.{saidReached, saidMember};
+ghost use Rattle.diagram.specs.Said.{saidMember};
 ghost use Rattle.diagram.specs.Member.{judge, ask, memberOf};
 
 // The queue that a message belongs to.
@@ -44,7 +48,9 @@ fn queue_of(q: Queues, m: Message) -> u8
 // Every message is held to its number and its queue, also where the diagram has nowhere to go.
 fn judge(q: Queues, pool: Pool, start: Reached, contents: &[u8]) -> Member
     requires { ⌜ QueuesValid q ⌝ }
-    ensures { λ r. ⌜ saidMember r ≡ judge (take (q .count) (q .messages)) (poolOf pool) 0 0 (saidReached start) (now (contents .entry)) ⌝ }
+    requires { ⌜ PoolValid (q .sum) pool ⌝ }
+    requires { ⌜ start .0 ≤ mostPool ⌝ }
+    ensures { λ r. ⌜ saidMember r ≡ judge (take (q .count) (q .messages)) (poolOf pool) 0 0 (reachedOf (start .0)) (now (contents .entry)) ⌝ }
 {
     let arcs = pool.arcs;
     let finals = pool.finals;
@@ -83,7 +89,7 @@ fn ask(t: Tables, control: usize, contents: &[u8]) -> Member
     }
     let map = t.map;
     let roots = map.roots;
-    let start = begin(&roots, ControlState::new(control));
+    let start = root_of(&roots, ControlState::new(control));
     let queues = t.queues;
     let pool = t.pool;
     judge(queues, pool, start, contents)

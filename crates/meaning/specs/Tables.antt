@@ -1,12 +1,13 @@
 -- The session that the tables of a file describe. Its projections compute, so a proof pays nothing for it.
-use Prim.Native.Nat.{ℕ, zero, suc, _+_, _-_, _*_}
-use mathlib.Core.Bool.{Bool, true, false}
+use Prim.Native.Nat.{ℕ, zero, suc, _+_, _*_}
+use mathlib.Core.Bool.{true, false}
 use mathlib.Core.Option.{Option, none, some}
 use mathlib.Core.List.{List, [], _∷_}
 use lib.ListN.{getD, take, drop}
-use lib.Dec.{ltb, eqb}
+use lib.Dec.{ltb}
 use Rattle.session.specs.Limits.{mostMessages}
 use Rattle.session.specs.Pool.{arcAt}
+use Rattle.session.specs.Lookup.{rootOf, finalAt}
 use Rattle.session.specs.declared.tables.Machines.{Machines}
 use Rattle.session.specs.declared.tables.Queues.{Queues}
 use Rattle.session.specs.declared.tables.Transitions.{Transitions}
@@ -46,21 +47,12 @@ modelOf m q τ =
       transitions = transitionsFrom (τ .rows) (τ .count) 0;
     }
 
--- a state's entries of the table of arcs are for the messages below 32
+-- a state's entries of the table of arcs are for the messages below mostMessages
 abbrev pub arcOf : List ℕ → ℕ → ℕ → Option ℕ
 arcOf arcs s m = elim (ltb m mostMessages) [ true ↦ arcAt arcs s m | false ↦ none ]
 
--- a final state is marked by 1; nowhere is not final
-abbrev pub finalAt : List ℕ → Option ℕ → Bool
-finalAt finals none = false
-finalAt finals (some s) = eqb (getD finals s 0) 1
-
 abbrev pub poolOf : Declared.Pool → Pool
 poolOf P = record { states = P .count; final = λ s. finalAt (P .finals) (some s); arc = arcOf (P .arcs) }
-
--- 0 is no root, else 1 is added to it
-abbrev pub rootOf : List ℕ → ℕ → Option ℕ
-rootOf roots c = elim (eqb (getD roots c 0) 0) [ true ↦ none | false ↦ some (getD roots c 0 - 1) ]
 
 -- so many bad entries from number b on
 abbrev pub entriesFrom : List ℕ → ℕ → ℕ → List (ℕ × ℕ)

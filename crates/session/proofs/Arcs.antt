@@ -5,9 +5,9 @@ use mathlib.Core.Option.{none, some}
 use native.Mathlib.Omega.{arith}
 use denote.Enum.Declared.{tagOf}
 use Rattle.session.specs.Said.{saidArc}
-use Rattle.session.specs.declared.pool.Arc.{Arc}
-use Rattle.session.specs.declared.pool.Arc.the-variants.{Target, Nowhere}
-use Rattle.session.proofs.pool.Arc.{the-type}
+use Rattle.session.specs.declared.lookup.Arc.{Arc}
+use Rattle.session.specs.declared.lookup.Arc.the-variants.{Target, Nowhere}
+use Rattle.session.proofs.lookup.Arc.{the-type}
 
 pub nowhere-told : (a : Arc) → tagOf the-type a ≡ 1 → saidArc a ≡ none
 nowhere-told (Target t) e = absurd (omega arith)

@@ -8,6 +8,7 @@ pub mod Map
 pub mod Bad
 pub mod Transitions
 pub mod Pool
+pub mod Lookup
 pub mod Order
 pub mod Places
 pub mod Fields

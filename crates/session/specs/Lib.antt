@@ -6,6 +6,7 @@ pub mod Queues
 pub mod Rows
 pub mod Transitions
 pub mod Pool
+pub mod Lookup
 pub mod Order
 pub mod Lowest
 pub mod Map

@@ -2,8 +2,8 @@
 use Prim.Native.Nat.{ℕ}
 use mathlib.Core.Option.{Option, none, some}
 use Rattle.numbers.specs.Said.{numberOf, placeOf}
-use Rattle.session.specs.declared.pool.Arc.{Arc}
-use Rattle.session.specs.declared.pool.Arc.the-variants.{Target, Nowhere}
+use Rattle.session.specs.declared.lookup.Arc.{Arc}
+use Rattle.session.specs.declared.lookup.Arc.the-variants.{Target, Nowhere}
 use Rattle.session.specs.declared.reading.Answer.{Answer}
 use Rattle.session.specs.declared.reading.Answer.the-variants.{Read, Refused as AnswerRefused}
 

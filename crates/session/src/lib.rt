@@ -1,6 +1,7 @@
 // Session files: the kinds of number, the tables, and reading, which turns any bytes into tables or a refusal.
 mod bad;
 pub mod kinds;
+pub mod lookup;
 mod machines;
 mod map;
 pub mod model;

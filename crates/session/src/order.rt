@@ -1,8 +1,8 @@
 // Queue order: no state has an arc in for a message of some queue and an arc out for a message of an earlier queue.
 use crate::kinds::DiagramState;
 use crate::kinds::Message;
-use crate::pool::Arc;
-use crate::pool::arc_of;
+use crate::lookup::Arc;
+use crate::lookup::arc_of;
 use crate::tables::MOST_QUEUES;
 use crate::tables::Pool;
 use crate::tables::Queues;

@@ -1,6 +1,5 @@
-// Field 4: the pool of diagram states, and arc lookup.
+// Field 4: the pool of diagram states.
 use crate::kinds::DiagramState;
-use crate::kinds::Message;
 use crate::tables::ARCS;
 use crate::tables::MOST_POOL;
 use crate::tables::POOL_ARCS;
@@ -18,34 +17,12 @@ use numbers::refusal::Refusal;
 ghost use mathlib.Core.Path.{_≡_};
 ghost use Prim.Native.Nat.{_+_, _≤_};
 ghost use Rattle.numbers.specs.Said.{saidNumber, saidField, saidPair, fieldWith, filledWith};
-ghost use Rattle.session.specs.Said.{saidArc};
 ghost use Rattle.session.specs.Limits.{mostPool, mostMessages};
-ghost use Rattle.session.specs.Pool.{poolArcs, arcAt, ascends, readAscending, readArc, readArcs, readState, readStates, readPool};
-
-// Where an arc leads.
-pub enum Arc {
-    Target(DiagramState),
-    Nowhere,
-}
+ghost use Rattle.session.specs.Pool.{poolArcs, ascends, readAscending, readArc, readArcs, readState, readStates, readPool};
 
 pub struct PoolRead {
     pub filled: Filled,
     pub pool: Pool,
-}
-
-// The arc of a state for a message, in the dense table of arcs.
-pub fn arc_of(arcs: &[u8], s: DiagramState, m: Message) -> Arc
-    ensures { λ r. ⌜ saidArc r ≡ arcAt (now (arcs .entry)) (s .0) (m .0) ⌝ }
-{
-    let i = wide(s.0) * ARCS + wide(m.0);
-    if i < arcs.len() {
-        let target = arcs[i];
-        if target == 0 {
-            return Arc::Nowhere;
-        }
-        return Arc::Target(DiagramState(target - 1));
-    }
-    Arc::Nowhere
 }
 
 // An arc's message, which was read at a place: not below the least that still ascends.

@@ -3,6 +3,8 @@ use Prim.Native.Nat.{ℕ, _≤_}
 use mathlib.Core.Path.{_≡_}
 use mathlib.Core.List.{List}
 use lib.ListN.{length, take, replicate}
+use Rattle.walk.specs.Pairs.{mostPairs}
+use Rattle.walk.specs.Shown.{mostShown}
 use Rattle.numbers.specs.Said.{numberOf, placeOf}
 use Rattle.session.specs.declared.tables.Tables.{Tables}
 use Rattle.model.specs.Verdict.{closed, outside, leaves, bad}
@@ -40,10 +42,10 @@ concluded (Progress.Meets number shown) = Bad number shown
 
 -- memory enough is lent, and the scratch tables are 0
 pub record Room (n : ℕ) (seen queue contents : List ℕ) : Type 0 where
-  pub front : n ≡ 32512
+  pub front : n ≡ mostPairs
   pub seenLong : n ≤ length seen
   pub queueLong : n ≤ length queue
-  pub contentsLong : 32768 ≤ length contents
+  pub contentsLong : mostShown ≤ length contents
   pub seenBlank : seen ≡ replicate (length seen) 0
   pub queueBlank : queue ≡ replicate (length queue) 0
 

@@ -6,6 +6,7 @@ use lib.ListN.{length, take, drop}
 use Rattle.model.specs.Judge as Model
 use Rattle.model.specs.Laws.Items.{IsItem}
 use Rattle.meaning.specs.Tables.{sessionOf, transitionAt, entriesFrom}
+use Rattle.session.specs.Limits.{mostTransitions, mostBad}
 use Rattle.session.specs.Laws.Valid.{Valid}
 use Rattle.session.specs.declared.tables.Machines.{Machines}
 use Rattle.session.specs.declared.tables.Queues.{Queues}
@@ -19,6 +20,10 @@ use Rattle.walk.specs.declared.judge.Judged.the-variants.{Passes, Fails}
 use Rattle.verdict.specs.declared.judged.Progress.{Progress}
 use Rattle.verdict.specs.declared.judged.Progress.the-variants.{Passed, Leaves, Meets}
 use Rattle.session.specs.Rows.{rowLength}
+
+-- the most pairs of the steps of one control state
+abbrev pub mostAtControl : ℕ
+mostAtControl = mostTransitions * mostPairs
 
 abbrev pub pairsOf : Judged → ℕ
 pairsOf (Passes pairs) = pairs
@@ -114,8 +119,8 @@ pub record EntriesAsked (q : Queues) (rows arcs finals roots entries : List ℕ)
   pub whole : Tables
   pub parts : EntryParts whole q rows arcs finals roots
   pub all : AllBad entries count whole
-  pub long : length entries ≡ 128
-  pub most : count ≤ 64
+  pub long : length entries ≡ mostBad * 2
+  pub most : count ≤ mostBad
 
 -- ALL ITEMS after the start: the tables have these transitions and these bad entries, and no others
 pub record AllParts (T : Tables) (m : Machines) (q : Queues) (rows arcs finals roots entries : List ℕ) (count many : ℕ) : Type 0 where

@@ -1,4 +1,4 @@
--- What the start of an item's walk is, in the model's words.
+-- How an action parts the contents, in the model's words.
 use Prim.Native.Nat.{ℕ, suc, _+_, _≤_}
 use mathlib.Core.Path.{_≡_}
 use mathlib.Core.Option.{Option}
@@ -8,8 +8,8 @@ use lib.ListN.{take}
 use Rattle.session.specs.declared.tables.Queues.{Queues}
 use Rattle.model.specs.Model.{Action, local, send, receive, firstOf}
 use Rattle.model.specs.Judge.{out, into, rootPair}
-use Rattle.meaning.specs.Tables.{actionOf, rootOf}
-use Rattle.walk.specs.Pairs.{place, sideOf}
+use Rattle.meaning.specs.Tables.{actionOf}
+use Rattle.walk.specs.Pairs.{afterSide, sideOf}
 use Rattle.walk.specs.Over.{wordOver}
 use Rattle.verdict.specs.declared.start.Cut.{Cut}
 use Rattle.session.specs.Rows.{wordEntry, kindAt, queueAt, lengthAt, wordAt}
@@ -30,10 +30,5 @@ pub record Cuts (q : Queues) (rows : List ℕ) (row : ℕ) (r : Cut) : Type 0 wh
   pub out : wordOver rows (wordEntry row) (r .out) ≡ out (actionAt rows row)
   pub into : wordOver rows (wordEntry row) (r .into) ≡ into (actionAt rows row)
   pub side : (s : ℕ) (t : Option ℕ) → sideOf (r .side) s t ≡ rootPair (actionAt rows row) s t
-  pub sides : (r .side ≡ 0) ⊎ (r .side ≡ 16256)
+  pub sides : (r .side ≡ 0) ⊎ (r .side ≡ afterSide)
   pub small : (r .cut ≤ q .sum) × (r .out ≤ lengthAt rows row) × (r .into ≤ lengthAt rows row)
-
--- the root of a control state as a place
-pub record PlaceAt (roots : List ℕ) (c r : ℕ) : Type 0 where
-  pub is : place r ≡ rootOf roots c
-  pub most : r ≤ 127

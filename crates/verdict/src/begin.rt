@@ -1,11 +1,12 @@
 // The start: whether empty queues are in the set of the control state that a run begins in.
-use crate::start::place_of;
 use controls::begin::first_control;
+use session::lookup::is_final;
+use session::lookup::root_of;
 use session::tables::Machines;
 ghost use mathlib.Core.Path.{_≡_};
 ghost use Rattle.session.specs.Laws.Machines.{MachinesValid};
 ghost use Rattle.model.specs.Model.{number};
-ghost use Rattle.meaning.specs.Tables.{rootOf, finalAt};
+ghost use Rattle.session.specs.Lookup.{rootOf, finalAt};
 ghost use Rattle.controls.specs.Controls.{sizesOf, startsOf};
 ghost use Rattle.verdict.specs.Begin.{RootsIn};
 
@@ -16,9 +17,5 @@ pub fn begins_inside(m: Machines, roots: &[u8], finals: &[u8]) -> bool
     ensures { λ r. ⌜ r ≡ finalAt (now (finals .entry)) (rootOf (now (roots .entry)) (number (sizesOf m) (startsOf m))) ⌝ }
 {
     let c = first_control(m);
-    let root = place_of(roots, c);
-    if root == 127 {
-        return false;
-    }
-    finals[root as usize] == 1
+    is_final(finals, root_of(roots, c))
 }

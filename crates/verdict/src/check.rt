@@ -11,6 +11,7 @@ use session::reading::read;
 use session::tables::Machines;
 use session::tables::Queues;
 use session::tables::Tables;
+use walk::pairs::CODES;
 ghost use mathlib.Core.Path.{_≡_};
 ghost use mathlib.Core.List.{List};
 ghost use Prim.Native.Nat.{ℕ, _≤_};
@@ -21,7 +22,7 @@ ghost use Rattle.verdict.specs.Judging.{AllAsked, AllParts};
 ghost use Rattle.verdict.specs.Check.{saidVerdict, concluded, Concludes, Room};
 
 // Entries that a scratch table needs, and bytes that a contents buffer needs.
-pub const TABLE_LEAST: usize = 32512;
+pub const TABLE_LEAST: usize = CODES;
 
 pub const CONTENTS_LEAST: usize = 32768;
 

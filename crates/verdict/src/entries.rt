@@ -1,18 +1,22 @@
 // The bad entries, in their order.
 use crate::item::judge_entry;
 use crate::judged::Progress;
+use numbers::number::wide;
 use session::kinds::ControlState;
 use session::kinds::DiagramState;
+use session::tables::ENTRY;
 use session::tables::Queues;
 use walk::judge::Judged;
 ghost use Prim.Native.Nat.{_+_, _*_, _<_, _≤_};
 ghost use lib.ListN.{length};
 ghost use mathlib.Core.List.{[], _∷_};
+ghost use Rattle.session.specs.Limits.{mostControls};
 ghost use Rattle.model.specs.Verdict.{entry, entriesFrom};
 ghost use Rattle.model.specs.Judge.{decide};
 ghost use Rattle.meaning.specs.Tables.{sessionOf, entriesFrom as entriesIn};
 ghost use Rattle.walk.specs.Pairs.{mostPairs};
-ghost use Rattle.verdict.specs.Judging.{Scratch, EntryParts, EntriesAsked, AllBad, Judges};
+ghost use Rattle.walk.specs.Shown.{mostShown};
+ghost use Rattle.verdict.specs.Judging.{mostAtControl, Scratch, EntryParts, EntriesAsked, AllBad, Judges};
 ghost use Rattle.verdict.specs.Laws.Entries.{entryAt};
 
 // One bad entry, after items with so many pairs.
@@ -33,11 +37,11 @@ fn judge_one(
     requires { ⌜ EntriesAsked q (now rows) (now arcs) (now finals) (now roots) (now entries) count ⌝ }
     requires { ⌜ (b < count) × (pairs ≤ 1100000000) ⌝ }
     requires { ⌜ Scratch (now seen) (now queue) ⌝ }
-    requires { ⌜ 32768 ≤ length (now contents) ⌝ }
+    requires { ⌜ mostShown ≤ length (now contents) ⌝ }
     ensures { λ r. ⌜ Judges (λ T. EntryParts T q (now (rows .entry)) (now (arcs .entry)) (now (finals .entry)) (now (roots .entry)) × AllBad (now (entries .entry)) count T) (pairs + mostPairs) (λ T. decide (sessionOf T) (entry b (entryAt (now (entries .entry)) b) ∷ []) pairs) (now (contents .entry)) r (now (contents .exit)) (now (seen .exit)) (now (queue .exit)) ⌝ }
 {
-    let control = ControlState(entries[b * 2]);
-    let root = DiagramState(entries[b * 2 + 1]);
+    let control = ControlState::new(wide(entries[b * ENTRY]));
+    let root = DiagramState::new(wide(entries[b * ENTRY + 1]));
     match judge_entry(
         q,
         rows,
@@ -69,9 +73,9 @@ pub fn judge_entries(
     contents: &mut [u8],
 ) -> Progress
     requires { ⌜ EntriesAsked q (now rows) (now arcs) (now finals) (now roots) (now entries) count ⌝ }
-    requires { ⌜ pairs ≤ 4161536 * 256 ⌝ }
+    requires { ⌜ pairs ≤ mostAtControl * mostControls ⌝ }
     requires { ⌜ Scratch (now seen) (now queue) ⌝ }
-    requires { ⌜ 32768 ≤ length (now contents) ⌝ }
+    requires { ⌜ mostShown ≤ length (now contents) ⌝ }
     ensures { λ r. ⌜ Judges (λ T. EntryParts T q (now (rows .entry)) (now (arcs .entry)) (now (finals .entry)) (now (roots .entry)) × AllBad (now (entries .entry)) count T) 1100000000 (λ T. decide (sessionOf T) (entriesFrom 0 (entriesIn (now (entries .entry)) count 0)) pairs) (now (contents .entry)) r (now (contents .exit)) (now (seen .exit)) (now (queue .exit)) ⌝ }
 {
     let mut sum = pairs;

@@ -1,16 +1,16 @@
 // One item, judged by itself.
 use crate::start::cut_of;
-use crate::start::place_of;
 use controls::moves::moved;
 use session::kinds::ControlState;
 use session::kinds::DiagramState;
+use session::kinds::Reached;
+use session::lookup::root_of;
 use session::tables::Machines;
 use session::tables::Queues;
 use session::tables::WORD;
 use walk::judge::Judged;
 use walk::judge::judge;
 use walk::pairs::AFTER;
-use walk::pairs::NOWHERE;
 use walk::pairs::Node;
 use walk::pairs::Walk;
 ghost use Prim.Native.Nat.{_≤_};
@@ -19,6 +19,7 @@ ghost use Rattle.model.specs.Verdict.{step, entry};
 ghost use Rattle.model.specs.Searched.{judgeBySearch};
 ghost use Rattle.meaning.specs.Tables.{sessionOf, transitionAt};
 ghost use Rattle.walk.specs.Pairs.{mostPairs};
+ghost use Rattle.walk.specs.Shown.{mostShown};
 ghost use Rattle.verdict.specs.Judging.{Scratch, StepAsked, Parts, EntryAsked, EntryParts, Judging};
 
 // The step of a transition from a control state.
@@ -37,15 +38,15 @@ pub fn judge_step(
 ) -> Judged
     requires { ⌜ StepAsked m q (now rows) (now arcs) (now finals) (now roots) (c .0) row ⌝ }
     requires { ⌜ Scratch (now seen) (now queue) ⌝ }
-    requires { ⌜ 32768 ≤ length (now contents) ⌝ }
+    requires { ⌜ mostShown ≤ length (now contents) ⌝ }
     ensures { λ r. ⌜ Judging (λ T. Parts T m q (now (rows .entry)) (now (arcs .entry)) (now (finals .entry)) (now (roots .entry)) 0) (λ T. judgeBySearch (sessionOf T) mostPairs (step (c .0) 0 (transitionAt (now (rows .entry)) row))) (now (contents .entry)) r (now (contents .exit)) (now (seen .exit)) (now (queue .exit)) ⌝ }
 {
-    let source = place_of(roots, c);
-    if source == NOWHERE {
+    let source = root_of(roots, c);
+    if source.is_nowhere() {
         return Judged::Passes(0);
     }
     let to = moved(m, rows, row, c);
-    let target = place_of(roots, to);
+    let target = root_of(roots, to);
     let cut = cut_of(q, rows, row);
     let w = Walk {
         cut: cut.cut,
@@ -57,7 +58,7 @@ pub fn judge_step(
     };
     let root = Node {
         side: cut.side,
-        source,
+        source: source.state(),
         target,
     };
     judge(arcs, finals, rows, w, root, seen, queue, contents)
@@ -78,11 +79,11 @@ pub fn judge_entry(
 ) -> Judged
     requires { ⌜ EntryAsked q (now rows) (now arcs) (now finals) (now roots) (control .0) (root .0) ⌝ }
     requires { ⌜ Scratch (now seen) (now queue) ⌝ }
-    requires { ⌜ 32768 ≤ length (now contents) ⌝ }
+    requires { ⌜ mostShown ≤ length (now contents) ⌝ }
     ensures { λ r. ⌜ Judging (λ T. EntryParts T q (now (rows .entry)) (now (arcs .entry)) (now (finals .entry)) (now (roots .entry))) (λ T. judgeBySearch (sessionOf T) mostPairs (entry 0 (control .0, root .0))) (now (contents .entry)) r (now (contents .exit)) (now (seen .exit)) (now (queue .exit)) ⌝ }
 {
-    let source = place_of(roots, control);
-    if source == NOWHERE {
+    let source = root_of(roots, control);
+    if source.is_nowhere() {
         return Judged::Passes(0);
     }
     let w = Walk {
@@ -93,10 +94,11 @@ pub fn judge_entry(
         into: 0,
         entry: true,
     };
+    let from = source.state();
     let pair = Node {
         side: AFTER,
-        source,
-        target: root.0,
+        source: from,
+        target: Reached::at(root),
     };
     judge(arcs, finals, rows, w, pair, seen, queue, contents)
 }

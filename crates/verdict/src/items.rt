@@ -10,6 +10,7 @@ ghost use lib.ListN.{length};
 ghost use Rattle.model.specs.Verdict.{stepsFrom, entriesFrom};
 ghost use Rattle.model.specs.Judge.{decide};
 ghost use Rattle.meaning.specs.Tables.{sessionOf, entriesFrom as entriesIn};
+ghost use Rattle.walk.specs.Shown.{mostShown};
 ghost use Rattle.verdict.specs.Judging.{Scratch, Judges, AllAsked, AllParts};
 
 pub fn judge_items(
@@ -28,7 +29,7 @@ pub fn judge_items(
 ) -> Progress
     requires { ⌜ AllAsked m q (now rows) (now arcs) (now finals) (now roots) (now entries) count many ⌝ }
     requires { ⌜ Scratch (now seen) (now queue) ⌝ }
-    requires { ⌜ 32768 ≤ length (now contents) ⌝ }
+    requires { ⌜ mostShown ≤ length (now contents) ⌝ }
     ensures { λ r. ⌜ Judges (λ T. AllParts T m q (now (rows .entry)) (now (arcs .entry)) (now (finals .entry)) (now (roots .entry)) (now (entries .entry)) count many) 1100000000 (λ T. decide (sessionOf T) (stepsFrom (sessionOf T .model) 0 (m .product) ++ entriesFrom 0 (entriesIn (now (entries .entry)) many 0)) 0) (now (contents .entry)) r (now (contents .exit)) (now (seen .exit)) (now (queue .exit)) ⌝ }
 {
     let turn = judge_steps(

@@ -1,9 +1,9 @@
-// Checking: the items of a session in order, each judged by a walk, and the reply.
-pub mod begin;
+// Checking: the items of a session in order, each judged by a walk, and the reply. Other crates call `check`.
+mod begin;
 pub mod check;
-pub mod entries;
-pub mod item;
-pub mod items;
-pub mod judged;
-pub mod start;
-pub mod steps;
+mod entries;
+mod item;
+mod items;
+mod judged;
+mod start;
+mod steps;

@@ -1,19 +1,16 @@
-// Where the walk of an item starts: how its action parts the contents, and where source and target stand.
-use numbers::number::entry;
+// How the action of a transition parts the contents.
 use numbers::number::wide;
-use session::kinds::ControlState;
 use session::queues::messages_of;
 use session::tables::KIND;
 use session::tables::LENGTH;
 use session::tables::QUEUE;
 use session::tables::Queues;
 use walk::pairs::AFTER;
-use walk::pairs::NOWHERE;
 ghost use Prim.Native.Nat.{_+_, _<_, _≤_};
-ghost use lib.ListN.{length, getD};
+ghost use lib.ListN.{length};
 ghost use Rattle.session.specs.Rows.{rowLength, queueAt};
 ghost use Rattle.session.specs.Laws.Queues.{QueuesValid};
-ghost use Rattle.verdict.specs.Start.{Cuts, PlaceAt};
+ghost use Rattle.verdict.specs.Start.{Cuts};
 
 // How an action parts the contents: the side it starts on, the first message that is read after it, and how many messages of
 // its word are taken out and put in.
@@ -57,16 +54,4 @@ pub fn cut_of(q: Queues, rows: &[u8], row: usize) -> Cut
         out: length,
         into: 0,
     }
-}
-
-// The root of a control state as a place: nowhere where it has none.
-pub fn place_of(roots: &[u8], c: ControlState) -> u8
-    requires { ⌜ getD (now roots) (c .0) 0 ≤ 127 ⌝ }
-    ensures { λ r. ⌜ PlaceAt (now (roots .entry)) (c .0) r ⌝ }
-{
-    let root = entry(roots, wide(c.0));
-    if root == 0 {
-        return NOWHERE;
-    }
-    root - 1
 }

@@ -10,11 +10,13 @@ use walk::judge::Judged;
 ghost use Prim.Native.Nat.{_+_, _*_, _≤_};
 ghost use lib.ListN.{length};
 ghost use mathlib.Core.List.{[], _∷_};
+ghost use Rattle.session.specs.Limits.{mostControls};
 ghost use Rattle.model.specs.Verdict.{stepsAt, stepsFrom};
 ghost use Rattle.model.specs.Judge.{decide};
 ghost use Rattle.meaning.specs.Tables.{sessionOf, transitionAt, transitionsFrom};
 ghost use Rattle.walk.specs.Pairs.{mostPairs};
-ghost use Rattle.verdict.specs.Judging.{Scratch, Parts, Judges, StepsAsked};
+ghost use Rattle.walk.specs.Shown.{mostShown};
+ghost use Rattle.verdict.specs.Judging.{mostAtControl, Scratch, Parts, Judges, StepsAsked};
 ghost use Rattle.verdict.specs.Laws.Sequence.{AllIn};
 ghost use Rattle.session.specs.Rows.{rowLength};
 
@@ -36,7 +38,7 @@ fn judge_turn(
     requires { ⌜ StepsAsked m q (now rows) (now arcs) (now finals) (now roots) (c .0) (i + 1) ⌝ }
     requires { ⌜ pairs ≤ 1100000000 ⌝ }
     requires { ⌜ Scratch (now seen) (now queue) ⌝ }
-    requires { ⌜ 32768 ≤ length (now contents) ⌝ }
+    requires { ⌜ mostShown ≤ length (now contents) ⌝ }
     ensures { λ r. ⌜ Judges (λ T. Parts T m q (now (rows .entry)) (now (arcs .entry)) (now (finals .entry)) (now (roots .entry)) (i + 1)) (pairs + mostPairs) (λ T. decide (sessionOf T) (stepsAt (sessionOf T .model) (c .0) i (transitionAt (now (rows .entry)) (i * rowLength) ∷ [])) pairs) (now (contents .entry)) r (now (contents .exit)) (now (seen .exit)) (now (queue .exit)) ⌝ }
 {
     let row = i * ROW;
@@ -77,10 +79,10 @@ fn judge_control(
     contents: &mut [u8],
 ) -> Progress
     requires { ⌜ StepsAsked m q (now rows) (now arcs) (now finals) (now roots) (c .0) count ⌝ }
-    requires { ⌜ pairs ≤ 4161536 * c .0 ⌝ }
+    requires { ⌜ pairs ≤ mostAtControl * c .0 ⌝ }
     requires { ⌜ Scratch (now seen) (now queue) ⌝ }
-    requires { ⌜ 32768 ≤ length (now contents) ⌝ }
-    ensures { λ r. ⌜ Judges (λ T. Parts T m q (now (rows .entry)) (now (arcs .entry)) (now (finals .entry)) (now (roots .entry)) count) (4161536 * (c .0 + 1)) (λ T. decide (sessionOf T) (stepsAt (sessionOf T .model) (c .0) 0 (transitionsFrom (now (rows .entry)) count 0)) pairs) (now (contents .entry)) r (now (contents .exit)) (now (seen .exit)) (now (queue .exit)) ⌝ }
+    requires { ⌜ mostShown ≤ length (now contents) ⌝ }
+    ensures { λ r. ⌜ Judges (λ T. Parts T m q (now (rows .entry)) (now (arcs .entry)) (now (finals .entry)) (now (roots .entry)) count) (mostAtControl * (c .0 + 1)) (λ T. decide (sessionOf T) (stepsAt (sessionOf T .model) (c .0) 0 (transitionsFrom (now (rows .entry)) count 0)) pairs) (now (contents .entry)) r (now (contents .exit)) (now (seen .exit)) (now (queue .exit)) ⌝ }
 {
     let mut sum = pairs;
     let mut i: usize = 0;
@@ -123,8 +125,8 @@ pub fn judge_steps(
 ) -> Progress
     requires { ⌜ StepsAsked m q (now rows) (now arcs) (now finals) (now roots) 0 count ⌝ }
     requires { ⌜ Scratch (now seen) (now queue) ⌝ }
-    requires { ⌜ 32768 ≤ length (now contents) ⌝ }
-    ensures { λ r. ⌜ Judges (λ T. Parts T m q (now (rows .entry)) (now (arcs .entry)) (now (finals .entry)) (now (roots .entry)) count × AllIn (now (rows .entry)) count T) (4161536 * 256) (λ T. decide (sessionOf T) (stepsFrom (sessionOf T .model) 0 (m .product)) 0) (now (contents .entry)) r (now (contents .exit)) (now (seen .exit)) (now (queue .exit)) ⌝ }
+    requires { ⌜ mostShown ≤ length (now contents) ⌝ }
+    ensures { λ r. ⌜ Judges (λ T. Parts T m q (now (rows .entry)) (now (arcs .entry)) (now (finals .entry)) (now (roots .entry)) count × AllIn (now (rows .entry)) count T) (mostAtControl * mostControls) (λ T. decide (sessionOf T) (stepsFrom (sessionOf T .model) 0 (m .product)) 0) (now (contents .entry)) r (now (contents .exit)) (now (seen .exit)) (now (queue .exit)) ⌝ }
 {
     let product = m.product;
     let mut sum: usize = 0;

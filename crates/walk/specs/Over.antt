@@ -6,7 +6,9 @@ use mathlib.Core.List.{List}
 use Prim.Native.Nat.{ℕ, suc, _+_, _≤_, _<_}
 use lib.Dec.{ltb, eqb}
 use lib.ListN.{length, getD, take, drop}
-use Rattle.meaning.specs.Tables.{arcOf, finalAt}
+use Rattle.meaning.specs.Tables.{arcOf}
+use Rattle.session.specs.Lookup.{finalAt, ArcsSmall}
+use Rattle.session.specs.Limits.{mostPool, mostMessages}
 use Rattle.explore.specs.Search.{Outcome, searchFrom}
 use Rattle.model.specs.Model.{messages}
 use Rattle.model.specs.Session.{Session}
@@ -16,11 +18,12 @@ use Rattle.model.specs.Judge as Judge
 use Rattle.model.specs.Judge.{same, pair}
 use Rattle.walk.specs.declared.pairs.Walk.{Walk}
 use Rattle.walk.specs.declared.pairs.Node.{Node}
-use Rattle.walk.specs.Pairs.{mostPairs, afterSide, place, sideOf}
+use Rattle.session.specs.Kinds.{reachedOf}
+use Rattle.walk.specs.Pairs.{mostPairs, afterSide, sideOf}
 
 -- the states and arcs alone; which are final is asked when a pair is judged
 abbrev pub poolOver : List ℕ → Pool
-poolOver arcs = record { states = 127; final = λ s. false; arc = arcOf arcs }
+poolOver arcs = record { states = mostPool; final = λ s. false; arc = arcOf arcs }
 
 -- so many messages of the word that begins at this entry
 abbrev pub wordOver : List ℕ → ℕ → ℕ → List ℕ
@@ -60,7 +63,6 @@ module _ (arcs rows : List ℕ) (w : Walk) where
         | false ↦ elim (ltb m (w .sum)) [ true ↦ readOver arcs (w .entry) afterSide s t m | false ↦ none ]
       ]
 
--- whether a place is final
 -- a pair that fails: of a step, where the source accepts and the target does not; of a bad entry, where both do
 unfoldable pub wrongOver : List ℕ → Bool → Pair → Bool
 wrongOver finals entry (before s t) = false
@@ -79,33 +81,28 @@ pub record Over (arcs finals : List ℕ) (sum : ℕ) (S : Session) : Type 0 wher
   pub letters : messages (S .model) ≡ sum
 
 -- WHAT IS ASKED OF THE TABLES: every file that was read has it
--- an arc leads to a state below 127, so that 127 can stand for nowhere
-pub record ArcsSmall (arcs : List ℕ) : Type 0 where
-  pub long : length arcs ≡ 4064
-  pub each : (k : ℕ) → getD arcs k 0 ≤ 127
-
 -- so many messages of a word stand at this entry
 pub record WordWithin (rows : List ℕ) (at n : ℕ) : Type 0 where
   pub within : at + n ≤ length rows
-  pub messages : (i : ℕ) → i < n → getD rows (at + i) 0 < 32
+  pub messages : (i : ℕ) → i < n → getD rows (at + i) 0 < mostMessages
 
 pub record Lent (arcs rows : List ℕ) (w : Walk) : Type 0 where
   pub small : ArcsSmall arcs
-  pub sum : w .sum ≤ 32
+  pub sum : w .sum ≤ mostMessages
   pub cut : w .cut ≤ w .sum
   pub out : WordWithin rows (w .word) (w .out)
   pub into : WordWithin rows (w .word) (w .into)
 
 -- WHAT THE PARTS OF THE CODE SAY
--- the number r stands for the place that the place t is at after a message; after so many messages of a word
+-- the number r stands for where t leads by a message, and by so many messages of a word
 pub record Reads (arcs : List ℕ) (t m r : ℕ) : Type 0 where
-  pub is : place r ≡ along (poolOver arcs) (place t) m
-  pub most : r ≤ 127
+  pub is : reachedOf r ≡ along (poolOver arcs) (reachedOf t) m
+  pub most : r ≤ mostPool
 
 pub record Follows (arcs rows : List ℕ) (at n t r : ℕ) : Type 0 where
-  pub is : place r ≡ follow (poolOver arcs) (place t) (wordOver rows at n)
-  pub most : r ≤ 127
+  pub is : reachedOf r ≡ follow (poolOver arcs) (reachedOf t) (wordOver rows at n)
+  pub most : r ≤ mostPool
 
 -- what the messages lead to from a node
 abbrev pub readFrom : List ℕ → Bool → Node → Pair → ℕ → Option Pair
-readFrom arcs entry x y m = readOver arcs entry (x .side) (x .source) (place (x .target)) m
+readFrom arcs entry x y m = readOver arcs entry (x .side) (x .source .0) (reachedOf (x .target .0)) m

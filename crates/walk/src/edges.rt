@@ -9,10 +9,12 @@ use crate::pairs::node_of;
 use session::kinds::Message;
 ghost use mathlib.Core.Path.{_≡_};
 ghost use Prim.Native.Nat.{_-_, _<_, _≤_};
+ghost use Rattle.session.specs.Limits.{mostMessages};
+ghost use Rattle.session.specs.Lookup.{ArcsSmall};
 ghost use Rattle.explore.specs.Search.{leadsTo, lowestFrom};
 ghost use Rattle.model.specs.Judge.{same};
 ghost use Rattle.walk.specs.Pairs.{mostPairs, pairOf, decode, NodeFits};
-ghost use Rattle.walk.specs.Over.{readFrom, ArcsSmall, Lent};
+ghost use Rattle.walk.specs.Over.{readFrom, Lent};
 ghost use Rattle.walk.specs.Leads.{saidNext};
 ghost use Rattle.walk.specs.Shown.{letterOver, Placed, EdgeOf};
 
@@ -36,7 +38,7 @@ fn meets(next: Next, code: usize) -> bool
 fn message_to(arcs: &[u8], entry: bool, x: Node, first: u8, end: u8, code: usize) -> u8
     requires { ⌜ ArcsSmall (now arcs) ⌝ }
     requires { ⌜ NodeFits x ⌝ }
-    requires { ⌜ end ≤ 32 ⌝ }
+    requires { ⌜ end ≤ mostMessages ⌝ }
     ensures { λ r. ⌜ r ≡ lowestFrom (readFrom (now (arcs .entry)) entry x) same (pairOf x) (decode code) (end - first) first ⌝ }
 {
     let mut m = first;

@@ -8,6 +8,7 @@ use crate::search::search;
 ghost use mathlib.Core.Path.{_≡_};
 ghost use Prim.Native.Nat.{_≤_};
 ghost use lib.ListN.{length};
+ghost use Rattle.session.specs.Limits.{mostPool};
 ghost use Rattle.walk.specs.Pairs.{mostPairs, pairOf, NodeFits};
 ghost use Rattle.walk.specs.Marks.{Blank};
 ghost use Rattle.walk.specs.Over.{Lent};
@@ -31,7 +32,7 @@ pub fn judge(
     contents: &mut [u8],
 ) -> Judged
     requires { ⌜ Lent (now arcs) (now rows) w ⌝ }
-    requires { ⌜ length (now finals) ≡ 127 ⌝ }
+    requires { ⌜ length (now finals) ≡ mostPool ⌝ }
     requires { ⌜ NodeFits root ⌝ }
     requires { ⌜ Blank (now seen) (now queue) ⌝ }
     requires { ⌜ length (now seen) ≡ mostPairs ⌝ }

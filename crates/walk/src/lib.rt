@@ -1,8 +1,9 @@
 // The walk over pairs in lent tables: how many different pairs there are, or the first that fails and the contents that lead to it.
-pub mod contents;
-pub mod edges;
+// What other crates call: `judge`, and `pairs`, which says what a walk needs.
+mod contents;
+mod edges;
 pub mod judge;
-pub mod marks;
-pub mod moves;
+mod marks;
+mod moves;
 pub mod pairs;
-pub mod search;
+mod search;

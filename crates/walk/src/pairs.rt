@@ -1,5 +1,7 @@
 // A walk, and its pairs as numbers: the side, the source state, and the target state or nowhere.
 use numbers::number::wide;
+use session::kinds::DiagramState;
+use session::kinds::Reached;
 ghost use Prim.Native.Nat.{_<_};
 ghost use Rattle.walk.specs.Pairs.{mostPairs, NodeOf, NodeFits, Coded};
 
@@ -18,44 +20,41 @@ pub struct Walk {
 
 pub struct Node {
     pub side: usize,
-    pub source: u8,
-    pub target: u8,
+    pub source: DiagramState,
+    pub target: Reached,
 }
 
-// The target that has nowhere to go; no state has this number.
-pub const NOWHERE: u8 = 127;
-
-// A fixed stride keeps every bound linear.
-pub const STRIDE: usize = 128;
+// The targets of a source: every state, and nowhere. A fixed stride keeps every bound linear.
+const STRIDE: usize = DiagramState::LIMIT + 1;
 
 // The first code of the after side.
-pub const AFTER: usize = 16256;
+pub const AFTER: usize = DiagramState::LIMIT * STRIDE;
 
 // The codes of both sides, and so the entries of a table that is lent.
-pub const CODES: usize = 32512;
+pub const CODES: usize = 2 * AFTER;
 
-pub fn code_of(x: Node) -> usize
+pub(crate) fn code_of(x: Node) -> usize
     requires { ⌜ NodeFits x ⌝ }
     ensures { λ r. ⌜ Coded x r ⌝ }
 {
-    x.side + wide(x.source) * STRIDE + wide(x.target)
+    x.side + wide(x.source.0) * STRIDE + wide(x.target.0)
 }
 
-pub fn node_of(code: usize) -> Node
+pub(crate) fn node_of(code: usize) -> Node
     requires { ⌜ code < mostPairs ⌝ }
     ensures { λ r. ⌜ NodeOf code r ⌝ }
 {
     if code < AFTER {
         return Node {
             side: 0,
-            source: (code / STRIDE) as u8,
-            target: (code % STRIDE) as u8,
+            source: DiagramState((code / STRIDE) as u8),
+            target: Reached((code % STRIDE) as u8),
         };
     }
     let rest = code - AFTER;
     Node {
         side: AFTER,
-        source: (rest / STRIDE) as u8,
-        target: (rest % STRIDE) as u8,
+        source: DiagramState((rest / STRIDE) as u8),
+        target: Reached((rest % STRIDE) as u8),
     }
 }

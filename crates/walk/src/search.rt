@@ -4,21 +4,23 @@ use crate::marks::wide;
 use crate::moves::Next;
 use crate::moves::read;
 use crate::moves::step;
-use crate::pairs::NOWHERE;
 use crate::pairs::Node;
 use crate::pairs::Walk;
 use crate::pairs::code_of;
 use crate::pairs::node_of;
 use session::kinds::Message;
+use session::kinds::Reached;
+use session::lookup::is_final;
 ghost use mathlib.Core.Path.{_≡_};
 ghost use Prim.Native.Nat.{suc, _-_, _<_, _≤_};
 ghost use lib.ListN.{length};
 ghost use Rattle.explore.specs.Search.{search as searched};
+ghost use Rattle.session.specs.Limits.{mostPool, mostMessages};
+ghost use Rattle.session.specs.Lookup.{ArcsSmall};
 ghost use Rattle.model.specs.Judge.{same};
-ghost use Rattle.meaning.specs.Tables.{finalAt};
-ghost use Rattle.walk.specs.Pairs.{mostPairs, place, pairOf, NodeFits};
+ghost use Rattle.walk.specs.Pairs.{mostPairs, pairOf, NodeFits};
 ghost use Rattle.walk.specs.Marks.{view, Tables, Pushed, Swept, Blank};
-ghost use Rattle.walk.specs.Over.{goOver, wrongOver, searchOver, readFrom, ArcsSmall, Lent};
+ghost use Rattle.walk.specs.Over.{goOver, wrongOver, searchOver, readFrom, Lent};
 ghost use Rattle.walk.specs.Leads.{saidNext, Small};
 ghost use Rattle.walk.specs.Answers.{Answered};
 
@@ -57,7 +59,7 @@ fn sweep(
     requires { ⌜ ArcsSmall (now arcs) ⌝ }
     requires { ⌜ NodeFits x ⌝ }
     requires { ⌜ first ≤ end ⌝ }
-    requires { ⌜ end ≤ 32 ⌝ }
+    requires { ⌜ end ≤ mostMessages ⌝ }
     requires { ⌜ Tables (now seen) (now queue) found ⌝ }
     requires { ⌜ from < found ⌝ }
     ensures { λ r. ⌜ Swept (now (seen .entry)) (now (queue .entry)) found (readFrom (now (arcs .entry)) entry x) (pairOf x) from (end - first) first (now (seen .exit)) (now (queue .exit)) r ⌝ }
@@ -98,28 +100,17 @@ fn visit(
     sweep(arcs, w.entry, x, w.cut, w.sum, from, seen, queue, tail)
 }
 
-fn is_final(finals: &[u8], s: u8) -> bool
-    requires { ⌜ length (now finals) ≡ 127 ⌝ }
-    requires { ⌜ s ≤ 127 ⌝ }
-    ensures { λ r. ⌜ r ≡ finalAt (now (finals .entry)) (place s) ⌝ }
-{
-    if s == NOWHERE {
-        return false;
-    }
-    finals[s as usize] == 1
-}
-
 // A pair fails on the after side alone: for a step where the source accepts and the target does not, for a bad entry where
 // both accept.
 fn fails(finals: &[u8], entry: bool, x: Node) -> bool
-    requires { ⌜ length (now finals) ≡ 127 ⌝ }
+    requires { ⌜ length (now finals) ≡ mostPool ⌝ }
     requires { ⌜ NodeFits x ⌝ }
     ensures { λ r. ⌜ r ≡ wrongOver (now (finals .entry)) entry (pairOf x) ⌝ }
 {
     if x.side == 0 {
         return false;
     }
-    if !is_final(finals, x.source) {
+    if !is_final(finals, Reached::at(x.source)) {
         return false;
     }
     if entry {
@@ -139,7 +130,7 @@ fn explore(
     found: usize,
 ) -> Outcome
     requires { ⌜ Lent (now arcs) (now rows) w ⌝ }
-    requires { ⌜ length (now finals) ≡ 127 ⌝ }
+    requires { ⌜ length (now finals) ≡ mostPool ⌝ }
     requires { ⌜ Tables (now seen) (now queue) found ⌝ }
     ensures { λ r. ⌜ Answered (now (seen .exit)) (now (queue .exit)) r (searched (suc (w .sum)) (goOver (now (arcs .entry)) (now (rows .entry)) w) same (wrongOver (now (finals .entry)) (w .entry)) mostPairs 0 (view (now (seen .entry)) (now (queue .entry)) found)) ⌝ }
 {
@@ -167,7 +158,7 @@ pub fn search(
     queue: &mut [u16],
 ) -> Outcome
     requires { ⌜ Lent (now arcs) (now rows) w ⌝ }
-    requires { ⌜ length (now finals) ≡ 127 ⌝ }
+    requires { ⌜ length (now finals) ≡ mostPool ⌝ }
     requires { ⌜ NodeFits root ⌝ }
     requires { ⌜ Blank (now seen) (now queue) ⌝ }
     requires { ⌜ length (now seen) ≡ mostPairs ⌝ }

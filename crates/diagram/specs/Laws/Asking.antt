@@ -13,7 +13,8 @@ use Rattle.session.specs.File.{readFile, replyOf, tablesOf}
 use Rattle.session.specs.Laws.Valid.{Valid, valid}
 use Rattle.session.specs.declared.tables.Tables.{Tables}
 use Rattle.model.specs.Model.{controls}
-use Rattle.meaning.specs.Tables.{poolOf, rootOf, sessionOf}
+use Rattle.meaning.specs.Tables.{poolOf, sessionOf}
+use Rattle.session.specs.Lookup.{rootOf}
 use Rattle.diagram.specs.Member.{refusal, judge, ask, memberOf}
 use Rattle.diagram.specs.Laws.Tables.{controls-are}
 

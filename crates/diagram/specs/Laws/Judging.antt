@@ -14,8 +14,8 @@ use Rattle.session.specs.declared.tables.Queues.{Queues}
 use Rattle.session.specs.declared.tables.Pool as Declared
 use Rattle.model.specs.Model.{total, queueOf}
 use Rattle.model.specs.Diagram.{Pool, along}
-use Rattle.meaning.specs.Tables.{poolOf, finalAt}
-use Rattle.diagram.specs.Follow.{alongArc}
+use Rattle.meaning.specs.Tables.{poolOf}
+use Rattle.session.specs.Lookup.{alongArc, finalAt}
 use Rattle.diagram.specs.Member.{Reply, refusal, answer, judge}
 use Rattle.diagram.specs.Laws.Tables.{messages-are, along-is, final-is}
 use Rattle.diagram.specs.Laws.Queues.{drop-all}

@@ -1,10 +1,9 @@
--- The session of a file, asked by its tables: how many control states and messages, where a root stands, where an arc leads, what is final.
-use Prim.Native.Nat.{ℕ, _-_, _<_}
-use mathlib.Core.Path.{_≡_, refl, sym, ap, _∙_}
+-- The session of a file, asked by its tables: how many control states and messages, where an arc leads, what is final.
+use Prim.Native.Nat.{ℕ, _<_}
+use mathlib.Core.Path.{_≡_, refl, sym, _∙_}
 use mathlib.Core.Option.{Option, none, some}
-use mathlib.Core.List.{List}
-use lib.ListN.{getD, take}
-use borrow.Author.Tests.{lt-ltb, eq-eqb, ne-eqb}
+use lib.ListN.{take}
+use borrow.Author.Tests.{lt-ltb}
 use native.Mathlib.Omega.{arith}
 use Rattle.session.specs.Limits.{mostMessages}
 use Rattle.session.specs.Laws.Machines.{MachinesValid}
@@ -14,22 +13,15 @@ use Rattle.session.specs.declared.tables.Queues.{Queues}
 use Rattle.session.specs.declared.tables.Pool.{Pool}
 use Rattle.model.specs.Model.{product, total}
 use Rattle.model.specs.Diagram.{along, isFinal}
-use Rattle.meaning.specs.Tables.{arcOf, poolOf, rootOf, finalAt}
+use Rattle.meaning.specs.Tables.{arcOf, poolOf}
+use Rattle.session.specs.Lookup.{alongArc, finalAt}
 use Rattle.meaning.specs.Laws.Counts.{product-is, total-is}
-use Rattle.diagram.specs.Follow.{alongArc}
 
 pub controls-are : {m : Machines} → MachinesValid m → product (take (m .count) (m .states)) ≡ m .product
 controls-are {m} v = product-is (m .states) (m .count) (omega (arith, v .most, v .statesLong)) ∙ sym (v .product)
 
 pub messages-are : {q : Queues} → QueuesValid q → total (take (q .count) (q .messages)) ≡ q .sum
 messages-are {q} v = total-is (q .messages) (q .count) (omega (arith, v .most, v .long)) ∙ sym (v .sum)
-
-module _ (roots : List ℕ) (c : ℕ) {v : ℕ} (e : v ≡ getD roots c 0) where
-  pub root-missing : v ≡ 0 → none ≡ rootOf roots c
-  root-missing h = rw (eq-eqb (getD roots c 0) 0 (sym e ∙ h), rootOf)
-
-  pub root-there : (v ≡ 0 → ⊥) → some (v - 1) ≡ rootOf roots c
-  root-there h = rw (ne-eqb (getD roots c 0) 0 (λ z. h (e ∙ z)), rootOf) (ap (λ x. some (x - 1)) e)
 
 pub along-is : (P : Pool) (s : Option ℕ) (m : ℕ) → m < mostMessages → along (poolOf P) s m ≡ alongArc (P .arcs) s m
 along-is P none m h = refl

@@ -5,8 +5,6 @@ use mathlib.Core.Bool.{Bool, true, false}
 use mathlib.Core.Option.{Option, none, some}
 use mathlib.Core.List.{List, [], _∷_, map}
 use native.Mathlib.Nat.{zero-add}
-use lib.ListN.{getD}
-use lib.Dec.{eqb}
 use Rattle.session.specs.declared.tables.Tables.{Tables}
 use Rattle.model.specs.Model.{number, begin}
 use Rattle.model.specs.Diagram.{word, accepts}
@@ -14,10 +12,10 @@ use Rattle.model.specs.Session.{inside}
 use Rattle.model.specs.Verdict.{Item, start, outside}
 use Rattle.model.specs.Judge.{decide, judge}
 use Rattle.model.specs.Laws.Deciding.{decide-passes, decide-fails}
-use Rattle.meaning.specs.Tables.{sessionOf, rootOf, finalAt}
+use Rattle.meaning.specs.Tables.{sessionOf}
+use Rattle.session.specs.Kinds.{reachedOf}
+use Rattle.session.specs.Lookup.{rootOf, finalAt, RootAt}
 use Rattle.controls.specs.Controls.{sizesOf, startsOf}
-use Rattle.verdict.specs.Start.{PlaceAt}
-use Rattle.verdict.specs.Laws.Item.{place-state, place-nowhere}
 
 -- empty queues have no messages
 word-empty : (ns : List ℕ) → word (map (λ n. []) ns) ≡ []
@@ -47,10 +45,7 @@ module _ (T : Tables) (is : List Item) where
   unfolding judge
   start-fails e = decide-fails (sessionOf T) start is 0 [] (rw (e, judge))
 
--- a place is final by its mark, and nowhere is not
-module _ (roots finals : List ℕ) (c n r : ℕ) (p : PlaceAt roots c r) (e : c ≡ n) where
-  pub nowhere-final : r ≡ 127 → false ≡ finalAt finals (rootOf roots n)
-  nowhere-final z = sym (ap (finalAt finals) (ap (rootOf roots) (sym e) ∙ sym (p .is) ∙ place-nowhere r z))
-
-  pub state-final : (r ≡ 127 → ⊥) → eqb (getD finals r 0) 1 ≡ finalAt finals (rootOf roots n)
-  state-final z = sym (ap (finalAt finals) (ap (rootOf roots) (sym e) ∙ sym (p .is) ∙ place-state r z))
+-- the final test of the root that was found is that of the control state's root
+pub root-final : (finals roots : List ℕ) {c n t : ℕ} {r : Bool} → r ≡ finalAt finals (reachedOf t) → RootAt roots c t → c ≡ n
+    → r ≡ finalAt finals (rootOf roots n)
+root-final finals roots f p e = f ∙ ap (finalAt finals) (p .is ∙ ap (rootOf roots) e)

@@ -7,6 +7,7 @@ use native.Mathlib.Omega.{arith}
 use native.Mathlib.Numerals.{add-one}
 use lib.ListN.{length, getD, take, drop, set, replicate, length-replicate, take-append-drop, replicate-append-replicate, drop-of-length-le}
 use lib.Seq.{drop-cons, set-at, take-at, length-take-le}
+use Rattle.session.specs.Limits.{mostPool}
 use Rattle.session.specs.Laws.Machines.{MachinesValid}
 use Rattle.session.specs.declared.tables.Machines.{Machines}
 use Rattle.session.specs.declared.tables.Queues.{Queues}
@@ -16,7 +17,8 @@ use Rattle.model.specs.Session.{Session, inside}
 use Rattle.model.specs.Verdict.{Reply, outside, stepsFrom, entriesFrom}
 use Rattle.model.specs.Judge as Model
 use Rattle.model.specs.Judge.{decide}
-use Rattle.meaning.specs.Tables.{sessionOf, rootOf, entriesFrom as entriesIn, finalAt}
+use Rattle.meaning.specs.Tables.{sessionOf, entriesFrom as entriesIn}
+use Rattle.session.specs.Lookup.{rootOf, finalAt}
 use Rattle.meaning.specs.Reply.{FileReply, verdict}
 use Rattle.walk.specs.Pairs.{mostPairs}
 use Rattle.walk.specs.Marks.{Blank}
@@ -71,7 +73,7 @@ room-scratch {n} {seen} {queue} r =
     }
 
 -- a front that is 0 again leaves the table as it was
-pub front-again : (t front : List ℕ) (n : ℕ) → n ≡ 32512 → n ≤ length t → t ≡ replicate (length t) 0 → length front ≡ mostPairs
+pub front-again : (t front : List ℕ) (n : ℕ) → n ≡ mostPairs → n ≤ length t → t ≡ replicate (length t) 0 → length front ≡ mostPairs
     → front ≡ replicate (length front) 0 → front ++ drop n t ≡ t
 front-again t front n k h e l b =
     ap (λ f. f ++ drop n t) (b ∙ ap (λ j. replicate j 0) (l ∙ sym k) ∙ sym (front-zeros t n h e)) ∙ take-append-drop n t
@@ -84,8 +86,8 @@ module _ {m : Machines} {q : Queues} {rows arcs finals roots entries : List ℕ}
   pub all-roots : AllAsked m q rows arcs finals roots entries count many → RootsIn roots finals
   all-roots a =
       record {
-        long = subst (λ l. length l ≡ 127) (a .all .parts .sameFinals) (a .all .parts .valid .pool .finalsLong);
-        small = λ i. subst (λ l. getD l i 0 ≤ 127) (a .all .parts .sameRoots) (omega (arith, a .all .parts .valid .map .roots i, a .all .parts .valid .pool .most));
+        long = subst (λ l. length l ≡ mostPool) (a .all .parts .sameFinals) (a .all .parts .valid .pool .finalsLong);
+        small = λ i. subst (λ l. getD l i 0 ≤ mostPool) (a .all .parts .sameRoots) (omega (arith, a .all .parts .valid .map .roots i, a .all .parts .valid .pool .most));
       }
 
   inside-is : {T : Tables} → AllParts T m q rows arcs finals roots entries count many → (b : Bool)

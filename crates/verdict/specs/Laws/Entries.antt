@@ -42,6 +42,14 @@ pub entry-asked : {q : Queues} {rows arcs finals roots entries : List ℕ} {coun
 entry-asked {entries = entries} {count = count} a b h =
     record { whole = a .whole; number = b; parts = a .parts; item = entry-item entries count b h (a .whole) (a .all) }
 
+-- the same of numbers that are the entry's
+pub entry-of : {q : Queues} {rows arcs finals roots entries : List ℕ} {count : ℕ} → EntriesAsked q rows arcs finals roots entries count
+    → (b : ℕ) → b < count → {control root : ℕ} → control ≡ getD entries (b * 2) 0 → root ≡ getD entries (b * 2 + 1) 0
+    → EntryAsked q rows arcs finals roots control root
+entry-of {q} {rows} {arcs} {finals} {roots} {entries} a b h {control} {root} e f =
+    subst (λ n. EntryAsked q rows arcs finals roots n root) (sym e)
+    (subst (λ n. EntryAsked q rows arcs finals roots (getD entries (b * 2) 0) n) (sym f) (entry-asked a b h))
+
 module _ (q : Queues) (rows arcs finals roots entries : List ℕ) (count b pairs : ℕ) (h : b < count) (contents contents₁ seen₁ queue₁ : List ℕ) where
   abbrev Over : Tables → Type 0
   Over T = EntryParts T q rows arcs finals roots × AllBad entries count T
@@ -49,15 +57,21 @@ module _ (q : Queues) (rows arcs finals roots entries : List ℕ) (count b pairs
   abbrev after : Tables → Reply
   after T = decide (sessionOf T) (entry b (entryAt entries b) ∷ []) pairs
 
-  abbrev Judge : Judged → Type 0
-  Judge r =
-      Judging (λ T. EntryParts T q rows arcs finals roots) (λ T. judgeBySearch (sessionOf T) mostPairs (entry 0 (entryAt entries b))) contents r contents₁ seen₁ queue₁
+  abbrev Judge : ℕ → ℕ → Judged → Type 0
+  Judge control root r =
+      Judging (λ T. EntryParts T q rows arcs finals roots) (λ T. judgeBySearch (sessionOf T) mostPairs (entry 0 (control, root))) contents r contents₁ seen₁ queue₁
 
-  pub entry-more : (r : Judged) (more : ℕ) → r ≡ Passes more → Judge r
+  judged-entry : {control root : ℕ} → control ≡ getD entries (b * 2) 0 → root ≡ getD entries (b * 2 + 1) 0 → {r s : Judged} → r ≡ s
+      → Judge control root r → Judge (getD entries (b * 2) 0) (getD entries (b * 2 + 1) 0) s
+  judged-entry {control} {root} e f {r} {s} z j =
+      subst (λ n. Judge n (getD entries (b * 2 + 1) 0) s) e (subst (λ n. Judge control n s) f (subst (Judge control root) z j))
+
+  pub entry-more : {control root : ℕ} → control ≡ getD entries (b * 2) 0 → root ≡ getD entries (b * 2 + 1) 0
+      → (r : Judged) (more : ℕ) → r ≡ Passes more → Judge control root r
       → Judges Over (pairs + mostPairs) after contents (Passed (pairs + more)) contents₁ seen₁ queue₁
   unfolding judgeBySearch decide
-  entry-more r more z j =
-      let k = subst Judge z j in
+  entry-more e f r more z j =
+      let k = judged-entry e f z j in
       record {
         is = λ T p. sym (decide-passes (sessionOf T) (entry b (entryAt entries b)) [] pairs more (judged-item T (p .0 .valid) (entry b (entryAt entries b)) (entry-item entries count b h T (p .1)) ∙ sym (k .is T (p .0))));
         few = omega (arith, k .few);
@@ -65,11 +79,12 @@ module _ (q : Queues) (rows arcs finals roots entries : List ℕ) (count b pairs
         scratch = k .scratch;
       }
 
-  pub entry-shown : (r : Judged) (shown : ℕ) → r ≡ Fails shown → Judge r
+  pub entry-shown : {control root : ℕ} → control ≡ getD entries (b * 2) 0 → root ≡ getD entries (b * 2 + 1) 0
+      → (r : Judged) (shown : ℕ) → r ≡ Fails shown → Judge control root r
       → Judges Over (pairs + mostPairs) after contents (Meets b shown) contents₁ seen₁ queue₁
   unfolding judgeBySearch decide
-  entry-shown r shown z j =
-      let k = subst Judge z j in
+  entry-shown e f r shown z j =
+      let k = judged-entry e f z j in
       record {
         is = λ T p. sym (decide-fails (sessionOf T) (entry b (entryAt entries b)) [] pairs (take shown contents₁) (judged-item T (p .0 .valid) (entry b (entryAt entries b)) (entry-item entries count b h T (p .1)) ∙ sym (k .is T (p .0))));
         few = omega arith;

@@ -6,8 +6,6 @@ use mathlib.Core.Option.{Option, none, some, Option·map}
 use mathlib.Core.List.{List, [], _∷_, _++_}
 use native.Mathlib.Omega.{arith}
 use lib.ListN.{length, getD, take, drop, length-take}
-use lib.Dec.{eqb}
-use borrow.Author.Tests.{eq-eqb, ne-eqb}
 use Rattle.session.specs.Laws.Valid.{Valid}
 use Rattle.session.specs.declared.tables.Tables.{Tables}
 use Rattle.model.specs.Model.{Action, local, send, receive, messages, moved}
@@ -18,10 +16,16 @@ use Rattle.model.specs.Judge as Judge
 use Rattle.model.specs.Judge.{cut, stepWalk, entryWalk, beginStep, beginEntry, rootPair, passes, walkOf}
 use Rattle.model.specs.Searched.{searched, searchWalk, judgeBySearch}
 use Rattle.model.specs.Laws.Items.{IsItem}
-use Rattle.meaning.specs.Tables.{sessionOf, transitionAt, rootOf}
+use Rattle.meaning.specs.Tables.{sessionOf, transitionAt}
+use Rattle.session.specs.Limits.{mostPool, mostWord}
+use Rattle.session.specs.Kinds.{reachedOf}
+use Rattle.session.specs.Lookup.{rootOf, RootAt}
+use Rattle.session.specs.Laws.Lookup.{reached-nowhere, reached-state, reached-small}
+use Rattle.session.specs.declared.kinds.DiagramState.{DiagramState}
+use Rattle.session.specs.declared.kinds.Reached.{Reached}
 use Rattle.meaning.specs.Laws.Sessions.{well-formed}
 use Rattle.meaning.specs.Laws.Order.{messages-are}
-use Rattle.walk.specs.Pairs.{mostPairs, place, pairOf}
+use Rattle.walk.specs.Pairs.{mostPairs, afterSide, pairOf}
 use Rattle.walk.specs.Over.{Over, walkOver, wordOver}
 use Rattle.walk.specs.Judged.{judgedOver, ShownFits}
 use Rattle.walk.specs.Laws.Judged.{judged-is}
@@ -29,17 +33,10 @@ use Rattle.walk.specs.Laws.Items.{item-fits}
 use Rattle.walk.specs.Laws.Valid.{over-session}
 use Rattle.walk.specs.declared.pairs.Walk.{Walk}
 use Rattle.walk.specs.declared.pairs.Node.{Node}
-use Rattle.verdict.specs.Start.{actionAt, cutOf, Cuts, PlaceAt}
+use Rattle.verdict.specs.Start.{actionAt, cutOf, Cuts}
 use Rattle.controls.specs.Controls.{Moved}
 use Rattle.verdict.specs.declared.start.Cut.{Cut}
 use Rattle.session.specs.Rows.{wordEntry, lengthAt}
-
--- a place that is no nowhere is a state
-pub place-state : (s : ℕ) → (s ≡ 127 → ⊥) → place s ≡ some s
-place-state s h = rw (ne-eqb s 127 h, place)
-
-pub place-nowhere : (s : ℕ) → s ≡ 127 → place s ≡ none
-place-nowhere s h = rw (eq-eqb s 127 h, place)
 
 cut-is : (S : Session) (a : Action) → cutOf (S .model .queues) a ≡ cut S a
 cut-is S local = refl
@@ -61,14 +58,14 @@ module _ (T : Tables) (v : Valid T) where
   sum-is = messages-are (T .queues) (T .pool) (v .queues) (v .pool)
 
   -- without a root nothing is visited
-  pub step-nothing : (c row source t : ℕ) → PlaceAt (T .map .roots) c source → source ≡ 127
+  pub step-nothing : (c row source t : ℕ) → RootAt (T .map .roots) c source → source ≡ mostPool
       → judgeBySearch S mostPairs (step c t (transitionAt rows row)) ≡ passes 0
   unfolding judgeBySearch
   step-nothing c row source t here e =
-      ap (λ o. searchWalk S mostPairs (Option·map (beginStep S c (transitionAt rows row)) o)) (sym (here .is) ∙ place-nowhere source e)
+      ap (λ o. searchWalk S mostPairs (Option·map (beginStep S c (transitionAt rows row)) o)) (sym (here .is) ∙ reached-nowhere e)
 
-  module _ (c row : ℕ) (source target to : ℕ) (k : Cut) (here : PlaceAt (T .map .roots) c source)
-      (goes : Moved (T .machines) rows row c to) (there : PlaceAt (T .map .roots) to target) (cuts : Cuts (T .queues) rows row k) where
+  module _ (c row : ℕ) (source : DiagramState) (target : Reached) (to : ℕ) (k : Cut) (here : RootAt (T .map .roots) c (source .0))
+      (goes : Moved (T .machines) rows row c to) (there : RootAt (T .map .roots) to (target .0)) (cuts : Cuts (T .queues) rows row k) where
     abbrev w : Walk
     w = record { cut = k .cut; sum = T .queues .sum; word = wordEntry row; out = k .out; into = k .into; entry = false }
 
@@ -78,26 +75,26 @@ module _ (T : Tables) (v : Valid T) where
     walk-is : walkOver rows w ≡ stepWalk S (actionAt rows row)
     walk-is = walk-same false (cuts .cut ∙ cut-is S (actionAt rows row)) (cuts .out) (cuts .into)
 
-    pair-is : pairOf x ≡ rootPair (actionAt rows row) source (S .root (moved (S .model) c (transitionAt rows row)))
+    pair-is : pairOf x ≡ rootPair (actionAt rows row) (source .0) (S .root (moved (S .model) c (transitionAt rows row)))
     pair-is =
-        cuts .side source (place target)
-        ∙ ap (rootPair (actionAt rows row) source) (there .is)
-        ∙ ap (λ n. rootPair (actionAt rows row) source (rootOf (T .map .roots) n)) goes
+        cuts .side (source .0) (reachedOf (target .0))
+        ∙ ap (rootPair (actionAt rows row) (source .0)) (there .is)
+        ∙ ap (λ n. rootPair (actionAt rows row) (source .0) (rootOf (T .map .roots) n)) goes
 
     -- the walk that the model begins is the code's
-    begun : (t : ℕ) → (source ≡ 127 → ⊥) → walkOf S (step c t (transitionAt rows row)) ≡ some (record { walk = walkOver rows w; root = pairOf x })
+    begun : (t : ℕ) → (source .0 ≡ mostPool → ⊥) → walkOf S (step c t (transitionAt rows row)) ≡ some (record { walk = walkOver rows w; root = pairOf x })
     begun t e =
-        ap (Option·map (beginStep S c (transitionAt rows row))) (sym (here .is) ∙ place-state source e)
+        ap (Option·map (beginStep S c (transitionAt rows row))) (sym (here .is) ∙ reached-state e)
         ∙ ap₂ (λ W r. some (record { walk = W; root = r })) (sym walk-is) (sym pair-is)
 
-    pub step-judged : (t : ℕ) → (source ≡ 127 → ⊥)
+    pub step-judged : (t : ℕ) → (source .0 ≡ mostPool → ⊥)
         → judgedOver (T .pool .arcs) (T .pool .finals) rows w (pairOf x) ≡ judgeBySearch S mostPairs (step c t (transitionAt rows row))
     unfolding judgeBySearch
     step-judged t e =
         judged-is (T .pool .arcs) (T .pool .finals) rows w S (over-session T sum-is) (pairOf x)
         ∙ ap (searchWalk S mostPairs) (sym (begun t e))
 
-    pub step-fits : (t : ℕ) → (source ≡ 127 → ⊥) → IsItem S (step c t (transitionAt rows row)) → lengthAt rows row ≤ 4
+    pub step-fits : (t : ℕ) → (source .0 ≡ mostPool → ⊥) → IsItem S (step c t (transitionAt rows row)) → lengthAt rows row ≤ mostWord
         → ShownFits (T .pool .arcs) (T .pool .finals) rows w (pairOf x)
     step-fits t e item l =
         item-fits (T .pool .arcs) (T .pool .finals) rows w (pairOf x) S (over-session T sum-is) (well-formed T v) (v .pool .most)
@@ -105,31 +102,34 @@ module _ (T : Tables) (v : Valid T) where
         (omega (arith, ap length (cuts .out), length-take (k .out) (drop (wordEntry row) rows), cuts .small .1))
 
   -- A BAD ENTRY
-  module _ (control root source : ℕ) (here : PlaceAt (T .map .roots) control source) where
+  pub entry-nothing : (control root source b : ℕ) → RootAt (T .map .roots) control source → source ≡ mostPool
+      → judgeBySearch S mostPairs (entry b (control, root)) ≡ passes 0
+  unfolding judgeBySearch
+  entry-nothing control root source b here e =
+      ap (λ o. searchWalk S mostPairs (Option·map (beginEntry S (control, root)) o)) (sym (here .is) ∙ reached-nowhere e)
+
+  module _ (control root : ℕ) (source : DiagramState) (target : Reached) (same : target .0 ≡ root)
+      (here : RootAt (T .map .roots) control (source .0)) where
     abbrev entry-walk : Walk
     entry-walk = record { cut = 0; sum = T .queues .sum; word = 0; out = 0; into = 0; entry = true }
 
     abbrev entry-pair : Node
-    entry-pair = record { side = 16256; source = source; target = root }
+    entry-pair = record { side = afterSide; source = source; target = target }
 
-    pub entry-nothing : (b : ℕ) → source ≡ 127 → judgeBySearch S mostPairs (entry b (control, root)) ≡ passes 0
-    unfolding judgeBySearch
-    entry-nothing b e = ap (λ o. searchWalk S mostPairs (Option·map (beginEntry S (control, root)) o)) (sym (here .is) ∙ place-nowhere source e)
-
-    entry-begun : (b : ℕ) → (source ≡ 127 → ⊥) → root < 127
+    entry-begun : (b : ℕ) → (source .0 ≡ mostPool → ⊥) → root < mostPool
         → walkOf S (entry b (control, root)) ≡ some (record { walk = walkOver rows entry-walk; root = pairOf entry-pair })
     entry-begun b e h =
-        ap (Option·map (beginEntry S (control, root))) (sym (here .is) ∙ place-state source e)
-        ∙ ap (λ t. some (record { walk = entryWalk S; root = Model.after source t })) (sym (place-state root (λ z. omega arith)))
+        ap (Option·map (beginEntry S (control, root))) (sym (here .is) ∙ reached-state e)
+        ∙ ap (λ t. some (record { walk = entryWalk S; root = Model.after (source .0) t })) (sym (ap reachedOf same ∙ reached-small h))
 
-    pub entry-judged : (b : ℕ) → (source ≡ 127 → ⊥) → root < 127
+    pub entry-judged : (b : ℕ) → (source .0 ≡ mostPool → ⊥) → root < mostPool
         → judgedOver (T .pool .arcs) (T .pool .finals) rows entry-walk (pairOf entry-pair) ≡ judgeBySearch S mostPairs (entry b (control, root))
     unfolding judgeBySearch
     entry-judged b e h =
         judged-is (T .pool .arcs) (T .pool .finals) rows entry-walk S (over-session T sum-is) (pairOf entry-pair)
         ∙ ap (searchWalk S mostPairs) (sym (entry-begun b e h))
 
-    pub entry-fits : (b : ℕ) → (source ≡ 127 → ⊥) → root < 127 → IsItem S (entry b (control, root))
+    pub entry-fits : (b : ℕ) → (source .0 ≡ mostPool → ⊥) → root < mostPool → IsItem S (entry b (control, root))
         → ShownFits (T .pool .arcs) (T .pool .finals) rows entry-walk (pairOf entry-pair)
     entry-fits b e h item =
         item-fits (T .pool .arcs) (T .pool .finals) rows entry-walk (pairOf entry-pair) S (over-session T sum-is) (well-formed T v) (v .pool .most)

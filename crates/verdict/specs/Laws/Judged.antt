@@ -7,6 +7,7 @@ use mathlib.Core.List.{List, [], _∷_}
 use native.Mathlib.Omega.{arith}
 use native.Mathlib.Nat.{zero-add}
 use lib.ListN.{length, getElem?, take, drop}
+use Rattle.session.specs.Limits.{mostTransitions}
 use Rattle.session.specs.Laws.Machines.{MachinesValid}
 use Rattle.session.specs.Laws.Transitions.{RowValid}
 use Rattle.session.specs.declared.kinds.ControlState.{ControlState}
@@ -78,7 +79,7 @@ module _ {m : Machines} {q : Queues} {rows arcs finals roots : List ℕ} {c coun
   pub rows-long : length rows ≡ rowsLength
   rows-long = subst (λ l. length l ≡ rowsLength) (a .parts .sameRows) (a .parts .valid .transitions .long)
 
-  pub count-most : count ≤ 128
+  pub count-most : count ≤ mostTransitions
   count-most = omega (arith, a .parts .enough, a .parts .valid .transitions .most)
 
   pub row-asked : (t : ℕ) → t < count → RowValid m q rows (t * rowLength)

@@ -6,6 +6,8 @@ use mathlib.Core.List.{List, _++_}
 use native.Mathlib.Omega.{arith}
 use lib.ListN.{length, take, drop, replicate, length-replicate, take-append-drop}
 use lib.Seq.{length-take-le}
+use Rattle.walk.specs.Pairs.{mostPairs}
+use Rattle.walk.specs.Shown.{mostShown}
 use Rattle.numbers.specs.Part as Part
 use Rattle.numbers.specs.Said.{numberOf, placeOf}
 use Rattle.session.specs.Said.{saidAnswer}
@@ -61,7 +63,7 @@ module _ (file seen queue contents : List ℕ) where
   too-little h e = promised file seen queue contents (checks-refused file seen queue contents 2 0 (lent-little file seen queue contents h e) refl)
 
   module _ (reading : Reading) (read : Reads (readFile file) reading)
-      (room : 32512 ≤ length seen) (space : 32512 ≤ length queue) (buffer : 32768 ≤ length contents) where
+      (room : mostPairs ≤ length seen) (space : mostPairs ≤ length queue) (buffer : mostShown ≤ length contents) where
     given : readLent file seen queue contents ≡ readFile file
     given = lent-enough file seen queue contents (long-enough file seen queue contents room space buffer)
 
@@ -91,7 +93,7 @@ module _ (file seen queue contents : List ℕ) where
         is = k .is (reading .tables) refl
 
 -- tables that were set to 0 are room enough
-pub blank-room : (seen queue : List ℕ) {contents seen′ queue′ : List ℕ} {n : ℕ} → n ≡ 32512 → 32512 ≤ length seen → 32512 ≤ length queue → 32768 ≤ length contents
+pub blank-room : (seen queue : List ℕ) {contents seen′ queue′ : List ℕ} {n : ℕ} → n ≡ mostPairs → mostPairs ≤ length seen → mostPairs ≤ length queue → mostShown ≤ length contents
     → seen′ ≡ replicate (length seen) 0 → queue′ ≡ replicate (length queue) 0 → Room n seen′ queue′ contents
 blank-room seen queue front s q c es eq =
     record {

@@ -1,24 +1,20 @@
--- The start of an item's walk: how each kind of action parts the contents, and where a root stands.
+-- How each kind of action parts the contents.
 use Prim.Native.Nat.{ℕ, zero, suc, _+_, _-_, _≤_, _<_}
 use mathlib.Core.Path.{_≡_, refl, sym, ap, subst, _∙_}
-use mathlib.Core.Bool.{true, false}
-use mathlib.Core.Option.{Option, none, some}
 use mathlib.Core.Logic.{_⊎_, inl, inr}
 use mathlib.Core.List.{List}
 use native.Mathlib.Omega.{arith}
 use lib.ListN.{length, getD, take, drop}
-use lib.Dec.{eqb}
-use borrow.Author.Tests.{eq-eqb, ne-eqb}
 use Rattle.session.specs.Queues as Table
 use Rattle.session.specs.Laws.Queues.{QueuesValid, first-ascends}
 use Rattle.session.specs.declared.tables.Queues.{Queues}
 use Rattle.model.specs.Model.{Action, local, send, receive, firstOf}
 use Rattle.model.specs.Judge.{out, into, rootPair}
-use Rattle.meaning.specs.Tables.{actionOf, rootOf}
+use Rattle.meaning.specs.Tables.{actionOf}
 use Rattle.meaning.specs.Laws.Counts.{first-is}
-use Rattle.walk.specs.Pairs.{place, sideOf}
+use Rattle.walk.specs.Pairs.{afterSide, sideOf}
 use Rattle.walk.specs.Over.{wordOver}
-use Rattle.verdict.specs.Start.{actionAt, cutOf, Cuts, PlaceAt}
+use Rattle.verdict.specs.Start.{actionAt, cutOf, Cuts}
 use Rattle.verdict.specs.declared.start.Cut.{Cut}
 use Rattle.session.specs.Rows.{wordEntry, kindAt, queueAt, lengthAt, wordAt}
 
@@ -33,7 +29,7 @@ module _ (q : Queues) (rows : List ℕ) (row : ℕ) where
   of k = actionOf k queue (wordAt rows row)
 
   -- a local step reads all after it
-  pub cuts-local : kindAt rows row ≡ 0 → Cuts q rows row (record { side = 16256; cut = 0; out = 0; into = 0 })
+  pub cuts-local : kindAt rows row ≡ 0 → Cuts q rows row (record { side = afterSide; cut = 0; out = 0; into = 0 })
   cuts-local e =
       record {
         cut = sym (ap (λ k. cutOf ns (of k)) e);
@@ -83,15 +79,3 @@ module _ (q : Queues) (rows : List ℕ) (row : ℕ) where
       where
         e : kindAt rows row ≡ suc (suc (kindAt rows row - 2))
         e = omega arith
-
--- a root, or 127 where there is none
-module _ (roots : List ℕ) (c root : ℕ) (e : root ≡ getD roots c 0) where
-  pub place-none : root ≡ 0 → PlaceAt roots c 127
-  place-none z = record { is = sym (rw (sym e ∙ z, rootOf)); most = omega arith }
-
-  pub place-some : (root ≡ 0 → ⊥) → root ≤ 127 → PlaceAt roots c (root - 1)
-  place-some z m =
-      record {
-        is = rw (ne-eqb (root - 1) 127 (λ w. omega arith), place) (sym (rw (ne-eqb (getD roots c 0) 0 (λ w. z (e ∙ w)), rootOf) (ap (λ n. some (n - 1)) (sym e))));
-        most = omega arith;
-      }

@@ -5,6 +5,7 @@ use mathlib.Core.Bool.{Bool, true, false}
 use mathlib.Core.List.{List, [], _∷_, _++_}
 use native.Mathlib.Omega.{arith}
 use native.Mathlib.Nat.{mul-le-mul}
+use Rattle.session.specs.Limits.{mostPool}
 use Rattle.session.specs.Laws.Valid.{Valid}
 use Rattle.session.specs.declared.tables.Tables.{Tables}
 use Rattle.model.specs.Model.{Model, Transition, isAt, controls}
@@ -34,8 +35,8 @@ module _ (T : Tables) (v : Valid T) where
 
   pub few-pairs : mostPairs (S .pool .states) ≤ Walk.mostPairs
   few-pairs =
-      let n : T .pool .count ≤ 127 = v .pool .most in
-      let p : T .pool .count * (T .pool .count + 1) ≤ 127 * 128 = mul-le-mul {n₁ = T .pool .count} {m₁ = T .pool .count + 1} {n₂ = 127} {m₂ = 128} n (omega arith) in
+      let n : T .pool .count ≤ mostPool = v .pool .most in
+      let p : T .pool .count * (T .pool .count + 1) ≤ mostPool * Walk.stride = mul-le-mul {n₁ = T .pool .count} {m₁ = T .pool .count + 1} {n₂ = mostPool} {m₂ = Walk.stride} n (omega arith) in
       omega arith
 
   -- the judgement of the code is the judgement of the item

@@ -26,14 +26,18 @@ use Rattle.meaning.specs.Tables.{sessionOf, transitionAt}
 use Rattle.meaning.specs.Laws.Sessions.{well-formed}
 use Rattle.walk.specs.Pairs.{mostPairs, pairOf, NodeFits, afterSide}
 use Rattle.walk.specs.Marks.{Blank}
-use Rattle.walk.specs.Over.{Lent, ArcsSmall, WordWithin}
+use Rattle.walk.specs.Over.{Lent, WordWithin}
 use Rattle.walk.specs.Judged.{judgedOver, ShownFits, Judges, shownOf, saidJudged, shownBy}
-use Rattle.walk.specs.Laws.Valid.{arcs-small}
+use Rattle.session.specs.Limits.{mostPool, mostWord}
+use Rattle.session.specs.Lookup.{RootAt}
+use Rattle.session.specs.Laws.Lookup.{arcs-small, state-below}
+use Rattle.session.specs.declared.kinds.DiagramState.{DiagramState}
+use Rattle.session.specs.declared.kinds.Reached.{Reached}
 use Rattle.walk.specs.declared.pairs.Walk.{Walk}
 use Rattle.walk.specs.declared.pairs.Node.{Node}
 use Rattle.walk.specs.declared.judge.Judged.{Judged}
 use Rattle.walk.specs.declared.judge.Judged.the-variants.{Passes, Fails}
-use Rattle.verdict.specs.Start.{Cuts, PlaceAt}
+use Rattle.verdict.specs.Start.{Cuts}
 use Rattle.controls.specs.Controls.{Moved}
 use Rattle.verdict.specs.Judging.{pairsOf, Kept, Scratch, Judging, Parts, EntryParts, StepAsked, EntryAsked}
 use Rattle.verdict.specs.Laws.Turns.{judged-item, few-pairs}
@@ -63,7 +67,7 @@ few-passed T v i item r contents e m = go r e
 
 entry-few : (T : Tables) → Valid T → T .pool .count * T .pool .count ≤ mostPairs
 entry-few T v =
-    let p : T .pool .count * T .pool .count ≤ 127 * 127 = mul-le-mul (v .pool .most) (v .pool .most) in
+    let p : T .pool .count * T .pool .count ≤ mostPool * mostPool = mul-le-mul (v .pool .most) (v .pool .most) in
     omega arith
 
 -- what holds of all parts of tables holds of what is lent of them
@@ -97,38 +101,54 @@ module _ {m : Machines} {q : Queues} {rows arcs finals roots : List ℕ} {c row 
       (subst (λ n. RowValid (a .whole .machines) (a .whole .queues) (a .whole .transitions .rows) n) (sym (a .place))
       (a .parts .valid .transitions .row (a .number) (omega (arith, a .parts .enough))))
 
-  pub asked-roots : (i : ℕ) → getD roots i 0 ≤ 127
+  pub asked-roots : (i : ℕ) → getD roots i 0 ≤ mostPool
   asked-roots i =
-      subst (λ l. getD l i 0 ≤ 127) (a .parts .sameRoots) (omega (arith, a .parts .valid .map .roots i, a .parts .valid .pool .most))
+      subst (λ l. getD l i 0 ≤ mostPool) (a .parts .sameRoots) (omega (arith, a .parts .valid .map .roots i, a .parts .valid .pool .most))
 
 -- THE STEP: its walk and its first pair, as the code makes them
 abbrev pub walkOf : Queues → ℕ → Cut → Walk
 walkOf q row k = record { cut = k .cut; sum = q .sum; word = wordEntry row; out = k .out; into = k .into; entry = false }
 
-abbrev pub nodeOf : Cut → ℕ → ℕ → Node
+abbrev pub nodeOf : Cut → DiagramState → Reached → Node
 nodeOf k source target = record { side = k .side; source = source; target = target }
 
 -- where source and target stand, and how the action parts the contents
-pub record Begins (m : Machines) (q : Queues) (rows roots : List ℕ) (c row source target : ℕ) (k : Cut) : Type 0 where
+pub record Begins (m : Machines) (q : Queues) (rows roots : List ℕ) (c row : ℕ) (source : DiagramState) (target : Reached) (k : Cut) : Type 0 where
   pub to : ℕ
-  pub here : PlaceAt roots c source
+  pub here : RootAt roots c (source .0)
+  pub somewhere : source .0 ≡ mostPool → ⊥
   pub goes : Moved m rows row c to
-  pub there : PlaceAt roots to target
+  pub there : RootAt roots to (target .0)
   pub cuts : Cuts q rows row k
 
-pub begins : {m : Machines} {q : Queues} {rows roots : List ℕ} {c row source target : ℕ} {k : Cut} (to : ℕ)
-    → PlaceAt roots c source → Moved m rows row c to → PlaceAt roots to target → Cuts q rows row k
-    → Begins m q rows roots c row source target k
-begins to here goes there cuts = record { to = to; here = here; goes = goes; there = there; cuts = cuts }
+-- a state that is the root, and so is not nowhere
+pub state-somewhere : {s r : ℕ} → s ≡ r → (r ≡ mostPool → ⊥) → s ≡ mostPool → ⊥
+state-somewhere same e z = e (sym same ∙ z)
 
-module _ {m : Machines} {q : Queues} {rows arcs finals roots : List ℕ} {c source : ℕ} (row : ℕ) where
-  pub nothing-is : {T : Tables} {count : ℕ} → Parts T m q rows arcs finals roots count → PlaceAt roots c source → source ≡ 127 → (t : ℕ)
+pub root-as : {roots : List ℕ} {c r s : ℕ} → RootAt roots c r → s ≡ r → RootAt roots c s
+root-as {roots} {c} here e = subst (RootAt roots c) (sym e) here
+
+pub begins : {m : Machines} {q : Queues} {rows roots : List ℕ} {c row r : ℕ} {source : DiagramState} {target : Reached} {k : Cut} (to : ℕ)
+    → RootAt roots c r → (r ≡ mostPool → ⊥) → source .0 ≡ r → Moved m rows row c to → RootAt roots to (target .0) → Cuts q rows row k
+    → Begins m q rows roots c row source target k
+begins to here e same goes there cuts =
+    record {
+      to = to;
+      here = root-as here same;
+      somewhere = state-somewhere same e;
+      goes = goes;
+      there = there;
+      cuts = cuts;
+    }
+
+module _ {m : Machines} {q : Queues} {rows arcs finals roots : List ℕ} {c : ℕ} (row : ℕ) where
+  pub nothing-is : {T : Tables} {count source : ℕ} → Parts T m q rows arcs finals roots count → RootAt roots c source → source ≡ mostPool → (t : ℕ)
       → judgeBySearch (sessionOf T) mostPairs (step c t (transitionAt rows row)) ≡ passes 0
-  nothing-is {T} p here e t =
-      over-parts (λ m q rows arcs finals roots. PlaceAt roots c source → judgeBySearch (sessionOf T) mostPairs (step c t (transitionAt rows row)) ≡ passes 0)
+  nothing-is {T} {source = source} p here e t =
+      over-parts (λ m q rows arcs finals roots. RootAt roots c source → judgeBySearch (sessionOf T) mostPairs (step c t (transitionAt rows row)) ≡ passes 0)
       p (λ here. step-nothing T (p .valid) c row source t here e) here
 
-  pub step-none : (a : StepAsked m q rows arcs finals roots c row) → PlaceAt roots c source → source ≡ 127 → {contents seen queue : List ℕ} → Scratch seen queue
+  pub step-none : (a : StepAsked m q rows arcs finals roots c row) {source : ℕ} → RootAt roots c source → source ≡ mostPool → {contents seen queue : List ℕ} → Scratch seen queue
       → Judging (λ T. Parts T m q rows arcs finals roots 0) (λ T. judgeBySearch (sessionOf T) mostPairs (step c 0 (transitionAt rows row)))
       contents (Passes 0) contents seen queue
   step-none a here e s =
@@ -139,8 +159,8 @@ module _ {m : Machines} {q : Queues} {rows arcs finals roots : List ℕ} {c sour
         scratch = s;
       }
 
-  module _ {target : ℕ} {k : Cut} (a : StepAsked m q rows arcs finals roots c row) (b : Begins m q rows roots c row source target k)
-      (e : source ≡ 127 → ⊥) where
+  module _ {source : DiagramState} {target : Reached} {k : Cut} (a : StepAsked m q rows arcs finals roots c row)
+      (b : Begins m q rows roots c row source target k) where
     pub step-is : {T : Tables} {count : ℕ} → Parts T m q rows arcs finals roots count → (t : ℕ)
         → judgedOver arcs finals rows (walkOf q row k) (pairOf (nodeOf k source target))
         ≡ judgeBySearch (sessionOf T) mostPairs (step c t (transitionAt rows row))
@@ -149,21 +169,21 @@ module _ {m : Machines} {q : Queues} {rows arcs finals roots : List ℕ} {c sour
         (λ m q rows arcs finals roots. Begins m q rows roots c row source target k
         → judgedOver arcs finals rows (walkOf q row k) (pairOf (nodeOf k source target))
         ≡ judgeBySearch (sessionOf T) mostPairs (step c t (transitionAt rows row)))
-        p (λ b. step-judged T (p .valid) c row source target (b .to) k (b .here) (b .goes) (b .there) (b .cuts) t e) b
+        p (λ b. step-judged T (p .valid) c row source target (b .to) k (b .here) (b .goes) (b .there) (b .cuts) t (b .somewhere)) b
 
     pub step-shown : ShownFits arcs finals rows (walkOf q row k) (pairOf (nodeOf k source target))
     step-shown =
         over-parts
-        (λ m q rows arcs finals roots. Begins m q rows roots c row source target k → lengthAt rows row ≤ 4
+        (λ m q rows arcs finals roots. Begins m q rows roots c row source target k → lengthAt rows row ≤ mostWord
         → IsItem (sessionOf (a .whole)) (step c (a .number) (transitionAt rows row))
         → ShownFits arcs finals rows (walkOf q row k) (pairOf (nodeOf k source target)))
         (a .parts)
-        (λ b l item. step-fits (a .whole) (a .parts .valid) c row source target (b .to) k (b .here) (b .goes) (b .there) (b .cuts) (a .number) e item l)
+        (λ b l item. step-fits (a .whole) (a .parts .valid) c row source target (b .to) k (b .here) (b .goes) (b .there) (b .cuts) (a .number) (b .somewhere) item l)
         b (asked-row a .action .most) (a .item)
 
     pub node-fits : NodeFits (nodeOf k source target)
     node-fits =
-        record { side = b .cuts .sides; source = omega (arith, b .here .most); target = b .there .most }
+        record { side = b .cuts .sides; source = state-below (b .here .most) (b .somewhere); target = b .there .most }
 
     pub step-lent : Lent arcs rows (walkOf q row k)
     step-lent =
@@ -188,8 +208,8 @@ module _ {m : Machines} {q : Queues} {rows arcs finals roots : List ℕ} {c sour
               messages = λ i h. omega (arith, valid .action .below i (omega arith), a .parts .valid .queues .sumMost);
             }
 
-    pub step-finals : length finals ≡ 127
-    step-finals = over-parts (λ m q rows arcs finals roots. length finals ≡ 127) (a .parts) (a .parts .valid .pool .finalsLong)
+    pub step-finals : length finals ≡ mostPool
+    step-finals = over-parts (λ m q rows arcs finals roots. length finals ≡ mostPool) (a .parts) (a .parts .valid .pool .finalsLong)
 
     -- the walk's answer is the judgement of the step
     pub step-walked : {contents contents′ seen′ queue′ : List ℕ} {r : Judged}
@@ -223,77 +243,79 @@ over-entry {T} {q} {rows} {arcs} {finals} {roots} F p f =
 abbrev pub entryWalkOf : Queues → Walk
 entryWalkOf q = record { cut = 0; sum = q .sum; word = 0; out = 0; into = 0; entry = true }
 
-abbrev pub entryNodeOf : ℕ → ℕ → Node
-entryNodeOf source root = record { side = 16256; source = source; target = root }
+abbrev pub entryNodeOf : DiagramState → Reached → Node
+entryNodeOf source target = record { side = afterSide; source = source; target = target }
 
 module _ {q : Queues} {rows arcs finals roots : List ℕ} {control root : ℕ} (a : EntryAsked q rows arcs finals roots control root) where
-  pub entry-roots : (i : ℕ) → getD roots i 0 ≤ 127
+  pub entry-roots : (i : ℕ) → getD roots i 0 ≤ mostPool
   entry-roots i =
-      subst (λ l. getD l i 0 ≤ 127) (a .parts .sameRoots) (omega (arith, a .parts .valid .map .roots i, a .parts .valid .pool .most))
+      subst (λ l. getD l i 0 ≤ mostPool) (a .parts .sameRoots) (omega (arith, a .parts .valid .map .roots i, a .parts .valid .pool .most))
 
-  pub entry-root : root < 127
+  pub entry-root : root < mostPool
   entry-root = omega (arith, well-formed (a .whole) (a .parts .valid) .entries control root (at-place (sessionOf (a .whole) .bad) (a .number) (a .item)), a .parts .valid .pool .most)
 
-  module _ {source : ℕ} (here : PlaceAt roots control source) where
-    abbrev Over : Tables → Type 0
-    Over T = EntryParts T q rows arcs finals roots
+  abbrev Over : Tables → Type 0
+  Over T = EntryParts T q rows arcs finals roots
 
-    abbrev judged : Tables → Model.Judged
-    judged T = judgeBySearch (sessionOf T) mostPairs (entry 0 (control, root))
+  abbrev judged : Tables → Model.Judged
+  judged T = judgeBySearch (sessionOf T) mostPairs (entry 0 (control, root))
 
-    pub entry-none : source ≡ 127 → {contents seen queue : List ℕ} → Scratch seen queue → Judging Over judged contents (Passes 0) contents seen queue
-    entry-none e s =
+  pub entry-none : {source : ℕ} → RootAt roots control source → source ≡ mostPool → {contents seen queue : List ℕ} → Scratch seen queue
+      → Judging Over judged contents (Passes 0) contents seen queue
+  entry-none {source} here e s =
+      record {
+        is = λ T p. sym (entry-nothing T (p .valid) control root source 0 (subst (λ l. RootAt l control source) (sym (p .sameRoots)) here) e);
+        few = omega arith;
+        kept = record { long = refl; within = omega arith; rest = refl };
+        scratch = s;
+      }
+
+  -- its source stands at the root of the control state, its target at the entry's root
+  module _ {source : DiagramState} {target : Reached} (here : RootAt roots control (source .0)) (e : source .0 ≡ mostPool → ⊥)
+      (same : target .0 ≡ root) where
+    pub entry-is : {T : Tables} → EntryParts T q rows arcs finals roots → (b : ℕ)
+        → judgedOver arcs finals rows (entryWalkOf q) (pairOf (entryNodeOf source target)) ≡ judgeBySearch (sessionOf T) mostPairs (entry b (control, root))
+    entry-is {T} p b =
+        over-entry
+        (λ q rows arcs finals roots. RootAt roots control (source .0)
+        → judgedOver arcs finals rows (entryWalkOf q) (pairOf (entryNodeOf source target)) ≡ judgeBySearch (sessionOf T) mostPairs (entry b (control, root)))
+        p (λ here. entry-judged T (p .valid) control root source target same here b e entry-root) here
+
+    pub entry-shown : ShownFits arcs finals rows (entryWalkOf q) (pairOf (entryNodeOf source target))
+    entry-shown =
+        over-entry
+        (λ q rows arcs finals roots. RootAt roots control (source .0) → ShownFits arcs finals rows (entryWalkOf q) (pairOf (entryNodeOf source target)))
+        (a .parts) (λ here. entry-fits (a .whole) (a .parts .valid) control root source target same here (a .number) e entry-root (a .item)) here
+
+    pub entry-node : NodeFits (entryNodeOf source target)
+    entry-node = record { side = inr refl; source = state-below (here .most) e; target = omega (arith, same, entry-root) }
+
+    pub entry-lent : Lent arcs rows (entryWalkOf q)
+    entry-lent =
+        over-entry (λ q rows arcs finals roots. Lent arcs rows (entryWalkOf q)) (a .parts)
+        (record {
+          small = arcs-small (a .parts .valid .pool);
+          sum = a .parts .valid .queues .sumMost;
+          cut = omega arith;
+          out = record { within = omega arith; messages = λ i h. absurd (omega arith) };
+          into = record { within = omega arith; messages = λ i h. absurd (omega arith) };
+        })
+
+    pub entry-finals : length finals ≡ mostPool
+    entry-finals = subst (λ l. length l ≡ mostPool) (a .parts .sameFinals) (a .parts .valid .pool .finalsLong)
+
+    pub entry-walked : {contents contents′ seen′ queue′ : List ℕ} {r : Judged}
+        → Judges arcs finals rows (entryWalkOf q) (pairOf (entryNodeOf source target)) contents seen′ queue′ contents′ r
+        → length seen′ ≡ mostPairs → length queue′ ≡ mostPairs → length contents′ ≡ length contents
+        → Judging Over judged contents r contents′ seen′ queue′
+    entry-walked {contents} {contents′} {seen′} {queue′} {r} j ls lq lc =
         record {
-          is = λ T p. sym (entry-nothing T (p .valid) control root source (subst (λ l. PlaceAt l control source) (sym (p .sameRoots)) here) 0 e);
-          few = omega arith;
-          kept = record { long = refl; within = omega arith; rest = refl };
-          scratch = s;
+          is = λ T p. j .reply ∙ entry-is p 0;
+          few =
+              few-passed (a .whole) (a .parts .valid) (entry (a .number) (control, root)) (a .item) r contents′
+              (j .reply ∙ entry-is (a .parts) (a .number)) (entry-few (a .whole) (a .parts .valid));
+          kept =
+              kept-front (shownOf (judgedOver arcs finals rows (entryWalkOf q) (pairOf (entryNodeOf source target)))) contents contents′ (shownBy r)
+              (j .number) (j .shown) lc;
+          scratch = record { seenLong = ls; queueLong = lq; blank = j .blank };
         }
-
-    module _ (e : source ≡ 127 → ⊥) where
-      pub entry-is : {T : Tables} → EntryParts T q rows arcs finals roots → (b : ℕ)
-          → judgedOver arcs finals rows (entryWalkOf q) (pairOf (entryNodeOf source root)) ≡ judgeBySearch (sessionOf T) mostPairs (entry b (control, root))
-      entry-is {T} p b =
-          over-entry
-          (λ q rows arcs finals roots. PlaceAt roots control source
-          → judgedOver arcs finals rows (entryWalkOf q) (pairOf (entryNodeOf source root)) ≡ judgeBySearch (sessionOf T) mostPairs (entry b (control, root)))
-          p (λ here. entry-judged T (p .valid) control root source here b e entry-root) here
-
-      pub entry-shown : ShownFits arcs finals rows (entryWalkOf q) (pairOf (entryNodeOf source root))
-      entry-shown =
-          over-entry
-          (λ q rows arcs finals roots. PlaceAt roots control source → ShownFits arcs finals rows (entryWalkOf q) (pairOf (entryNodeOf source root)))
-          (a .parts) (λ here. entry-fits (a .whole) (a .parts .valid) control root source here (a .number) e entry-root (a .item)) here
-
-      pub entry-node : NodeFits (entryNodeOf source root)
-      entry-node = record { side = inr refl; source = omega (arith, here .most); target = omega (arith, entry-root) }
-
-      pub entry-lent : Lent arcs rows (entryWalkOf q)
-      entry-lent =
-          over-entry (λ q rows arcs finals roots. Lent arcs rows (entryWalkOf q)) (a .parts)
-          (record {
-            small = arcs-small (a .parts .valid .pool);
-            sum = a .parts .valid .queues .sumMost;
-            cut = omega arith;
-            out = record { within = omega arith; messages = λ i h. absurd (omega arith) };
-            into = record { within = omega arith; messages = λ i h. absurd (omega arith) };
-          })
-
-      pub entry-finals : length finals ≡ 127
-      entry-finals = subst (λ l. length l ≡ 127) (a .parts .sameFinals) (a .parts .valid .pool .finalsLong)
-
-      pub entry-walked : {contents contents′ seen′ queue′ : List ℕ} {r : Judged}
-          → Judges arcs finals rows (entryWalkOf q) (pairOf (entryNodeOf source root)) contents seen′ queue′ contents′ r
-          → length seen′ ≡ mostPairs → length queue′ ≡ mostPairs → length contents′ ≡ length contents
-          → Judging Over judged contents r contents′ seen′ queue′
-      entry-walked {contents} {contents′} {seen′} {queue′} {r} j ls lq lc =
-          record {
-            is = λ T p. j .reply ∙ entry-is p 0;
-            few =
-                few-passed (a .whole) (a .parts .valid) (entry (a .number) (control, root)) (a .item) r contents′
-                (j .reply ∙ entry-is (a .parts) (a .number)) (entry-few (a .whole) (a .parts .valid));
-            kept =
-                kept-front (shownOf (judgedOver arcs finals rows (entryWalkOf q) (pairOf (entryNodeOf source root)))) contents contents′ (shownBy r)
-                (j .number) (j .shown) lc;
-            scratch = record { seenLong = ls; queueLong = lq; blank = j .blank };
-          }

@@ -4,6 +4,7 @@ use mathlib.Core.Path.{_≡_, refl, sym, ap, ap₂, subst, _∙_}
 use mathlib.Core.List.{List, _++_}
 use native.Mathlib.Omega.{arith}
 use lib.ListN.{length}
+use Rattle.session.specs.Limits.{mostControls, mostBad}
 use Rattle.session.specs.Laws.Valid.{Valid}
 use Rattle.session.specs.declared.tables.Machines.{Machines}
 use Rattle.session.specs.declared.tables.Queues.{Queues}
@@ -12,7 +13,7 @@ use Rattle.model.specs.Verdict.{Reply, stepsFrom, entriesFrom}
 use Rattle.model.specs.Judge.{decide}
 use Rattle.model.specs.Laws.Deciding.{decide-append, unlessFailed}
 use Rattle.meaning.specs.Tables.{sessionOf, transitionsFrom, entriesFrom as entriesIn}
-use Rattle.verdict.specs.Judging.{Kept, Scratch, shownSoFar, Judges, Parts, EntryParts, AllBad, StepsAsked, EntriesAsked, AllParts, AllAsked}
+use Rattle.verdict.specs.Judging.{mostAtControl, Kept, Scratch, shownSoFar, Judges, Parts, EntryParts, AllBad, StepsAsked, EntriesAsked, AllParts, AllAsked}
 use Rattle.verdict.specs.Laws.Sequence.{Going, AllIn, goes-on}
 use Rattle.verdict.specs.declared.judged.Progress.{Progress}
 use Rattle.verdict.specs.declared.judged.Progress.the-variants.{Passed}
@@ -52,8 +53,8 @@ module _ {m : Machines} {q : Queues} {rows arcs finals roots entries : List ℕ}
         whole = a .whole;
         parts = entry-parts (a .all);
         all = all-bad (a .all);
-        long = subst (λ l. length l ≡ 128) (a .all .sameEntries) (a .all .parts .valid .bad .long);
-        most = subst (λ n. n ≤ 64) (a .all .listed) (a .all .parts .valid .bad .most);
+        long = subst (λ l. length l ≡ mostBad * 2) (a .all .sameEntries) (a .all .parts .valid .bad .long);
+        most = subst (λ n. n ≤ mostBad) (a .all .listed) (a .all .parts .valid .bad .most);
       }
 
 -- the steps, then the bad entries
@@ -88,9 +89,9 @@ joins weaker {contents₁ = contents₁} {r = r} g j =
 -- the steps have passed
 pub after-steps : (m : Machines) (q : Queues) (rows arcs finals roots entries : List ℕ) (count many : ℕ) {contents contents₁ seen queue seen₁ queue₁ : List ℕ}
     → Scratch seen queue → (r : Progress) (n : ℕ) → r ≡ Passed n
-    → Judges (λ T. Parts T m q rows arcs finals roots count × AllIn rows count T) (4161536 * 256)
+    → Judges (λ T. Parts T m q rows arcs finals roots count × AllIn rows count T) (mostAtControl * mostControls)
     (λ T. decide (sessionOf T) (stepsFrom (sessionOf T .model) 0 (m .product)) 0) contents r contents₁ seen₁ queue₁
-    → Going (λ T. AllParts T m q rows arcs finals roots entries count many) (4161536 * 256) (allHere (m .product) entries many)
+    → Going (λ T. AllParts T m q rows arcs finals roots entries count many) (mostAtControl * mostControls) (allHere (m .product) entries many)
     (λ T. entriesAfter entries many T n) contents n contents₁ seen₁ queue₁
 after-steps m q rows arcs finals roots entries count many s r n e j =
     goes-on {Q = λ T. AllParts T m q rows arcs finals roots entries count many} (λ T p. (p .parts, all-in p)) (allHere (m .product) entries many)

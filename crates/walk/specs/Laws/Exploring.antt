@@ -14,12 +14,14 @@ use Rattle.explore.specs.SearchLaws.{search-end, search-found, search-on}
 use Rattle.numbers.specs.Laws.Parts.{one-more}
 use Rattle.model.specs.Verdict.{Pair}
 use Rattle.model.specs.Judge.{same}
-use Rattle.meaning.specs.Tables.{finalAt}
+use Rattle.session.specs.Lookup.{finalAt}
 use Rattle.walk.specs.declared.pairs.Node.{Node}
 use Rattle.walk.specs.declared.search.Outcome.{Outcome}
 use Rattle.walk.specs.declared.search.Outcome.the-variants as Answer
-use Rattle.walk.specs.Pairs.{mostPairs, place, sideOf, decode, pairOf, NodeFits}
-use Rattle.walk.specs.Laws.Pairs.{place-small, after-side}
+use Rattle.session.specs.Kinds.{reachedOf}
+use Rattle.walk.specs.Pairs.{mostPairs, sideOf, decode, pairOf, NodeFits}
+use Rattle.session.specs.Laws.Lookup.{reached-small}
+use Rattle.walk.specs.Laws.Pairs.{after-side}
 use Rattle.walk.specs.Marks.{foundAt, view, Tables, Pushed, Swept}
 use Rattle.walk.specs.Laws.Marks.{tables-most, view-length, swept-more}
 use Rattle.walk.specs.Over.{wrongOver}
@@ -90,30 +92,30 @@ module _ {M : ℕ} {δ : Pair → ℕ → Option Pair} {p : Pair → Bool} {seen
 module _ (finals : List ℕ) (entry : Bool) (x : Node) where
   pub fails-before : x .side ≡ 0 → wrongOver finals entry (pairOf x) ≡ false
   unfolding wrongOver
-  fails-before e = ap (λ k. wrongOver finals entry (sideOf k (x .source) (place (x .target)))) e
+  fails-before e = ap (λ k. wrongOver finals entry (sideOf k (x .source .0) (reachedOf (x .target .0)))) e
 
   module _ (fits : NodeFits x) (far : x .side ≡ 0 → ⊥) where
     fails-after : wrongOver finals entry (pairOf x)
-        ≡ finalAt finals (place (x .source)) && elim entry [ true ↦ finalAt finals (place (x .target)) | false ↦ not (finalAt finals (place (x .target))) ]
+        ≡ finalAt finals (reachedOf (x .source .0)) && elim entry [ true ↦ finalAt finals (reachedOf (x .target .0)) | false ↦ not (finalAt finals (reachedOf (x .target .0))) ]
     unfolding wrongOver
     fails-after =
-        ap (λ k. wrongOver finals entry (sideOf k (x .source) (place (x .target)))) (after-side fits far)
-        ∙ ap (λ o. finalAt finals o && elim entry [ true ↦ finalAt finals (place (x .target)) | false ↦ not (finalAt finals (place (x .target))) ])
-        (sym (place-small (fits .source)))
+        ap (λ k. wrongOver finals entry (sideOf k (x .source .0) (reachedOf (x .target .0)))) (after-side fits far)
+        ∙ ap (λ o. finalAt finals o && elim entry [ true ↦ finalAt finals (reachedOf (x .target .0)) | false ↦ not (finalAt finals (reachedOf (x .target .0))) ])
+        (sym (reached-small (fits .source)))
 
-    pub fails-source : finalAt finals (place (x .source)) ≡ false → wrongOver finals entry (pairOf x) ≡ false
+    pub fails-source : finalAt finals (reachedOf (x .source .0)) ≡ false → wrongOver finals entry (pairOf x) ≡ false
     fails-source e =
-        fails-after ∙ ap (λ b. b && elim entry [ true ↦ finalAt finals (place (x .target)) | false ↦ not (finalAt finals (place (x .target))) ]) e
+        fails-after ∙ ap (λ b. b && elim entry [ true ↦ finalAt finals (reachedOf (x .target .0)) | false ↦ not (finalAt finals (reachedOf (x .target .0))) ]) e
 
-    pub fails-entry : finalAt finals (place (x .source)) ≡ true → entry ≡ true → wrongOver finals entry (pairOf x) ≡ finalAt finals (place (x .target))
+    pub fails-entry : finalAt finals (reachedOf (x .source .0)) ≡ true → entry ≡ true → wrongOver finals entry (pairOf x) ≡ finalAt finals (reachedOf (x .target .0))
     fails-entry e t =
         fails-after
-        ∙ ap₂ (λ b d. b && elim d [ true ↦ finalAt finals (place (x .target)) | false ↦ not (finalAt finals (place (x .target))) ]) e t
+        ∙ ap₂ (λ b d. b && elim d [ true ↦ finalAt finals (reachedOf (x .target .0)) | false ↦ not (finalAt finals (reachedOf (x .target .0))) ]) e t
 
-    pub fails-step : finalAt finals (place (x .source)) ≡ true → entry ≡ false → wrongOver finals entry (pairOf x) ≡ not (finalAt finals (place (x .target)))
+    pub fails-step : finalAt finals (reachedOf (x .source .0)) ≡ true → entry ≡ false → wrongOver finals entry (pairOf x) ≡ not (finalAt finals (reachedOf (x .target .0)))
     fails-step e t =
         fails-after
-        ∙ ap₂ (λ b d. b && elim d [ true ↦ finalAt finals (place (x .target)) | false ↦ not (finalAt finals (place (x .target))) ]) e t
+        ∙ ap₂ (λ b d. b && elim d [ true ↦ finalAt finals (reachedOf (x .target .0)) | false ↦ not (finalAt finals (reachedOf (x .target .0))) ]) e t
 
 -- THE FIRST PAIR is found from no other
 pub begins : {seen queue seen′ queue′ : List ℕ} {r : ℕ} {x y : Pair} → Pushed seen queue 0 0 (some x) seen′ queue′ r → x ≡ y

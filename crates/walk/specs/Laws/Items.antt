@@ -2,10 +2,11 @@
 use mathlib.Core.Path.{_≡_, sym, ap, subst, _∙_}
 use mathlib.Core.Option.{some, Option·none-ne-some}
 use mathlib.Core.List.{List}
-use Prim.Native.Nat.{ℕ, _+_, _*_, _≤_}
+use Prim.Native.Nat.{ℕ, _+_, _-_, _*_, _≤_}
 use native.Mathlib.Omega.{arith}
 use native.Mathlib.Nat.{mul-le-mul}
 use lib.ListN.{length}
+use Rattle.session.specs.Limits.{mostPool}
 use Rattle.model.specs.Session.{Session, WellFormed}
 use Rattle.model.specs.Verdict as Verdict
 use Rattle.model.specs.Verdict.{Item, start, step, entry, Pair}
@@ -18,16 +19,17 @@ use Rattle.model.specs.Laws.Searches.{search-is}
 use Rattle.model.specs.Laws.Lengths.{taken, shown-bound}
 use Rattle.walk.specs.declared.pairs.Walk.{Walk}
 use Rattle.walk.specs.declared.judge.Judged.{Judged}
-use Rattle.walk.specs.Pairs.{mostPairs}
+use Rattle.walk.specs.Pairs.{stride, mostPairs}
+use Rattle.walk.specs.Shown.{mostShown}
 use Rattle.walk.specs.Over.{walkOver, Over}
 use Rattle.walk.specs.Judged.{judgedOver, ShownFits, saidJudged, Judges}
 use Rattle.walk.specs.Laws.Judged.{judged-is}
 
--- 127 states have no more pairs than there are numbers
-pairs-fit : (n : ℕ) → n ≤ 127 → Verdict.mostPairs n ≤ mostPairs
+-- so many states have no more pairs than there are numbers
+pairs-fit : (n : ℕ) → n ≤ mostPool → Verdict.mostPairs n ≤ mostPairs
 pairs-fit n h =
-    let g : n + 1 ≤ 128 = omega arith in
-    let z : n * (n + 1) ≤ 127 * 128 = mul-le-mul h g in
+    let g : n + 1 ≤ stride = omega arith in
+    let z : n * (n + 1) ≤ mostPool * stride = mul-le-mul h g in
     omega arith
 
 -- an item that has a walk is judged by it
@@ -38,14 +40,14 @@ walk-judges S (step c t τ) B e = ap (searchWalk S mostPairs) (sym e)
 walk-judges S (entry b d) B e = ap (searchWalk S mostPairs) (sym e)
 
 module _ (arcs finals rows : List ℕ) (w : Walk) (root : Pair) (S : Session) (o : Over arcs finals (w .sum) S) (wf : WellFormed S)
-    (few : S .pool .states ≤ 127) (i : Item) (item : IsItem S i) (at : walkOf S i ≡ some (record { walk = walkOver rows w; root = root })) where
+    (few : S .pool .states ≤ mostPool) (i : Item) (item : IsItem S i) (at : walkOf S i ≡ some (record { walk = walkOver rows w; root = root })) where
   pub judged-item : judgedOver arcs finals rows w root ≡ judge S i
   judged-item =
       judged-is arcs finals rows w S o root
       ∙ walk-judges S i (record { walk = walkOver rows w; root = root }) at
       ∙ search-is S wf mostPairs (pairs-fit (S .pool .states) few) i item
 
-  pub item-fits : length (taken i) ≤ 256 → ShownFits arcs finals rows w root
+  pub item-fits : length (taken i) ≤ mostShown - mostPairs → ShownFits arcs finals rows w root
   item-fits short =
       record {
         most = λ u e. omega (arith, shown-bound S wf i item u (sym judged-item ∙ e), pairs-fit (S .pool .states) few);

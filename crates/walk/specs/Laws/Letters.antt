@@ -10,25 +10,26 @@ use borrow.Author.Tests.{lt-ltb, le-ltb, eq-eqb, ne-eqb}
 use Rattle.model.specs.Verdict.{Pair}
 use Rattle.walk.specs.declared.pairs.Node.{Node}
 use Rattle.walk.specs.declared.pairs.Walk.{Walk}
-use Rattle.walk.specs.Pairs.{afterSide, place, sideOf, pairOf, NodeFits}
+use Rattle.session.specs.Kinds.{reachedOf}
+use Rattle.walk.specs.Pairs.{afterSide, sideOf, pairOf, NodeFits}
 use Rattle.walk.specs.Laws.Pairs.{after-side}
 use Rattle.walk.specs.Over.{readOver, jumpOver, goOver}
 
 module _ (arcs rows : List ℕ) (w : Walk) (x : Node) (m : ℕ) where
   abbrev read : Option Pair
-  read = readOver arcs (w .entry) (x .side) (x .source) (place (x .target)) m
+  read = readOver arcs (w .entry) (x .side) (x .source .0) (reachedOf (x .target .0)) m
 
   abbrev step : Option Pair
-  step = jumpOver arcs rows w (x .source) (place (x .target))
+  step = jumpOver arcs rows w (x .source .0) (reachedOf (x .target .0))
 
   abbrev goAt : ℕ → Option Pair
-  goAt side = goOver arcs rows w (sideOf side (x .source) (place (x .target))) m
+  goAt side = goOver arcs rows w (sideOf side (x .source .0) (reachedOf (x .target .0))) m
 
   module _ (near : x .side ≡ 0) where
     abbrev goBefore : Bool → Bool → Option Pair
     goBefore b e =
         elim b [
-          | true ↦ readOver arcs (w .entry) 0 (x .source) (place (x .target)) m
+          | true ↦ readOver arcs (w .entry) 0 (x .source .0) (reachedOf (x .target .0)) m
           | false ↦ elim e [ true ↦ step | false ↦ none ]
         ]
 
@@ -40,7 +41,7 @@ module _ (arcs rows : List ℕ) (w : Walk) (x : Node) (m : ℕ) where
     before-read h =
         from-before
         ∙ ap (λ b. goBefore b (eqb m (w .sum))) (lt-ltb m (w .cut) h)
-        ∙ ap (λ k. readOver arcs (w .entry) k (x .source) (place (x .target)) m) (sym near)
+        ∙ ap (λ k. readOver arcs (w .entry) k (x .source .0) (reachedOf (x .target .0)) m) (sym near)
 
     pub before-none : w .cut ≤ m → m < w .sum → goOver arcs rows w (pairOf x) m ≡ none
     before-none h l = from-before ∙ ap₂ goBefore (le-ltb m (w .cut) h) (ne-eqb m (w .sum) (λ e. omega arith))
@@ -53,7 +54,7 @@ module _ (arcs rows : List ℕ) (w : Walk) (x : Node) (m : ℕ) where
     goAfter b e =
         elim b [
           | true ↦ none
-          | false ↦ elim e [ true ↦ readOver arcs (w .entry) afterSide (x .source) (place (x .target)) m | false ↦ none ]
+          | false ↦ elim e [ true ↦ readOver arcs (w .entry) afterSide (x .source .0) (reachedOf (x .target .0)) m | false ↦ none ]
         ]
 
     from-after : goOver arcs rows w (pairOf x) m ≡ goAfter (ltb m (w .cut)) (ltb m (w .sum))
@@ -66,7 +67,7 @@ module _ (arcs rows : List ℕ) (w : Walk) (x : Node) (m : ℕ) where
     pub after-read : w .cut ≤ m → m < w .sum → goOver arcs rows w (pairOf x) m ≡ read
     after-read h l =
         from-after ∙ ap₂ goAfter (le-ltb m (w .cut) h) (lt-ltb m (w .sum) l)
-        ∙ ap (λ k. readOver arcs (w .entry) k (x .source) (place (x .target)) m) (sym (after-side fits far))
+        ∙ ap (λ k. readOver arcs (w .entry) k (x .source .0) (reachedOf (x .target .0)) m) (sym (after-side fits far))
 
     pub after-high : w .cut ≤ m → w .sum ≤ m → goOver arcs rows w (pairOf x) m ≡ none
     after-high h l = from-after ∙ ap₂ goAfter (le-ltb m (w .cut) h) (le-ltb m (w .sum) l)

@@ -13,7 +13,8 @@ use Rattle.model.specs.Verdict.{Pair}
 use Rattle.model.specs.Judge.{same}
 use Rattle.walk.specs.declared.pairs.Node.{Node}
 use Rattle.walk.specs.declared.pairs.Walk.{Walk}
-use Rattle.walk.specs.Pairs.{place, decode, pairOf, NodeOf}
+use Rattle.session.specs.Kinds.{reachedOf}
+use Rattle.walk.specs.Pairs.{decode, pairOf, NodeOf}
 use Rattle.walk.specs.Over.{jumpOver, goOver, readFrom}
 use Rattle.walk.specs.Laws.Letters.{before-read, before-none, before-step, after-low, after-read, after-high}
 use Rattle.walk.specs.Shown.{letterOver}
@@ -132,15 +133,15 @@ module _ (arcs rows : List ℕ) (w : Walk) (cut : w .cut ≤ w .sum) {from : ℕ
         ∙ low-skip δ (pairOf x) (decode code) rest 1 (0 + w .cut) (λ j p q. before-none arcs rows w x j near (omega arith) (omega arith))
         ∙ ap (go 1) (let e : 0 + w .cut + rest ≡ w .sum = omega arith in e)
 
-    stepped : δ (pairOf x) (w .sum) ≡ jumpOver arcs rows w (x .source) (place (x .target))
+    stepped : δ (pairOf x) (w .sum) ≡ jumpOver arcs rows w (x .source .0) (reachedOf (x .target .0))
     stepped = before-step arcs rows w x (w .sum) near cut refl
 
-    pub step-met : w .cut ≤ r → true ≡ leadsTo same (jumpOver arcs rows w (x .source) (place (x .target))) (decode code)
+    pub step-met : w .cut ≤ r → true ≡ leadsTo same (jumpOver arcs rows w (x .source .0) (reachedOf (x .target .0))) (decode code)
         → w .sum ≡ letterOver arcs rows w from code
     step-met h e =
         sym (step-left h ∙ low-here δ (pairOf x) (decode code) 0 (w .sum) (e ∙ ap (λ o. leadsTo same o (decode code)) (sym stepped)))
 
-    pub step-missed : w .cut ≤ r → false ≡ leadsTo same (jumpOver arcs rows w (x .source) (place (x .target))) (decode code)
+    pub step-missed : w .cut ≤ r → false ≡ leadsTo same (jumpOver arcs rows w (x .source .0) (reachedOf (x .target .0))) (decode code)
         → w .sum + 1 ≡ letterOver arcs rows w from code
     step-missed h e = sym (step-left h ∙ one-past stepped e)
 

@@ -6,7 +6,8 @@ use mathlib.Core.List.{List, [], _∷_}
 use Prim.Native.Nat.{ℕ, suc}
 use lib.Dec.{ltb, eqb}
 use Rattle.explore.specs.Search.{searchFrom}
-use Rattle.meaning.specs.Tables.{arcOf, finalAt}
+use Rattle.meaning.specs.Tables.{arcOf}
+use Rattle.session.specs.Lookup.{finalAt}
 use Rattle.model.specs.Diagram.{along, follow, isFinal}
 use Rattle.model.specs.Session.{Session}
 use Rattle.model.specs.Verdict.{Pair, before, after}

@@ -2,31 +2,32 @@
 use mathlib.Core.Path.{_≡_, refl, sym, ap, ap₂, _∙_}
 use mathlib.Core.Logic.{_⊎_, inl, inr}
 use mathlib.Core.Bool.{Bool, true, false, true≢false}
-use mathlib.Core.Option.{none, some}
 use Prim.Native.Nat.{ℕ, _+_, _-_, _*_, _/_, _%_, _≤_, _<_}
 use native.Mathlib.Omega.{arith}
 use native.Mathlib.Decide.{decLt}
 use lib.Dec.{eqb}
-use borrow.Author.Tests.{eqb-true, eqb-false, lt-ltb, le-ltb, eq-eqb, ne-eqb}
+use borrow.Author.Tests.{eqb-true, eqb-false, lt-ltb, le-ltb}
+use Rattle.session.specs.Limits.{mostPool}
 use Rattle.model.specs.Verdict.{before, after}
 use Rattle.model.specs.Judge.{same}
 use Rattle.model.specs.Laws.Judging.{same-equality}
 use Rattle.walk.specs.declared.pairs.Node.{Node}
-use Rattle.walk.specs.Pairs.{nowhere, afterSide, mostPairs, place, sideOf, decode, placeCode, code, NodeFits, Coded, NodeOf}
+use Rattle.session.specs.Kinds.{reachedOf}
+use Rattle.walk.specs.Pairs.{nowhere, stride, afterSide, mostPairs, sideOf, decode, reachedCode, code, NodeFits, Coded, NodeOf}
 
-place-code : (t : ℕ) → placeCode (place t) ≡ t
-place-code t = byTest (eqb t nowhere) refl
+reached-code : (t : ℕ) → reachedCode (reachedOf t) ≡ t
+reached-code t = byTest (eqb t nowhere) refl
   where
-    byTest : (b : Bool) → eqb t nowhere ≡ b → placeCode (place t) ≡ t
-    byTest true e = rw (e, place) (sym (eqb-true t nowhere e))
-    byTest false e = rw (e, place)
+    byTest : (b : Bool) → eqb t nowhere ≡ b → reachedCode (reachedOf t) ≡ t
+    byTest true e = rw (e, reachedOf) (sym (eqb-true t nowhere e))
+    byTest false e = rw (e, reachedOf)
 
 -- a number of the before side, and one of the after side
-pub decode-low : (c : ℕ) → c < afterSide → decode c ≡ before (c / 128) (place (c % 128))
+pub decode-low : (c : ℕ) → c < afterSide → decode c ≡ before (c / stride) (reachedOf (c % stride))
 unfolding decode
 decode-low c h = rw (lt-ltb c afterSide h, decode)
 
-pub decode-high : (c : ℕ) → afterSide ≤ c → decode c ≡ after ((c - afterSide) / 128) (place ((c - afterSide) % 128))
+pub decode-high : (c : ℕ) → afterSide ≤ c → decode c ≡ after ((c - afterSide) / stride) (reachedOf ((c - afterSide) % stride))
 unfolding decode
 decode-high c h = rw (le-ltb c afterSide h, decode)
 
@@ -35,28 +36,28 @@ pub code-decode : (c : ℕ) → code (decode c) ≡ c
 code-decode c = byTest (decLt c afterSide)
   where
     byTest : Dec (c < afterSide) → code (decode c) ≡ c
-    byTest (yes l) = ap code (decode-low c l) ∙ (omega (arith, place-code (c % 128)))
+    byTest (yes l) = ap code (decode-low c l) ∙ (omega (arith, reached-code (c % stride)))
     byTest (no g) =
         ap code (decode-high c (omega arith))
-        ∙ (let h : afterSide ≤ c = omega arith in omega (arith, place-code ((c - afterSide) % 128)))
+        ∙ (let h : afterSide ≤ c = omega arith in omega (arith, reached-code ((c - afterSide) % stride)))
 
-pub decode-before : (s t : ℕ) → s < 127 → t ≤ 127 → decode (s * 128 + t) ≡ before s (place t)
+pub decode-before : (s t : ℕ) → s < mostPool → t ≤ mostPool → decode (s * stride + t) ≡ before s (reachedOf t)
 decode-before s t hs ht =
-    let q : (s * 128 + t) / 128 ≡ s = omega arith in
-    let r : (s * 128 + t) % 128 ≡ t = omega arith in
-    decode-low (s * 128 + t) (omega arith) ∙ ap₂ (λ a b. before a (place b)) q r
+    let q : (s * stride + t) / stride ≡ s = omega arith in
+    let r : (s * stride + t) % stride ≡ t = omega arith in
+    decode-low (s * stride + t) (omega arith) ∙ ap₂ (λ a b. before a (reachedOf b)) q r
 
-pub decode-after : (s t : ℕ) → s < 127 → t ≤ 127 → decode (afterSide + s * 128 + t) ≡ after s (place t)
+pub decode-after : (s t : ℕ) → s < mostPool → t ≤ mostPool → decode (afterSide + s * stride + t) ≡ after s (reachedOf t)
 decode-after s t hs ht =
-    let q : (afterSide + s * 128 + t - afterSide) / 128 ≡ s = omega arith in
-    let r : (afterSide + s * 128 + t - afterSide) % 128 ≡ t = omega arith in
-    decode-high (afterSide + s * 128 + t) (omega arith) ∙ ap₂ (λ a b. after a (place b)) q r
+    let q : (afterSide + s * stride + t - afterSide) / stride ≡ s = omega arith in
+    let r : (afterSide + s * stride + t - afterSide) % stride ≡ t = omega arith in
+    decode-high (afterSide + s * stride + t) (omega arith) ∙ ap₂ (λ a b. after a (reachedOf b)) q r
 
-pub decode-side : (k s t : ℕ) → (k ≡ 0) ⊎ (k ≡ afterSide) → s < 127 → t ≤ 127 → decode (k + s * 128 + t) ≡ sideOf k s (place t)
+pub decode-side : (k s t : ℕ) → (k ≡ 0) ⊎ (k ≡ afterSide) → s < mostPool → t ≤ mostPool → decode (k + s * stride + t) ≡ sideOf k s (reachedOf t)
 decode-side k s t (inl e) hs ht =
-    ap decode (let z : k + s * 128 + t ≡ s * 128 + t = omega arith in z) ∙ decode-before s t hs ht ∙ ap (λ k. sideOf k s (place t)) (sym e)
+    ap decode (let z : k + s * stride + t ≡ s * stride + t = omega arith in z) ∙ decode-before s t hs ht ∙ ap (λ k. sideOf k s (reachedOf t)) (sym e)
 decode-side k s t (inr e) hs ht =
-    ap (λ k. decode (k + s * 128 + t)) e ∙ decode-after s t hs ht ∙ ap (λ k. sideOf k s (place t)) (sym e)
+    ap (λ k. decode (k + s * stride + t)) e ∙ decode-after s t hs ht ∙ ap (λ k. sideOf k s (reachedOf t)) (sym e)
 
 -- two numbers stand for the same pair only if they are equal
 pub same-codes : (a c : ℕ) → same (decode a) (decode c) ≡ eqb a c
@@ -70,16 +71,6 @@ same-codes a c = byTest (same (decode a) (decode c)) refl (eqb a c) refl
     byTest false e true f =
         absurd (true≢false (sym (same-equality (decode a) (decode c) .1 (ap decode (eqb-true a c f))) ∙ e))
 
--- PLACES
-pub place-nowhere : {t : ℕ} → t ≡ nowhere → place t ≡ none
-place-nowhere {t} e = rw (eq-eqb t nowhere e, place)
-
-pub place-state : {t : ℕ} → (t ≡ nowhere → ⊥) → place t ≡ some t
-place-state {t} e = rw (ne-eqb t nowhere e, place)
-
-pub place-small : {t : ℕ} → t < 127 → place t ≡ some t
-place-small h = place-state (λ e. omega arith)
-
 -- NODES
 pub side-most : {x : Node} → NodeFits x → x .side ≤ afterSide
 side-most {x} f = bySide (f .side)
@@ -88,19 +79,19 @@ side-most {x} f = bySide (f .side)
     bySide (inl e) = omega arith
     bySide (inr e) = omega arith
 
-pub node-coded : (x : Node) → NodeFits x → Coded x (x .side + x .source * 128 + x .target)
+pub node-coded : (x : Node) → NodeFits x → Coded x (x .side + x .source .0 * stride + x .target .0)
 node-coded x f =
     record {
       small = omega (arith, side-most f, f .source, f .target);
-      is = decode-side (x .side) (x .source) (x .target) (f .side) (f .source) (f .target);
+      is = decode-side (x .side) (x .source .0) (x .target .0) (f .side) (f .source) (f .target);
     }
 
-pub node-low : (c : ℕ) → c < afterSide → NodeOf c (record { side = 0; source = c / 128; target = c % 128 })
+pub node-low : (c : ℕ) → c < afterSide → NodeOf c (record { side = 0; source = record { 0 = c / stride }; target = record { 0 = c % stride } })
 node-low c h =
     record { fits = record { side = inl refl; source = omega arith; target = omega arith }; is = decode-low c h }
 
 pub node-high : (c : ℕ) → afterSide ≤ c → c < mostPairs
-    → NodeOf c (record { side = afterSide; source = (c - afterSide) / 128; target = (c - afterSide) % 128 })
+    → NodeOf c (record { side = afterSide; source = record { 0 = (c - afterSide) / stride }; target = record { 0 = (c - afterSide) % stride } })
 node-high c h g =
     record { fits = record { side = inr refl; source = omega arith; target = omega arith }; is = decode-high c h }
 

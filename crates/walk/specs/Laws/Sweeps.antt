@@ -12,7 +12,8 @@ use Rattle.model.specs.Verdict.{Pair}
 use Rattle.model.specs.Judge.{same}
 use Rattle.walk.specs.declared.pairs.Walk.{Walk}
 use Rattle.walk.specs.declared.pairs.Node.{Node}
-use Rattle.walk.specs.Pairs.{place, pairOf, NodeFits}
+use Rattle.session.specs.Kinds.{reachedOf}
+use Rattle.walk.specs.Pairs.{pairOf, NodeFits}
 use Rattle.walk.specs.Marks.{view, Tables, Shows, Pushed, Swept}
 use Rattle.walk.specs.Laws.Marks.{pushed-more}
 use Rattle.walk.specs.Over.{jumpOver, goOver, readFrom}
@@ -91,7 +92,7 @@ module _ (arcs rows : List ℕ) (w : Walk) (x : Node) (cut : w .cut ≤ w .sum) 
   δ = goOver arcs rows w
 
   abbrev jump : Option Pair
-  jump = jumpOver arcs rows w (x .source) (place (x .target))
+  jump = jumpOver arcs rows w (x .source .0) (reachedOf (x .target .0))
 
   parts : suc (w .sum) ≡ w .cut + (w .sum - w .cut + 1)
   parts = omega arith
@@ -131,10 +132,10 @@ module _ (arcs rows : List ℕ) (w : Walk) (x : Node) (cut : w .cut ≤ w .sum) 
 
   pub visit-before : {seen queue seen₁ queue₁ seen₂ queue₂ : List ℕ} {tail tail₁ tail₂ h : ℕ} → x .side ≡ 0
       → Swept seen queue tail (readFrom arcs (w .entry) x) (pairOf x) h (w .cut - 0) 0 seen₁ queue₁ tail₁
-      → Pushed seen₁ queue₁ tail₁ h (jumpOver arcs rows w (x .source) (place (x .target))) seen₂ queue₂ tail₂
+      → Pushed seen₁ queue₁ tail₁ h (jumpOver arcs rows w (x .source .0) (reachedOf (x .target .0))) seen₂ queue₂ tail₂
       → Swept seen queue tail (goOver arcs rows w) (pairOf x) h (suc (w .sum)) 0 seen₂ queue₂ tail₂
   visit-before {seen} {queue} {tail = tail} {h = h} e s p =
-      let both = ap (push same h (jumpOver arcs rows w (x .source) (place (x .target)))) (s .shows .is) in
+      let both = ap (push same h (jumpOver arcs rows w (x .source .0) (reachedOf (x .target .0)))) (s .shows .is) in
       record {
         shows = record { tables = p .shows .tables; is = p .shows .is ∙ both ∙ sym (node-before h (view seen queue tail) e) };
       }

@@ -1,39 +1,26 @@
 -- The tables of a file that was read can be walked over: what a walk asks of them holds.
 use mathlib.Core.Path.{_≡_, refl}
 use mathlib.Core.List.{List}
-use Prim.Native.Nat.{ℕ, _+_, _*_, _/_, _%_, _≤_, _<_}
+use Prim.Native.Nat.{ℕ, _+_, _*_, _≤_, _<_}
 use native.Mathlib.Omega.{arith}
-use native.Mathlib.Decide.{decLt}
 use lib.ListN.{length, getD}
-use Rattle.session.specs.Laws.Pool.{PoolValid}
+use Rattle.session.specs.Laws.Lookup.{arcs-small}
 use Rattle.session.specs.Laws.Queues.{QueuesValid}
 use Rattle.session.specs.Laws.Transitions.{TransitionsValid}
 use Rattle.session.specs.Laws.Valid.{Valid}
 use Rattle.session.specs.declared.tables.Machines.{Machines}
 use Rattle.session.specs.declared.tables.Queues.{Queues}
 use Rattle.session.specs.declared.tables.Transitions.{Transitions}
-use Rattle.session.specs.declared.tables.Pool.{Pool}
 use Rattle.session.specs.declared.tables.Tables.{Tables}
 use Rattle.model.specs.Model.{messages}
 use Rattle.meaning.specs.Tables.{sessionOf}
+use Rattle.session.specs.Rows.{rowLength, wordEntry, lengthAt}
 use Rattle.walk.specs.declared.pairs.Walk.{Walk}
-use Rattle.walk.specs.Over.{ArcsSmall, WordWithin, Lent, Over}
-
-pub arcs-small : {sum : ℕ} {P : Pool} → PoolValid sum P → ArcsSmall (P .arcs)
-arcs-small {sum} {P} z = record { long = z .arcsLong; each = λ k. byState k (decLt k (P .count * 32)) }
-  where
-    byState : (k : ℕ) → Dec (k < P .count * 32) → getD (P .arcs) k 0 ≤ 127
-    byState k (yes l) =
-        let i : ℕ = k / 32 in
-        let m : ℕ = k % 32 in
-        let same-entry : i * 32 + m ≡ k = omega arith in
-        let small : getD (P .arcs) k 0 ≤ P .count = rw same-entry at (z .arcs i m (omega arith) (omega arith)) in
-        omega (arith, z .most)
-    byState k (no g) = omega (arith, z .arcsRest k (omega arith))
+use Rattle.walk.specs.Over.{WordWithin, Lent, Over}
 
 -- the word of a transition, or a front of it; and no word
 pub word-within : {m : Machines} {q : Queues} {τ : Transitions} → TransitionsValid m q τ → QueuesValid q → (t n : ℕ) → t < τ .count
-    → n ≤ getD (τ .rows) (t * 10 + 5) 0 → WordWithin (τ .rows) (t * 10 + 6) n
+    → n ≤ lengthAt (τ .rows) (t * rowLength) → WordWithin (τ .rows) (wordEntry (t * rowLength)) n
 word-within {q = q} z s t n h g =
     let a = z .row t h .action in
     record {

@@ -1,3 +1,4 @@
+use native.Mathlib.Omega.{arith}
 use Rattle.session.specs.Laws.Kinds.{control-made}
 use mathlib.Core.Path.{sym, _∙_}
 use denote.Ref.{now}
@@ -7,7 +8,7 @@ use Rattle.diagram.proofs.member.ask.Statement.{statement}
 use Rattle.diagram.proofs.member.ask.Tie as tie
 use Rattle.diagram.proofs.member.ask.Reads as reads
 use Rattle.diagram.proofs.member.ask.Lts as lts
-use Rattle.diagram.proofs.follow.begin.Reads as begin-reads
+use Rattle.session.proofs.lookup.root_of.Reads as root-of-reads
 use Rattle.diagram.proofs.member.judge.Reads as judge-reads
 use Rattle.session.proofs.kinds.ControlState.new.Reads as new-reads
 
@@ -18,30 +19,30 @@ returns c =
     sym (ask-unknown (c .before .before .before .before .pre) (a .control) (now (a .contents)) (c .if1 .taken))
 
 -- src/member.rt:86:23
-slice-aggregate-begin : tie.Need-slice-aggregate-begin
-slice-aggregate-begin c = search needs
+slice-aggregate-root-of : tie.Need-slice-aggregate-root-of
+slice-aggregate-root-of c = search needs
 
 -- src/member.rt:86:31
 new-requires : tie.Need-new-requires
 new-requires c κs = search needs
 
 -- src/member.rt:86:9
-begin-requires : tie.Need-begin-requires
-begin-requires c κs = search needs
+root-of-requires : tie.Need-root-of-requires
+root-of-requires c κs = omega (arith, c .before .before .before .before .before .before .before .before .pre .map .roots (c .new .result .0), c .before .before .before .before .before .before .before .before .pre .pool .most)
 
 -- src/member.rt:89:5
 judge-requires : tie.Need-judge-requires
-judge-requires c κs = search needs
+judge-requires c κs = (c .before .before .before .before .before .before .before .before .before .before .before .pre .queues, (c .before .before .before .before .before .before .before .before .before .before .before .pre .pool, c .before .before .root-of .ensures .most))
 
 -- src/member.rt:76:1
 returns-2 : tie.Need-returns-2
 returns-2 c =
     let a = c .before .before .before .before .before .before .before .before .before .before .before .before .args in
     let made = control-made (c .before .before .before .before .before .before .before .before .before .before .before .before .pre .machines) (a .control) (c .before .before .before .before .before .before .before .before .if1 .left) (c .before .before .before .before .new .ensures) in
-    let root = rw made at (c .before .before .before .begin .ensures) in
+    let root = rw made at (c .before .before .before .root-of .ensures .is) in
     c .judge .ensures ∙ sym (ask-judged (c .before .before .before .before .before .before .before .before .before .before .before .before .pre) (a .control) (now (a .contents)) (c .before .before .before .before .before .before .before .before .if1 .left) root)
 
 pub ask-spec : {M : Type 1} → statement M
 ask-spec =
     tie.close
-    (tie.spec returns slice-aggregate-begin new-requires begin-requires judge-requires returns-2)
+    (tie.spec returns slice-aggregate-root-of new-requires root-of-requires judge-requires returns-2)

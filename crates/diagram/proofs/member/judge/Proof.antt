@@ -3,21 +3,25 @@ use Prim.Native.Nat.{_-_}
 use mathlib.Core.Path.{refl, sym, _∙_}
 use lib.ListN.{length}
 use denote.Ref.{now}
-use Rattle.diagram.specs.Said.{saidReached}
+use native.Mathlib.Omega.{arith}
+use Prim.Native.Nat.{_≤_}
+use Rattle.session.specs.Limits.{mostPool}
+use Rattle.session.specs.Kinds.{reachedOf}
+use Rattle.session.specs.Laws.Lookup.{arcs-small}
 use Rattle.session.specs.Laws.Kinds.{message-made}
 use Rattle.diagram.specs.Laws.Judging.{Judging, judging-begin, judging-unknown, judging-earlier, judging-on, judging-end}
 use Rattle.diagram.proofs.member.judge.Statement.{statement}
 use Rattle.diagram.proofs.member.judge.Tie as tie
 use Rattle.diagram.proofs.member.judge.Reads as reads
 use Rattle.diagram.proofs.member.judge.Lts as lts
-use Rattle.diagram.proofs.follow.along.Reads as along-reads
-use Rattle.diagram.proofs.follow.is_final.Reads as is-final-reads
+use Rattle.session.proofs.lookup.along.Reads as along-reads
+use Rattle.session.proofs.lookup.is_final.Reads as is-final-reads
 use Rattle.diagram.proofs.member.queue_of.Reads as queue-of-reads
 use Rattle.session.proofs.kinds.Message.new.Reads as new-reads
 use Rattle.numbers.proofs.number.wide.Reads as wide-reads
 
 abbrev Inv-loop : tie.InvT-loop
-Inv-loop q contents arcs finals at₀ queue₀ i₀ at queue i = Judging q finals arcs contents (saidReached at₀) i queue (saidReached at)
+Inv-loop q contents arcs finals at₀ queue₀ i₀ at queue i = Judging q finals arcs contents (reachedOf (at₀ .0)) i queue (reachedOf (at .0)) × (at .0 ≤ mostPool)
 
 abbrev μ-loop : tie.MeasureT-loop
 μ-loop q contents arcs finals at₀ queue₀ i₀ at queue i = length contents - i
@@ -26,7 +30,7 @@ abbrev μ-loop : tie.MeasureT-loop
 loop-holds : tie.Need-loop-holds Inv-loop μ-loop
 loop-holds c =
     let a = c .before .before .before .args in
-    judging-begin (a .q) (a .pool .finals) (a .pool .arcs) (now (a .contents)) (saidReached (a .start))
+    (judging-begin (a .q) (a .pool .finals) (a .pool .arcs) (now (a .contents)) (reachedOf (a .start .0)), c .before .before .before .pre .1 .1)
 
 -- src/member.rt:55:19
 shared-slice-read-raw : tie.Need-shared-slice-read-raw Inv-loop μ-loop
@@ -34,7 +38,7 @@ shared-slice-read-raw c = search needs
 
 -- src/member.rt:57:13
 returns : tie.Need-returns Inv-loop μ-loop
-returns c = judging-unknown (c .before .before .before .before .before .before .before .before .pre) (c .before .before .before .before .loop .inv) (c .before .before .before .loop-test .taken) refl (c .if1 .taken) (c .before .before .before .before .before .before .before .before .args .pool .count)
+returns c = judging-unknown (c .before .before .before .before .before .before .before .before .pre .0) (c .before .before .before .before .loop .inv .0) (c .before .before .before .loop-test .taken) refl (c .if1 .taken) (c .before .before .before .before .before .before .before .before .args .pool .count)
 
 -- src/member.rt:59:30
 wide-requires : tie.Need-wide-requires Inv-loop μ-loop
@@ -51,8 +55,8 @@ queue-of-requires c κs = search needs
 -- src/member.rt:62:13
 returns-2 : tie.Need-returns-2 Inv-loop μ-loop
 returns-2 c =
-    let made = message-made (c .before .before .before .before .before .before .before .before .before .before .before .before .pre) (c .before .before .before .before .if1 .left) (c .before .before .before .wide .ensures .same) (c .before .before .new .ensures) in
-    judging-earlier (c .before .before .before .before .before .before .before .before .before .before .before .before .pre) (c .before .before .before .before .before .before .before .before .loop .inv) (c .before .before .before .before .before .before .before .loop-test .taken) refl (c .before .before .before .before .if1 .left) made (c .before .queue-of .ensures) (c .if2 .taken) (c .before .before .before .before .before .before .before .before .before .before .before .before .args .pool .count)
+    let made = message-made (c .before .before .before .before .before .before .before .before .before .before .before .before .pre .0) (c .before .before .before .before .if1 .left) (c .before .before .before .wide .ensures .same) (c .before .before .new .ensures) in
+    judging-earlier (c .before .before .before .before .before .before .before .before .before .before .before .before .pre .0) (c .before .before .before .before .before .before .before .before .loop .inv .0) (c .before .before .before .before .before .before .before .loop-test .taken) refl (c .before .before .before .before .if1 .left) made (c .before .queue-of .ensures) (c .if2 .taken) (c .before .before .before .before .before .before .before .before .before .before .before .before .args .pool .count)
 
 -- src/member.rt:64:20
 slice-aggregate-along : tie.Need-slice-aggregate-along Inv-loop μ-loop
@@ -60,7 +64,10 @@ slice-aggregate-along c = search needs
 
 -- src/member.rt:64:9
 along-requires : tie.Need-along-requires Inv-loop μ-loop
-along-requires c κs = search needs
+along-requires c κs =
+    let p = c .before .before .before .before .before .before .before .before .before .before .before .before .before .pre in
+    let made = message-made (p .0) (c .before .before .before .before .before .if1 .left) (c .before .before .before .before .wide .ensures .same) (c .before .before .before .new .ensures) in
+    (arcs-small (p .1 .0), (c .before .before .before .before .before .before .before .before .before .loop .inv .1, omega (arith, made, c .before .before .before .before .before .if1 .left, p .0 .sumMost)))
 
 -- src/member.rt:66:9
 add-i : tie.Need-add-i Inv-loop μ-loop
@@ -73,8 +80,8 @@ loop-less c = search needs
 -- src/member.rt:54:5
 loop-again : tie.Need-loop-again Inv-loop μ-loop
 loop-again c =
-    let made = message-made (c .before .before .before .before .before .before .before .before .before .before .before .before .before .before .pre) (c .before .before .before .before .before .before .if1 .left) (c .before .before .before .before .before .wide .ensures .same) (c .before .before .before .before .new .ensures) in
-    judging-on (c .before .before .before .before .before .before .before .before .before .before .before .before .before .before .pre) (c .before .before .before .before .before .before .before .before .before .before .loop .inv) (c .before .before .before .before .before .before .before .before .before .loop-test .taken) refl (c .before .before .before .before .before .before .if1 .left) made (c .before .before .before .queue-of .ensures) (c .before .before .if2 .left) (c .along .ensures)
+    let made = message-made (c .before .before .before .before .before .before .before .before .before .before .before .before .before .before .pre .0) (c .before .before .before .before .before .before .if1 .left) (c .before .before .before .before .before .wide .ensures .same) (c .before .before .before .before .new .ensures) in
+    (judging-on (c .before .before .before .before .before .before .before .before .before .before .before .before .before .before .pre .0) (c .before .before .before .before .before .before .before .before .before .before .loop .inv .0) (c .before .before .before .before .before .before .before .before .before .loop-test .taken) refl (c .before .before .before .before .before .before .if1 .left) made (c .before .before .before .queue-of .ensures) (c .before .before .if2 .left) (c .along .ensures .is), c .along .ensures .most)
 
 -- src/member.rt:68:17
 slice-aggregate-is-final : tie.Need-slice-aggregate-is-final Inv-loop μ-loop
@@ -82,15 +89,15 @@ slice-aggregate-is-final c = search needs
 
 -- src/member.rt:68:8
 is-final-requires : tie.Need-is-final-requires Inv-loop μ-loop
-is-final-requires c κs = search needs
+is-final-requires c κs = (c .before .before .before .before .before .before .pre .1 .0 .finalsLong, c .before .before .loop .inv .1)
 
 -- src/member.rt:45:1
 returns-3 : tie.Need-returns-3 Inv-loop μ-loop
-returns-3 c = judging-end (c .before .before .before .before .before .before .before .before .pre) (c .before .before .before .before .loop .inv) (c .before .before .before .loop-test .left) (sym (c .if3 .taken) ∙ c .before .is-final .ensures) (c .before .before .before .before .before .before .before .before .args .pool .count)
+returns-3 c = judging-end (c .before .before .before .before .before .before .before .before .pre .0) (c .before .before .before .before .loop .inv .0) (c .before .before .before .loop-test .left) (sym (c .if3 .taken) ∙ c .before .is-final .ensures) (c .before .before .before .before .before .before .before .before .args .pool .count)
 
 -- src/member.rt:45:1
 returns-4 : tie.Need-returns-4 Inv-loop μ-loop
-returns-4 c = judging-end (c .before .before .before .before .before .before .before .before .pre) (c .before .before .before .before .loop .inv) (c .before .before .before .loop-test .left) (sym (c .if3 .left) ∙ c .before .is-final .ensures) (c .before .before .before .before .before .before .before .before .args .pool .count)
+returns-4 c = judging-end (c .before .before .before .before .before .before .before .before .pre .0) (c .before .before .before .before .loop .inv .0) (c .before .before .before .loop-test .left) (sym (c .if3 .left) ∙ c .before .is-final .ensures) (c .before .before .before .before .before .before .before .before .args .pool .count)
 
 pub judge-spec : {M : Type 1} → statement M
 judge-spec =

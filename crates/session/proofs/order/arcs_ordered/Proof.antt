@@ -16,7 +16,7 @@ use Rattle.session.proofs.order.arcs_ordered.Reads as reads
 use Rattle.session.proofs.order.arcs_ordered.Lts as lts
 use Rattle.numbers.proofs.number.entry.Reads as entry-reads
 use Rattle.numbers.proofs.number.wide.Reads as wide-reads
-use Rattle.session.proofs.pool.arc_of.Reads as arc-of-reads
+use Rattle.session.proofs.lookup.arc_of.Reads as arc-of-reads
 
 abbrev Inv-loop : tie.InvT-loop
 Inv-loop arcs lows s first end m₀ m = (arcsOrdered arcs lows first s (end - m) m ≡ arcsOrdered arcs lows first s (end - first) first) × (m ≤ end)

@@ -11,7 +11,7 @@ use Rattle.session.proofs.order.lowest_of.Statement.{statement}
 use Rattle.session.proofs.order.lowest_of.Tie as tie
 use Rattle.session.proofs.order.lowest_of.Reads as reads
 use Rattle.session.proofs.order.lowest_of.Lts as lts
-use Rattle.session.proofs.pool.arc_of.Reads as arc-of-reads
+use Rattle.session.proofs.lookup.arc_of.Reads as arc-of-reads
 
 abbrev Inv-loop : tie.InvT-loop
 Inv-loop arcs s sum m₀ m = (lowest arcs s (sum - m) m ≡ lowest arcs s sum 0) × (m ≤ sum)

@@ -1,3 +1,5 @@
+use Rattle.walk.specs.Pairs.{mostPairs}
+use Rattle.walk.specs.Shown.{mostShown}
 use Rattle.verdict.specs.Laws.Judged.{machines-asked, count-most}
 use borrow.Author.Needs.{needs}
 use Prim.Native.Nat.{ℕ, _+_, _*_, _-_, _≤_}
@@ -22,7 +24,7 @@ use Rattle.verdict.proofs.steps.judge_turn.Reads as judge-turn-reads
 
 abbrev Inv-loop : tie.InvT-loop
 Inv-loop m q rows arcs finals roots c count pairs seen₀ queue₀ contents₀ sum₀ i₀ seen queue contents sum i =
-    Going (λ T. Parts T m q rows arcs finals roots count) (pairs + 32512 * i)
+    Going (λ T. Parts T m q rows arcs finals roots count) (pairs + mostPairs * i)
     (λ T. decide (sessionOf T) (stepsAt (sessionOf T .model) (c .0) 0 (transitionsFrom rows count 0)) pairs)
     (λ T. stepsHere rows (c .0) count i T sum) contents₀ sum contents seen queue
     × (i ≤ count)
@@ -38,7 +40,7 @@ loop-holds c =
 -- src/steps.rt:75:13
 judge-turn-requires : tie.Need-judge-turn-requires Inv-loop μ-loop
 judge-turn-requires c κs =
-    (fewer-asked (c .before .before .before .before .before .before .before .before .before .before .before .before .pre .0) (omega arith), (omega (arith, c .before .before .before .before .loop .inv .0 .few, c .before .before .before .before .before .before .before .before .before .before .before .before .pre .1 .0, c .before .before .before .before .before .before .before .before .before .before .before .before .pre .0 .control, machines-asked (c .before .before .before .before .before .before .before .before .before .before .before .before .pre .0) .productMost, count-most (c .before .before .before .before .before .before .before .before .before .before .before .before .pre .0)), (c .before .before .before .before .loop .inv .0 .scratch, subst (λ (l : List ℕ). 32768 ≤ length l) (sym (c .before .before .before .before .loop .inv .0 .kept)) (c .before .before .before .before .before .before .before .before .before .before .before .before .pre .1 .1 .1))))
+    (fewer-asked (c .before .before .before .before .before .before .before .before .before .before .before .before .pre .0) (omega arith), (omega (arith, c .before .before .before .before .loop .inv .0 .few, c .before .before .before .before .before .before .before .before .before .before .before .before .pre .1 .0, c .before .before .before .before .before .before .before .before .before .before .before .before .pre .0 .control, machines-asked (c .before .before .before .before .before .before .before .before .before .before .before .before .pre .0) .productMost, count-most (c .before .before .before .before .before .before .before .before .before .before .before .before .pre .0)), (c .before .before .before .before .loop .inv .0 .scratch, subst (λ (l : List ℕ). mostShown ≤ length l) (sym (c .before .before .before .before .loop .inv .0 .kept)) (c .before .before .before .before .before .before .before .before .before .before .before .before .pre .1 .1 .1))))
 
 -- src/steps.rt:76:30
 enum-known-turn : tie.Need-enum-known-turn Inv-loop μ-loop

@@ -1,3 +1,5 @@
+use Rattle.walk.specs.Shown.{mostShown}
+use Rattle.verdict.specs.Judging.{mostAtControl}
 use Rattle.session.specs.Laws.Kinds.{control-made}
 use Rattle.verdict.specs.Laws.Judged.{machines-asked}
 use borrow.Author.Needs.{needs}
@@ -23,7 +25,7 @@ use Rattle.verdict.proofs.steps.judge_control.Reads as judge-control-re
 
 abbrev Inv-loop : tie.InvT-loop
 Inv-loop m q rows arcs finals roots count seen₀ queue₀ contents₀ product sum₀ c₀ seen queue contents sum c =
-    Going (λ T. Parts T m q rows arcs finals roots count × AllIn rows count T) (4161536 * c)
+    Going (λ T. Parts T m q rows arcs finals roots count × AllIn rows count T) (mostAtControl * c)
     (λ T. decide (sessionOf T) (stepsFrom (sessionOf T .model) 0 product) 0)
     (λ T. controlsHere product c T sum) contents₀ sum contents seen queue
     × (c ≤ product)
@@ -44,7 +46,7 @@ new-requires c κs = search needs
 judge-control-requires : tie.Need-judge-control-requires Inv-loop μ-loop
 judge-control-requires c κs =
     let made = control-made (machines-asked (c .before .before .before .before .before .before .before .before .before .before .before .before .before .pre .0)) (c .before .before .before .before .before .loop .c) (c .before .before .before .before .loop-test .taken) (c .before .before .before .new .ensures) in
-    (control-asked (c .before .before .before .before .before .before .before .before .before .before .before .before .before .pre .0) (omega (arith, made, c .before .before .before .before .loop-test .taken)), (omega (arith, made, c .before .before .before .before .before .loop .inv .0 .few), (c .before .before .before .before .before .loop .inv .0 .scratch, subst (λ (l : List ℕ). 32768 ≤ length l) (sym (c .before .before .before .before .before .loop .inv .0 .kept)) (c .before .before .before .before .before .before .before .before .before .before .before .before .before .pre .1 .1))))
+    (control-asked (c .before .before .before .before .before .before .before .before .before .before .before .before .before .pre .0) (omega (arith, made, c .before .before .before .before .loop-test .taken)), (omega (arith, made, c .before .before .before .before .before .loop .inv .0 .few), (c .before .before .before .before .before .loop .inv .0 .scratch, subst (λ (l : List ℕ). mostShown ≤ length l) (sym (c .before .before .before .before .before .loop .inv .0 .kept)) (c .before .before .before .before .before .before .before .before .before .before .before .before .before .pre .1 .1))))
 
 -- src/steps.rt:109:30
 enum-known-turn : tie.Need-enum-known-turn Inv-loop μ-loop

@@ -1,15 +1,16 @@
-use mathlib.Core.Path.{sym, ap, _∙_}
+use mathlib.Core.Path.{refl, sym, ap, _∙_}
 use denote.Ref.{now}
 use Rattle.session.specs.Said.{saidArc}
-use Rattle.walk.specs.Pairs.{place}
-use Rattle.walk.specs.Laws.Moves.{entry-within, arc-small, leads-nowhere, leads-as, read-missing, read-is}
+use Rattle.session.specs.Kinds.{reachedOf}
+use Rattle.walk.specs.Laws.Moves.{reads-along, leads-nowhere, leads-as, read-missing, read-is}
+use Rattle.session.specs.Laws.Lookup.{entry-within, arc-small}
 use borrow.Author.Needs.{needs}
 use Rattle.walk.proofs.moves.read.Statement.{statement}
 use Rattle.walk.proofs.moves.read.Tie as tie
 use Rattle.walk.proofs.moves.read.Reads as reads
 use Rattle.walk.proofs.moves.read.Lts as lts
-use Rattle.walk.proofs.moves.arc_at.Reads as arc-at-reads
-use Rattle.walk.proofs.moves.along.Reads as along-reads
+use Rattle.session.proofs.lookup.arc_at.Reads as arc-at-reads
+use Rattle.session.proofs.lookup.along.Reads as along-reads
 use Rattle.walk.proofs.moves.pair_to.Reads as pair-to-reads
 
 -- src/moves.rt:79:31
@@ -28,7 +29,7 @@ enum-told c = search needs
 returns : tie.Need-returns
 returns c =
     let a = c .before .before .before .before .args in
-    leads-nowhere (read-missing (now (a .arcs)) (a .entry) (a .x .side) (a .x .source) (place (a .x .target)) (a .m .0) (c .before .before .before .before .pre .1 .1) (sym (c .before .before .arc-at .ensures) ∙ ap saidArc (c .enum-told .given .1)))
+    leads-nowhere (read-missing (now (a .arcs)) (a .entry) (a .x .side) (a .x .source .0) (reachedOf (a .x .target .0)) (a .m .0) (c .before .before .before .before .pre .1 .1) (sym (c .before .before .arc-at .ensures) ∙ ap saidArc (c .enum-told .given .1)))
 
 -- src/moves.rt:82:9
 along-requires : tie.Need-along-requires
@@ -42,7 +43,7 @@ pair-to-requires c κs = record { side = c .before .before .before .before .befo
 returns-2 : tie.Need-returns-2
 returns-2 c =
     let a = c .before .before .before .before .before .before .before .args in
-    leads-as (read-is (a .entry) (a .x .side) (a .x .source) (a .m .0) (c .before .before .before .before .before .before .before .pre .1 .1) (sym (c .before .before .before .before .before .arc-at .ensures) ∙ ap saidArc (c .before .before .before .source .given .1)) (c .before .along .ensures)) (c .pair-to .ensures)
+    leads-as (read-is (a .entry) (a .x .side) (a .x .source .0) (a .m .0) (c .before .before .before .before .before .before .before .pre .1 .1) (sym (c .before .before .before .before .before .arc-at .ensures) ∙ ap saidArc (c .before .before .before .source .given .1)) (reads-along refl (c .before .before .before .before .before .before .before .pre .1 .1) (c .before .along .ensures))) (c .pair-to .ensures)
 
 pub read-spec : {M : Type 1} → statement M
 read-spec =
