@@ -10,7 +10,7 @@ use native.Mathlib.Omega.{arith}
 use Rattle.numbers.specs.Part.{Part, got, refused}
 use Rattle.session.specs.Said.{Reply, read, refusal, saidAnswer}
 use Rattle.session.specs.File.{readFile, replyOf, tablesOf, Reads}
-use Rattle.session.specs.Laws.Valid.{Valid}
+use Rattle.session.specs.Valid.{Valid}
 use Rattle.session.specs.declared.tables.Tables.{Tables}
 use Rattle.session.specs.declared.reading.Reading.{Reading}
 use Rattle.meaning.specs.Reply.{shownOf}

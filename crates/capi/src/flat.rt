@@ -10,9 +10,9 @@ use session::tables::ROWS;
 use session::tables::Tables;
 ghost use Prim.Native.Nat.{_+_, _≤_};
 ghost use lib.ListN.{length};
-ghost use Rattle.session.specs.Laws.Valid.{Valid};
 ghost use Rattle.numbers.specs.Put.{Put};
 ghost use Rattle.capi.specs.Flat.{four, fourLong, smallLong, largeLong, tablesLeast, small, large, flat};
+ghost use Rattle.session.specs.Valid.{Valid};
 
 // Bytes of the counts with the tables of machines and queues, of the large tables, and of all.
 const COUNTS: usize = 6;

@@ -8,8 +8,8 @@ use session::tables::TO;
 ghost use Prim.Native.Nat.{_+_, _<_, _≤_};
 ghost use lib.ListN.{length, getD};
 ghost use Rattle.session.specs.Rows.{rowLength, machineAt, toAt};
-ghost use Rattle.session.specs.Laws.Machines.{MachinesValid};
 ghost use Rattle.controls.specs.Controls.{IsAt, Moved};
+ghost use Rattle.session.specs.Valid.{MachinesValid};
 
 // Whether the machine of the transition is in its from-state.
 pub fn is_at(m: Machines, rows: &[u8], row: usize, c: ControlState) -> bool

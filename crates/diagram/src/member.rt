@@ -18,13 +18,11 @@ ghost use Prim.Native.Nat.{_≤_};
 ghost use lib.ListN.{take};
 ghost use Rattle.session.specs.Limits.{mostPool};
 ghost use Rattle.session.specs.Kinds.{reachedOf};
-ghost use Rattle.session.specs.Laws.Queues.{QueuesValid};
-ghost use Rattle.session.specs.Laws.Pool.{PoolValid};
-ghost use Rattle.session.specs.Laws.Valid.{Valid};
 ghost use Rattle.model.specs.Model.{queueOf};
 ghost use Rattle.meaning.specs.Tables.{poolOf, sessionOf};
 ghost use Rattle.diagram.specs.Said.{saidMember};
 ghost use Rattle.diagram.specs.Member.{judge, ask, memberOf};
+ghost use Rattle.session.specs.Valid.{QueuesValid, PoolValid, Valid};
 
 // The queue that a message belongs to.
 fn queue_of(q: Queues, m: Message) -> u8

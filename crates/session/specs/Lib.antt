@@ -11,6 +11,7 @@ pub mod Order
 pub mod Lowest
 pub mod Map
 pub mod Bad
+pub mod Valid
 pub mod Model
 pub mod Sets
 pub mod File

@@ -7,7 +7,7 @@ use Rattle.model.specs.Judge as Model
 use Rattle.model.specs.Laws.Items.{IsItem}
 use Rattle.meaning.specs.Tables.{sessionOf, transitionAt, entriesFrom}
 use Rattle.session.specs.Limits.{mostTransitions, mostBad}
-use Rattle.session.specs.Laws.Valid.{Valid}
+use Rattle.session.specs.Valid.{Valid}
 use Rattle.session.specs.declared.tables.Machines.{Machines}
 use Rattle.session.specs.declared.tables.Queues.{Queues}
 use Rattle.session.specs.declared.tables.Tables.{Tables}

@@ -16,10 +16,10 @@ ghost use mathlib.Core.Path.{_≡_};
 ghost use mathlib.Core.List.{List};
 ghost use Prim.Native.Nat.{ℕ, _≤_};
 ghost use lib.ListN.{length, replicate};
-ghost use Rattle.session.specs.Laws.Valid.{Valid};
 ghost use Rattle.meaning.specs.Checking.{Checks, CheckMeans, CheckTwoRuns};
 ghost use Rattle.verdict.specs.Judging.{AllAsked, AllParts};
 ghost use Rattle.verdict.specs.Check.{saidVerdict, concluded, Concludes, Room};
+ghost use Rattle.session.specs.Valid.{Valid};
 
 // Entries that a scratch table needs, and bytes that a contents buffer needs.
 pub const TABLE_LEAST: usize = CODES;

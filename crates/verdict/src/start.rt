@@ -9,8 +9,8 @@ use walk::pairs::AFTER;
 ghost use Prim.Native.Nat.{_+_, _<_, _≤_};
 ghost use lib.ListN.{length};
 ghost use Rattle.session.specs.Rows.{rowLength, queueAt};
-ghost use Rattle.session.specs.Laws.Queues.{QueuesValid};
 ghost use Rattle.verdict.specs.Start.{Cuts};
+ghost use Rattle.session.specs.Valid.{QueuesValid};
 
 // How an action parts the contents: the side it starts on, the first message that is read after it, and how many messages of
 // its word are taken out and put in.

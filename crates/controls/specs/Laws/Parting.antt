@@ -9,7 +9,7 @@ use lib.ListN.{length, getD, set, take, drop, length-take, drop-of-length-le}
 use lib.Seq.{drop-cons, getD-take}
 use Rattle.session.specs.Limits.{mostMachines, mostControls}
 use Rattle.session.specs.Kinds.{limited}
-use Rattle.session.specs.Laws.Machines.{MachinesValid}
+use Rattle.session.specs.Valid.{MachinesValid}
 use Rattle.session.specs.declared.tables.Machines.{Machines}
 use Rattle.model.specs.Model.{product, number, places}
 use Rattle.model.specs.Laws.Controls.{number-places, number-below, places-are-states, states-set}

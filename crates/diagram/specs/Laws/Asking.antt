@@ -10,7 +10,8 @@ use native.Mathlib.Omega.{arith}
 use Rattle.numbers.specs.Part.{Part, got, refused}
 use Rattle.session.specs.Said.{read, refusal as turnedAway}
 use Rattle.session.specs.File.{readFile, replyOf, tablesOf}
-use Rattle.session.specs.Laws.Valid.{Valid, valid}
+use Rattle.session.specs.Valid.{Valid}
+use Rattle.session.specs.Laws.Valid.{valid}
 use Rattle.session.specs.declared.tables.Tables.{Tables}
 use Rattle.model.specs.Model.{controls}
 use Rattle.meaning.specs.Tables.{poolOf, sessionOf}

@@ -9,7 +9,7 @@ use lib.Seq.{drop-cons}
 use borrow.Author.Tests.{lt-ltb, le-ltb, le-leb, lt-leb}
 use native.Mathlib.Omega.{arith}
 use native.Mathlib.Numerals.{add-one}
-use Rattle.session.specs.Laws.Queues.{QueuesValid}
+use Rattle.session.specs.Valid.{QueuesValid}
 use Rattle.session.specs.declared.tables.Queues.{Queues}
 use Rattle.session.specs.declared.tables.Pool as Declared
 use Rattle.model.specs.Model.{total, queueOf}

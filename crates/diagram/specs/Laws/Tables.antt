@@ -6,8 +6,7 @@ use lib.ListN.{take}
 use borrow.Author.Tests.{lt-ltb}
 use native.Mathlib.Omega.{arith}
 use Rattle.session.specs.Limits.{mostMessages}
-use Rattle.session.specs.Laws.Machines.{MachinesValid}
-use Rattle.session.specs.Laws.Queues.{QueuesValid}
+use Rattle.session.specs.Valid.{MachinesValid, QueuesValid}
 use Rattle.session.specs.declared.tables.Machines.{Machines}
 use Rattle.session.specs.declared.tables.Queues.{Queues}
 use Rattle.session.specs.declared.tables.Pool.{Pool}

@@ -8,10 +8,10 @@ use borrow.Author.Tests.{lt-ltb, le-ltb}
 use native.Mathlib.Omega.{arith}
 use native.Mathlib.Nat.{mul-assoc, mul-one, one-mul}
 use Rattle.session.specs.Queues as Table
-use Rattle.session.specs.Laws.Machines.{productOf}
 use Rattle.model.specs.Model.{product, firstOf, total, queueOf, Between, nothing, message}
 use Rattle.model.specs.Session.{States}
 use Rattle.model.specs.Laws.Queues.{first-zero}
+use Rattle.session.specs.Valid.{productOf}
 
 -- PRODUCTS
 product-snoc : (ks : List ℕ) (k : ℕ) → product (ks ++ (k ∷ [])) ≡ product ks * k

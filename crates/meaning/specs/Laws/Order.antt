@@ -11,8 +11,9 @@ use native.Mathlib.Omega.{arith}
 use Rattle.session.specs.Limits.{mostMessages}
 use Rattle.session.specs.Queues.{OfQueue}
 use Rattle.session.specs.Pool.{arcAt}
-use Rattle.session.specs.Laws.Queues.{QueuesValid, below-sum-of-queue}
-use Rattle.session.specs.Laws.Pool.{PoolValid, ArcValid, arc-valid}
+use Rattle.session.specs.Valid.{QueuesValid, PoolValid}
+use Rattle.session.specs.Laws.Queues.{below-sum-of-queue}
+use Rattle.session.specs.Laws.Pool.{ArcValid, arc-valid}
 use Rattle.session.specs.Order.{QueueOrdered}
 use Rattle.session.specs.declared.tables.Queues.{Queues}
 use Rattle.session.specs.declared.tables.Pool as Declared

@@ -6,9 +6,7 @@ use mathlib.Core.List.{List, List·Memᴰ·not-nil}
 use lib.ListN.{length, getD, getElem?, take, drop}
 use lib.Seq.{getD-drop, getD-take, length-take-le}
 use native.Mathlib.Omega.{arith}
-use Rattle.session.specs.Laws.Queues.{QueuesValid}
-use Rattle.session.specs.Laws.Transitions.{RowValid, TransitionsValid}
-use Rattle.session.specs.Laws.Bad.{BadValid}
+use Rattle.session.specs.Valid.{QueuesValid, RowValid, TransitionsValid, BadValid}
 use Rattle.session.specs.declared.tables.Machines.{Machines}
 use Rattle.session.specs.declared.tables.Queues.{Queues}
 use Rattle.session.specs.declared.tables.Transitions.{Transitions}

@@ -7,8 +7,7 @@ use lib.ListN.{getD}
 use lib.Dec.{eqb}
 use borrow.Author.Tests.{eqb-false}
 use native.Mathlib.Omega.{arith}
-use Rattle.session.specs.Laws.Map.{MapValid}
-use Rattle.session.specs.Laws.Valid.{Valid}
+use Rattle.session.specs.Valid.{MapValid, Valid}
 use Rattle.session.specs.declared.tables.Map.{Map}
 use Rattle.session.specs.declared.tables.Tables.{Tables}
 use Rattle.model.specs.Session.{WellFormed}

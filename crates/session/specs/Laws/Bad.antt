@@ -14,15 +14,8 @@ use Rattle.session.specs.Bad.{readEntries, readBad}
 use Rattle.numbers.specs.Laws.Ranges.{within-range, two-range}
 use Rattle.numbers.specs.Laws.Written.{changed-set, changed-then, Written, written-none, written-more, zeros-hold}
 use Rattle.numbers.specs.Laws.Rounds.{Rounds, rounds-keep}
+use Rattle.session.specs.Valid.{BadValid}
 use Rattle.session.specs.declared.tables.BadList.{BadList}
-
--- of product control states, over a pool of n states
-pub record BadValid (product n : ℕ) (B : BadList) : Type 0 where
-  pub most : B .count ≤ mostBad
-  pub long : length (B .rows) ≡ mostBad * 2
-  pub control : (b : ℕ) → b < B .count → getD (B .rows) (b * 2) 0 < product
-  pub root : (b : ℕ) → b < B .count → getD (B .rows) (b * 2 + 1) 0 < n
-  pub rest : (k : ℕ) → B .count * 2 ≤ k → getD (B .rows) k 0 ≡ 0
 
 abbrev Fits : ℕ → ℕ → ℕ → List ℕ → Type 0
 Fits product n b rows = (getD rows (b * 2) 0 < product) × (getD rows (b * 2 + 1) 0 < n)

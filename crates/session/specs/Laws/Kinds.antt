@@ -5,8 +5,7 @@ use borrow.Author.Tests.{lt-ltb}
 use native.Mathlib.Omega.{arith}
 use Rattle.session.specs.Limits.{mostMessages, mostControls}
 use Rattle.session.specs.Kinds.{limited}
-use Rattle.session.specs.Laws.Machines.{MachinesValid}
-use Rattle.session.specs.Laws.Queues.{QueuesValid}
+use Rattle.session.specs.Valid.{MachinesValid, QueuesValid}
 use Rattle.session.specs.declared.tables.Machines.{Machines}
 use Rattle.session.specs.declared.tables.Queues.{Queues}
 

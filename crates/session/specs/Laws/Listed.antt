@@ -18,7 +18,8 @@ use Rattle.session.specs.Pool.{arcAt, readState, readStates, readPool}
 use Rattle.numbers.specs.Laws.Ranges.{within-range}
 use Rattle.numbers.specs.Laws.Parts.{andThen-assoc, andThen-same}
 use Rattle.numbers.specs.Laws.Written.{Changed, zeros-hold}
-use Rattle.session.specs.Laws.Pool.{PoolValid, pool-valid, entry-arc}
+use Rattle.session.specs.Valid.{PoolValid}
+use Rattle.session.specs.Laws.Pool.{pool-valid, entry-arc}
 use Rattle.session.specs.Laws.Arcs.{listArcs, putArcs, arcOf, Ascends, entryOf, arcs-listed, arcs-ascend, arcs-changed, arcs-entered}
 use Rattle.session.specs.declared.tables.Pool.{Pool}
 

@@ -13,8 +13,9 @@ use Rattle.session.specs.Limits.{mostPool, mostMessages}
 use Rattle.session.specs.Kinds.{limited, reachedOf}
 use Rattle.session.specs.Pool.{arcAt}
 use Rattle.session.specs.Lookup.{rootOf, alongArc, finalAt, ArcsSmall, RootAt, AlongTo}
+use Rattle.session.specs.Valid.{PoolValid}
 use Rattle.session.specs.Laws.Kinds.{made-is}
-use Rattle.session.specs.Laws.Pool.{PoolValid, arc-entry}
+use Rattle.session.specs.Laws.Pool.{arc-entry}
 use Rattle.session.specs.declared.tables.Pool.{Pool}
 
 -- PLACES: nowhere, or a state

@@ -13,15 +13,11 @@ use Rattle.numbers.specs.Laws.Parts.{andThen-got, same-value}
 use Rattle.numbers.specs.Number.{readWithin, readBelow}
 use Rattle.session.specs.Machines.{readFactor, readSizes, readStarts, countedMachines, readMachines}
 use Rattle.numbers.specs.Laws.Ranges.{below-range, within-range}
+use Rattle.session.specs.Valid.{productOf, MachinesValid}
 use Rattle.session.specs.Laws.Ranges.{factor-range, factor-within}
 use Rattle.numbers.specs.Laws.Written.{Entries, entries-none, entries-more, zeros-hold}
 use Rattle.numbers.specs.Laws.Rounds.{Rounds, rounds-keep}
 use Rattle.session.specs.declared.tables.Machines.{Machines}
-
--- the product of the first entries, as many as are asked for
-unfoldable pub productOf : List ℕ → ℕ → ℕ
-productOf sizes zero = 1
-productOf sizes (suc i) = productOf sizes i * getD sizes i 0
 
 pub product-same : (t u : List ℕ) (i : ℕ) → ((k : ℕ) → k < i → getD u k 0 ≡ getD t k 0) → productOf u i ≡ productOf t i
 unfolding productOf
@@ -33,19 +29,6 @@ unfolding productOf
 product-set t i v h =
     ap (productOf (set t i v)) (add-one i)
     ∙ ap₂ (λ x y. x * y) (product-same t (set t i v) i (λ k l. getD-set-other t i k v 0 (omega arith))) (getD-set-same t i v 0 h)
-
-pub record MachinesValid (m : Machines) : Type 0 where
-  pub least : 1 ≤ m .count
-  pub most : m .count ≤ mostMachines
-  pub statesLong : length (m .states) ≡ mostMachines
-  pub startsLong : length (m .starts) ≡ mostMachines
-  pub states : (i : ℕ) → i < m .count → (1 ≤ getD (m .states) i 0) × (getD (m .states) i 0 ≤ mostStates)
-  pub starts : (i : ℕ) → i < m .count → getD (m .starts) i 0 < getD (m .states) i 0
-  pub statesRest : (i : ℕ) → m .count ≤ i → getD (m .states) i 0 ≡ 0
-  pub startsRest : (i : ℕ) → m .count ≤ i → getD (m .starts) i 0 ≡ 0
-  pub product : m .product ≡ productOf (m .states) (m .count)
-  pub productLeast : 1 ≤ m .product
-  pub productMost : m .product ≤ mostControls
 
 -- of the machines before number i: their states, over the table as it was, and their product
 record Sized (before : List ℕ) (i : ℕ) (x : ℕ × List ℕ) : Type 0 where

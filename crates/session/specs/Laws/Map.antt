@@ -16,13 +16,8 @@ use Rattle.session.specs.Map.{readRoots, readMap}
 use Rattle.numbers.specs.Laws.Ranges.{within-range}
 use Rattle.numbers.specs.Laws.Written.{Entries, entries-none, entries-more, zeros-hold}
 use Rattle.numbers.specs.Laws.Rounds.{Rounds, rounds-keep}
+use Rattle.session.specs.Valid.{MapValid}
 use Rattle.session.specs.declared.tables.Map.{Map}
-
--- of product control states, over a pool of n states: an entry is 0 for no root, or 1 plus the root
-pub record MapValid (product n : ℕ) (R : Map) : Type 0 where
-  pub long : length (R .roots) ≡ mostControls
-  pub roots : (c : ℕ) → getD (R .roots) c 0 ≤ n
-  pub rest : (c : ℕ) → product ≤ c → getD (R .roots) c 0 ≡ 0
 
 module _ (s : List ℕ) (n : ℕ) where
   pub roots-rounds : Rounds (λ left i at x. readRoots s at n left i x) (λ i at x. readWithin s at 0 n) (λ i v x. set x i v)

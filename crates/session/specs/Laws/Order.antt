@@ -17,8 +17,9 @@ use Rattle.session.specs.Pool.{arcAt}
 use Rattle.session.specs.Lowest.{lowest, lowests, arcsOrdered, statesOrdered, queuesOrdered, inQueueOrder}
 use Rattle.session.specs.Order.{QueueOrdered}
 use Rattle.numbers.specs.Laws.Written.{at-or-other}
-use Rattle.session.specs.Laws.Queues.{QueuesValid, first-ascends, of-queue-below-sum, below-sum-of-queue}
-use Rattle.session.specs.Laws.Pool.{PoolValid, arc-valid}
+use Rattle.session.specs.Valid.{QueuesValid, PoolValid}
+use Rattle.session.specs.Laws.Queues.{first-ascends, of-queue-below-sum, below-sum-of-queue}
+use Rattle.session.specs.Laws.Pool.{arc-valid}
 use Rattle.session.specs.declared.tables.Queues.{Queues}
 use Rattle.session.specs.declared.tables.Pool.{Pool}
 

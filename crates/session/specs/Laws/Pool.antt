@@ -16,22 +16,11 @@ use Rattle.numbers.specs.Laws.Parts.{andThen-got, same-value}
 use Rattle.numbers.specs.Number.{readWithin, readBelow}
 use Rattle.session.specs.Pool.{arcAt, readArc, readArcs, readState, readStates, readPool}
 use Rattle.numbers.specs.Laws.Ranges.{below-range, within-range}
+use Rattle.session.specs.Valid.{PoolValid}
 use Rattle.session.specs.Laws.Ranges.{arc-range}
 use Rattle.numbers.specs.Laws.Written.{at-or-other, Changed, changed-none, changed-set, changed-then, changed-wider, Entries, entries-none, entries-more, Written, written-none, written-more, zeros-hold}
 use Rattle.numbers.specs.Laws.Rounds.{Rounds, rounds-keep}
 use Rattle.session.specs.declared.tables.Pool.{Pool}
-
--- over messages below sum: an entry of the arcs is 0 for none, or 1 plus the target
-pub record PoolValid (sum : ℕ) (P : Pool) : Type 0 where
-  pub least : 1 ≤ P .count
-  pub most : P .count ≤ mostPool
-  pub finalsLong : length (P .finals) ≡ mostPool
-  pub arcsLong : length (P .arcs) ≡ mostPool * mostMessages
-  pub finals : (i : ℕ) → i < P .count → getD (P .finals) i 0 < 2
-  pub finalsRest : (i : ℕ) → P .count ≤ i → getD (P .finals) i 0 ≡ 0
-  pub arcs : (i m : ℕ) → i < P .count → m < mostMessages → getD (P .arcs) (i * mostMessages + m) 0 ≤ P .count
-  pub arcsAbove : (i m : ℕ) → i < P .count → sum ≤ m → m < mostMessages → getD (P .arcs) (i * mostMessages + m) 0 ≡ 0
-  pub arcsRest : (k : ℕ) → P .count * mostMessages ≤ k → getD (P .arcs) k 0 ≡ 0
 
 -- an arc of the table is an entry that is not 0
 pub arc-entry : (arcs : List ℕ) (i m : ℕ) {t : ℕ} → arcAt arcs i m ≡ some t → getD arcs (i * mostMessages + m) 0 ≡ suc t

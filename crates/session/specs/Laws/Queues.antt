@@ -16,6 +16,7 @@ use Rattle.numbers.specs.Laws.Parts.{andThen-got, same-value}
 use Rattle.numbers.specs.Number.{readWithin}
 use Rattle.session.specs.Queues.{readTerm, readCounts, readQueues, firstOf, OfQueue}
 use Rattle.numbers.specs.Laws.Ranges.{within-range}
+use Rattle.session.specs.Valid.{QueuesValid}
 use Rattle.session.specs.Laws.Ranges.{term-within, term-range}
 use Rattle.numbers.specs.Laws.Written.{Entries, entries-none, entries-more, zeros-hold}
 use Rattle.numbers.specs.Laws.Rounds.{Rounds, rounds-keep}
@@ -65,16 +66,6 @@ message-placed t (suc n) m h = go (message-placed t n m) (ltb m (firstOf t n)) r
     go earlier true e =
         let q = earlier (ltb-true m (firstOf t n) e) in (q .0, omega (arith, q .1), q .2, q .3)
     go earlier false e = (n, omega arith, ltb-false m (firstOf t n) e, h)
-
-pub record QueuesValid (q : Queues) : Type 0 where
-  pub least : 1 ≤ q .count
-  pub most : q .count ≤ mostQueues
-  pub long : length (q .messages) ≡ mostQueues
-  pub messages : (i : ℕ) → i < q .count → (1 ≤ getD (q .messages) i 0) × (getD (q .messages) i 0 ≤ mostMessages)
-  pub rest : (i : ℕ) → q .count ≤ i → getD (q .messages) i 0 ≡ 0
-  pub sum : q .sum ≡ firstOf (q .messages) (q .count)
-  pub sumLeast : 1 ≤ q .sum
-  pub sumMost : q .sum ≤ mostMessages
 
 pub of-queue-below-sum : (q : Queues) (p m : ℕ) → QueuesValid q → OfQueue q p m → m < q .sum
 of-queue-below-sum q p m z o = omega (arith, first-ascends (q .messages) (suc p) (q .count) (o .queue), z .sum, o .below)

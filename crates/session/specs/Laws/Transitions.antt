@@ -16,6 +16,7 @@ use Rattle.numbers.specs.Number.{readWithin, readBelow, readTwo}
 use Rattle.session.specs.Queues.{firstOf, OfQueue}
 use Rattle.session.specs.Transitions.{readMessage, readWord, readAction, readTransition, readRows, readTransitions}
 use Rattle.numbers.specs.Laws.Ranges.{below-range, within-range, two-range}
+use Rattle.session.specs.Valid.{MoveValid, ActionValid, RowValid, TransitionsValid}
 use Rattle.session.specs.Laws.Ranges.{message-range}
 use Rattle.numbers.specs.Laws.Written.{Changed, changed-none, changed-set, changed-then, changed-wider, Entries, entries-none, entries-more, Written, written-none, written-more, zeros-hold}
 use Rattle.numbers.specs.Laws.Rounds.{Rounds, rounds-keep}
@@ -23,33 +24,6 @@ use Rattle.session.specs.declared.tables.Machines.{Machines}
 use Rattle.session.specs.declared.tables.Queues.{Queues}
 use Rattle.session.specs.declared.tables.Transitions.{Transitions}
 use Rattle.session.specs.Rows.{rowLength, rowsLength, fromEntry, toEntry, kindEntry, queueEntry, lengthEntry, wordEntry, machineAt, fromAt, toAt, kindAt, queueAt, lengthAt}
-
--- machine i from state a to state b, of kind k
-pub record MoveValid (m : Machines) (i a b k : ℕ) : Type 0 where
-  pub machine : i < m .count
-  pub from : a < getD (m .states) i 0
-  pub to : b < getD (m .states) i 0
-  pub kind : k < 3
-
--- queue p and a word of length len, whose messages stand from entry first on
-pub record ActionValid (q : Queues) (p len first : ℕ) (rows : List ℕ) : Type 0 where
-  pub queue : p < q .count
-  pub most : len ≤ mostWord
-  pub word : (j : ℕ) → j < len → OfQueue q p (getD rows (first + j) 0)
-  pub below : (j : ℕ) → j < len → getD rows (first + j) 0 < q .sum
-  pub rest : (j : ℕ) → len ≤ j → j < mostWord → getD rows (first + j) 0 ≡ 0
-
--- the row that begins at entry row; of a local transition queue and word length are 0, and so is the word
-pub record RowValid (m : Machines) (q : Queues) (rows : List ℕ) (row : ℕ) : Type 0 where
-  pub move : MoveValid m (machineAt rows row) (fromAt rows row) (toAt rows row) (kindAt rows row)
-  pub action : ActionValid q (queueAt rows row) (lengthAt rows row) (wordEntry row) rows
-  pub local : kindAt rows row ≡ 0 → (queueAt rows row ≡ 0) × (lengthAt rows row ≡ 0)
-
-pub record TransitionsValid (m : Machines) (q : Queues) (τ : Transitions) : Type 0 where
-  pub most : τ .count ≤ mostTransitions
-  pub long : length (τ .rows) ≡ rowsLength
-  pub row : (t : ℕ) → t < τ .count → RowValid m q (τ .rows) (t * rowLength)
-  pub rest : (k : ℕ) → τ .count * rowLength ≤ k → getD (τ .rows) k 0 ≡ 0
 
 -- a row looks at its own ten entries
 row-same : (m : Machines) (q : Queues) (row : ℕ) (t u : List ℕ) → ((k : ℕ) → k < row + rowLength → getD u k 0 ≡ getD t k 0)

@@ -13,38 +13,20 @@ use Rattle.session.specs.Bad.{readBad}
 use Rattle.session.specs.Model.{readModel}
 use Rattle.session.specs.Sets.{readSets}
 use Rattle.session.specs.File.{readFile}
-use Rattle.session.specs.Laws.Machines.{MachinesValid, machines-valid}
-use Rattle.session.specs.Laws.Queues.{QueuesValid, queues-valid}
-use Rattle.session.specs.Laws.Transitions.{TransitionsValid, transitions-valid}
-use Rattle.session.specs.Laws.Pool.{PoolValid, pool-valid}
+use Rattle.session.specs.Valid.{MachinesValid, QueuesValid, TransitionsValid, PoolValid, MapValid, BadValid, Valid, ModelValid, SetsValid}
+use Rattle.session.specs.Laws.Machines.{machines-valid}
+use Rattle.session.specs.Laws.Queues.{queues-valid}
+use Rattle.session.specs.Laws.Transitions.{transitions-valid}
+use Rattle.session.specs.Laws.Pool.{pool-valid}
 use Rattle.session.specs.Order.{QueueOrdered}
 use Rattle.session.specs.Laws.Order.{ordered-is}
-use Rattle.session.specs.Laws.Map.{MapValid, map-valid}
-use Rattle.session.specs.Laws.Bad.{BadValid, bad-valid}
+use Rattle.session.specs.Laws.Map.{map-valid}
+use Rattle.session.specs.Laws.Bad.{bad-valid}
 use Rattle.session.specs.Laws.Fields.{ToPool, read-is}
 use Rattle.session.specs.declared.tables.ModelTables.{ModelTables}
 use Rattle.session.specs.declared.tables.Pool.{Pool}
 use Rattle.session.specs.declared.tables.SetTables.{SetTables}
 use Rattle.session.specs.declared.tables.Tables.{Tables}
-
-pub record Valid (T : Tables) : Type 0 where
-  pub machines : MachinesValid (T .machines)
-  pub queues : QueuesValid (T .queues)
-  pub transitions : TransitionsValid (T .machines) (T .queues) (T .transitions)
-  pub pool : PoolValid (T .queues .sum) (T .pool)
-  pub ordered : QueueOrdered (T .queues) (T .pool)
-  pub map : MapValid (T .machines .product) (T .pool .count) (T .map)
-  pub bad : BadValid (T .machines .product) (T .pool .count) (T .bad)
-
--- THE MODEL AND THE SETS of a file that was read, each from its own fields
-pub record ModelValid (M : ModelTables) : Type 0 where
-  pub machines : MachinesValid (M .machines)
-  pub queues : QueuesValid (M .queues)
-  pub transitions : TransitionsValid (M .machines) (M .queues) (M .transitions)
-
-pub record SetsValid (product n : ℕ) (D : SetTables) : Type 0 where
-  pub map : MapValid product n (D .map)
-  pub bad : BadValid product n (D .bad)
 
 pub model-valid : (s : List ℕ) (at : ℕ) {M : ModelTables} {next : ℕ} → readModel s at ≡ got M next → ModelValid M
 unfolding readModel

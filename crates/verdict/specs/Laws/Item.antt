@@ -6,7 +6,7 @@ use mathlib.Core.Option.{Option, none, some, Option·map}
 use mathlib.Core.List.{List, [], _∷_, _++_}
 use native.Mathlib.Omega.{arith}
 use lib.ListN.{length, getD, take, drop, length-take}
-use Rattle.session.specs.Laws.Valid.{Valid}
+use Rattle.session.specs.Valid.{Valid}
 use Rattle.session.specs.declared.tables.Tables.{Tables}
 use Rattle.model.specs.Model.{Action, local, send, receive, messages, moved}
 use Rattle.model.specs.Session.{Session}

@@ -8,8 +8,7 @@ use native.Mathlib.Omega.{arith}
 use native.Mathlib.Nat.{zero-add}
 use lib.ListN.{length, getElem?, take, drop}
 use Rattle.session.specs.Limits.{mostTransitions}
-use Rattle.session.specs.Laws.Machines.{MachinesValid}
-use Rattle.session.specs.Laws.Transitions.{RowValid}
+use Rattle.session.specs.Valid.{MachinesValid, RowValid}
 use Rattle.session.specs.declared.kinds.ControlState.{ControlState}
 use Rattle.session.specs.declared.tables.Machines.{Machines}
 use Rattle.session.specs.declared.tables.Queues.{Queues}

@@ -6,7 +6,8 @@ use mathlib.Core.List.{List}
 use native.Mathlib.Omega.{arith}
 use lib.ListN.{length, getD, take, drop}
 use Rattle.session.specs.Queues as Table
-use Rattle.session.specs.Laws.Queues.{QueuesValid, first-ascends}
+use Rattle.session.specs.Valid.{QueuesValid}
+use Rattle.session.specs.Laws.Queues.{first-ascends}
 use Rattle.session.specs.declared.tables.Queues.{Queues}
 use Rattle.model.specs.Model.{Action, local, send, receive, firstOf}
 use Rattle.model.specs.Judge.{out, into, rootPair}

@@ -8,14 +8,11 @@ use native.Mathlib.Omega.{arith}
 use native.Mathlib.Nat.{mul-le-mul}
 use lib.ListN.{length, getD, take, drop, length-append, length-drop}
 use lib.Seq.{drop-at}
+use Rattle.session.specs.Valid.{MachinesValid, QueuesValid, RowValid, Valid}
 use Rattle.session.specs.declared.tables.Machines.{Machines}
 use Rattle.session.specs.declared.tables.Queues.{Queues}
 use Rattle.session.specs.declared.tables.Tables.{Tables}
 use Rattle.model.specs.Session.{Session}
-use Rattle.session.specs.Laws.Valid.{Valid}
-use Rattle.session.specs.Laws.Machines.{MachinesValid}
-use Rattle.session.specs.Laws.Queues.{QueuesValid}
-use Rattle.session.specs.Laws.Transitions.{RowValid}
 use Rattle.model.specs.Verdict.{Item, step, entry, items, Pair, most}
 use Rattle.model.specs.Judge as Model
 use Rattle.model.specs.Judge.{passes, fails, judge}

@@ -5,7 +5,7 @@ use mathlib.Core.List.{List, _++_}
 use native.Mathlib.Omega.{arith}
 use lib.ListN.{length}
 use Rattle.session.specs.Limits.{mostControls, mostBad}
-use Rattle.session.specs.Laws.Valid.{Valid}
+use Rattle.session.specs.Valid.{Valid}
 use Rattle.session.specs.declared.tables.Machines.{Machines}
 use Rattle.session.specs.declared.tables.Queues.{Queues}
 use Rattle.session.specs.declared.tables.Tables.{Tables}

@@ -4,10 +4,8 @@ use mathlib.Core.List.{List}
 use Prim.Native.Nat.{ℕ, _+_, _*_, _≤_, _<_}
 use native.Mathlib.Omega.{arith}
 use lib.ListN.{length, getD}
+use Rattle.session.specs.Valid.{QueuesValid, TransitionsValid, Valid}
 use Rattle.session.specs.Laws.Lookup.{arcs-small}
-use Rattle.session.specs.Laws.Queues.{QueuesValid}
-use Rattle.session.specs.Laws.Transitions.{TransitionsValid}
-use Rattle.session.specs.Laws.Valid.{Valid}
 use Rattle.session.specs.declared.tables.Machines.{Machines}
 use Rattle.session.specs.declared.tables.Queues.{Queues}
 use Rattle.session.specs.declared.tables.Transitions.{Transitions}
