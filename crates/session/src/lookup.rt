@@ -30,7 +30,7 @@ pub fn root_of(roots: &[u8], c: ControlState) -> Reached
     if root == 0 {
         return Reached::nowhere();
     }
-    Reached::at(DiagramState::new(wide(root) - 1))
+    Reached::at(DiagramState(root - 1))
 }
 
 // The arc of a state for a message. The entry is in the table, so a walk makes no test for its end.

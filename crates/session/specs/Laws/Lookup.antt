@@ -10,11 +10,10 @@ use lib.ListN.{length, getD}
 use lib.Dec.{eqb}
 use borrow.Author.Tests.{eq-eqb, ne-eqb, eqb-true, eqb-false}
 use Rattle.session.specs.Limits.{mostPool, mostMessages}
-use Rattle.session.specs.Kinds.{limited, reachedOf}
+use Rattle.session.specs.Kinds.{reachedOf}
 use Rattle.session.specs.Pool.{arcAt}
 use Rattle.session.specs.Lookup.{rootOf, alongArc, finalAt, ArcsSmall, RootAt, AlongTo}
 use Rattle.session.specs.Valid.{PoolValid}
-use Rattle.session.specs.Laws.Kinds.{made-is}
 use Rattle.session.specs.Laws.Pool.{arc-entry}
 use Rattle.session.specs.declared.tables.Pool.{Pool}
 
@@ -43,12 +42,12 @@ module _ (roots : List ℕ) (c root : ℕ) (e : root ≡ getD roots c 0) where
   pub root-missing : root ≡ 0 → {r : ℕ} → r ≡ mostPool → RootAt roots c r
   root-missing z {r} n = record { is = reached-nowhere n ∙ sym (rw (sym e ∙ z, rootOf)); most = omega arith }
 
-  pub root-there : (root ≡ 0 → ⊥) → root ≤ mostPool → {wide s r : ℕ} → wide ≡ root → s ≡ limited mostPool (wide - 1) → r ≡ s
-      → RootAt roots c r
-  root-there z m {wide} {s} {r} w made same =
-      let own : r ≡ root - 1 = same ∙ made-is mostPool (wide - 1) (omega arith) made ∙ ap (λ n. n - 1) w in
+  pub root-there : (root ≡ 0 → ⊥) → root ≤ mostPool → {r : ℕ} → r ≡ root - 1 → RootAt roots c r
+  root-there z m own =
       record {
-        is = reached-small (omega arith) ∙ ap some own
+        is =
+            reached-small (omega arith)
+            ∙ ap some own
             ∙ sym (rw (ne-eqb (getD roots c 0) 0 (λ w. z (e ∙ w)), rootOf) (ap (λ n. some (n - 1)) (sym e)));
         most = omega arith;
       }

@@ -7,7 +7,6 @@ use Rattle.session.proofs.lookup.root_of.Reads as reads
 use Rattle.session.proofs.lookup.root_of.Lts as lts
 use Rattle.numbers.proofs.number.entry.Reads as entry-reads
 use Rattle.numbers.proofs.number.wide.Reads as wide-reads
-use Rattle.session.proofs.kinds.DiagramState.new.Reads as new-reads
 use Rattle.session.proofs.kinds.Reached.at.Reads as at-reads
 use Rattle.session.proofs.kinds.Reached.nowhere.Reads as nowhere-reads
 
@@ -27,17 +26,9 @@ nowhere-requires c κs = search needs
 returns : tie.Need-returns
 returns c = root-missing _ _ _ (rw (c .before .before .before .wide .ensures .same) at (c .before .before .entry .ensures)) (c .before .if1 .taken) (c .nowhere .ensures)
 
--- src/lookup.rt:33:35
-wide-requires-2 : tie.Need-wide-requires-2
-wide-requires-2 c κs = search needs
-
--- src/lookup.rt:33:35
-sub-new : tie.Need-sub-new
-sub-new c = search needs
-
--- src/lookup.rt:33:17
-new-requires : tie.Need-new-requires
-new-requires c κs = search needs
+-- src/lookup.rt:33:30
+sub-t6 : tie.Need-sub-t6
+sub-t6 c = search needs
 
 -- src/lookup.rt:33:5
 at-requires : tie.Need-at-requires
@@ -46,19 +37,10 @@ at-requires c κs = search needs
 -- src/lookup.rt:25:1
 returns-2 : tie.Need-returns-2
 returns-2 c =
-    let e = rw (c .before .before .before .before .before .wide .ensures .same) at (c .before .before .before .before .entry .ensures) in
-    root-there _ _ _ e (c .before .before .before .if1 .left) (omega (arith, e, c .before .before .before .before .before .before .before .pre)) (c .before .before .wide2 .ensures .same) (c .before .new .ensures) (c .at .ensures)
+    let e = rw (c .before .before .before .wide .ensures .same) at (c .before .before .entry .ensures) in
+    root-there _ _ _ e (c .before .if1 .left) (omega (arith, e, c .before .before .before .before .before .pre)) (c .at .ensures)
 
 pub root-of-spec : {M : Type 1} → statement M
 root-of-spec =
     tie.close
-    (tie.spec
-    wide-requires
-    entry-requires
-    nowhere-requires
-    returns
-    wide-requires-2
-    sub-new
-    new-requires
-    at-requires
-    returns-2)
+    (tie.spec wide-requires entry-requires nowhere-requires returns sub-t6 at-requires returns-2)
