@@ -3,15 +3,20 @@ use mathlib.Core.Path.{_≡_}
 use mathlib.Core.List.{List, [], _∷_, _++_, reverse}
 use Prim.Native.Nat.{ℕ, suc, _≤_}
 use lib.ListN.{length, take, drop}
+use mathlib.Core.Option.{some}
 use Rattle.explore.specs.Search.{Outcome, found, finished, trace}
-use Rattle.model.specs.Verdict.{Pair}
+use Rattle.explore.specs.Size.{Size}
+use Rattle.session.specs.Limits.{mostPool}
+use Rattle.model.specs.Session.{Session, WellFormed}
+use Rattle.model.specs.Verdict.{Item, Pair, Visited}
 use Rattle.model.specs.Judge as Judge
-use Rattle.model.specs.Judge.{same, passes, fails}
+use Rattle.model.specs.Judge.{same, passes, fails, walkOf}
+use Rattle.model.specs.Laws.Items.{IsItem}
 use Rattle.walk.specs.declared.pairs.Walk.{Walk}
 use Rattle.walk.specs.declared.judge.Judged.{Judged}
 use Rattle.walk.specs.declared.judge.Judged.the-variants.{Passes, Fails}
 use Rattle.walk.specs.Marks.{Blank}
-use Rattle.walk.specs.Over.{goOver, searchOver}
+use Rattle.walk.specs.Over.{goOver, searchOver, walkOver, Over}
 use Rattle.walk.specs.Shown.{partOver, mostShown}
 
 -- the contents that a word of letters stands for
@@ -52,3 +57,15 @@ pub record Judges (arcs finals rows : List ℕ) (w : Walk) (root : Pair) (conten
   pub number : shownBy r ≡ length (shownOf (judgedOver arcs finals rows w root))
   pub shown : contents′
       ≡ shownOf (judgedOver arcs finals rows w root) ++ drop (length (shownOf (judgedOver arcs finals rows w root))) contents
+
+-- the walk is that of an item of a session that the tables are of
+pub record WalksItem (arcs finals rows : List ℕ) (w : Walk) (root : Pair) (S : Session) (i : Item) : Type 0 where
+  pub over : Over arcs finals (w .sum) S
+  pub formed : WellFormed S
+  pub few : S .pool .states ≤ mostPool
+  pub item : IsItem S i
+  pub begun : walkOf S i ≡ some (record { walk = walkOver rows w; root = root })
+
+-- THE NUMBER of a walk that passes is the size of the item's set of pairs
+pub record Counts (arcs finals rows : List ℕ) (w : Walk) (root : Pair) (r : Judged) : Type 0 where
+  pub size : (S : Session) (i : Item) → WalksItem arcs finals rows w root S i → (n : ℕ) → r ≡ Passes n → Size (Visited S i) n

@@ -22,7 +22,7 @@ use Rattle.walk.specs.declared.judge.Judged.{Judged}
 use Rattle.walk.specs.Pairs.{stride, mostPairs}
 use Rattle.walk.specs.Shown.{mostShown}
 use Rattle.walk.specs.Over.{walkOver, Over}
-use Rattle.walk.specs.Judged.{judgedOver, ShownFits, saidJudged, Judges}
+use Rattle.walk.specs.Judged.{judgedOver, ShownFits, saidJudged, Judges, Counts}
 use Rattle.walk.specs.Laws.Judged.{judged-is}
 
 -- so many states have no more pairs than there are numbers
@@ -57,3 +57,18 @@ module _ (arcs finals rows : List ℕ) (w : Walk) (root : Pair) (S : Session) (o
   pub answer-means : {contents seen′ queue′ contents′ : List ℕ} {r : Judged} → Judges arcs finals rows w root contents seen′ queue′ contents′ r
       → JudgedMeans S i (saidJudged r contents′)
   answer-means j = subst (JudgedMeans S i) (sym (j .reply ∙ judged-item)) (judge-means S wf i item)
+
+-- its number is the size of the item's set of pairs
+pub judged-counts : {arcs finals rows : List ℕ} {w : Walk} {root : Pair} {contents seen′ queue′ contents′ : List ℕ} {r : Judged}
+    → Judges arcs finals rows w root contents seen′ queue′ contents′ r → Counts arcs finals rows w root r
+judged-counts {arcs} {finals} {rows} {w} {root} {contents′ = contents′} j =
+    record {
+      size = λ S i W n e.
+          subst (λ r. JudgedMeans S i (saidJudged r contents′)) e
+          (answer-means arcs finals rows w root S (W .over) (W .formed) (W .few) i (W .item) (W .begun) j) .1;
+    }
+
+pub with-counts : {arcs finals rows : List ℕ} {w : Walk} {root : Pair} {contents seen′ queue′ contents′ : List ℕ} {r : Judged}
+    → Judges arcs finals rows w root contents seen′ queue′ contents′ r
+    → Judges arcs finals rows w root contents seen′ queue′ contents′ r × Counts arcs finals rows w root r
+with-counts j = (j, judged-counts j)

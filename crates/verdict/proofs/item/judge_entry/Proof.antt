@@ -60,7 +60,7 @@ returns-2 c =
     let h = root-as (c .before .before .before .before .before .before .before .before .before .before .before .before .before .before .root-of .ensures) (c .before .before .before .before .before .before .before .before .before .before .before .state .ensures) in
     let e = state-somewhere (c .before .before .before .before .before .before .before .before .before .before .before .state .ensures) (nowhere-false _ (c .before .before .before .before .before .before .before .before .before .before .before .before .before .is-nowhere .ensures) (c .before .before .before .before .before .before .before .before .before .before .before .before .if1 .left)) in
     let s = c .before .before .before .before .before .before .before .before .before .before .before .before .before .before .before .before .before .before .before .before .before .before .pre .1 .0 in
-    entry-walked (c .before .before .before .before .before .before .before .before .before .before .before .before .before .before .before .before .before .before .before .before .before .before .pre .0) h e (c .before .before .before .before .before .before .before .before .before .before .at .ensures) (c .before .before .before .before .before .before .judge .ensures) (c .before .before .before .before .before .before .judge .kept .1 .1 .1 .1 .1 .0 ∙ s .seenLong) (c .before .before .before .before .before .before .judge .kept .1 .1 .1 .1 .1 .1 .0 ∙ s .queueLong) (c .before .before .before .before .before .before .judge .kept .1 .1 .1 .1 .1 .1 .1 .0)
+    entry-walked (c .before .before .before .before .before .before .before .before .before .before .before .before .before .before .before .before .before .before .before .before .before .before .pre .0) h e (c .before .before .before .before .before .before .before .before .before .before .at .ensures) (c .before .before .before .before .before .before .judge .ensures .0) (c .before .before .before .before .before .before .judge .kept .1 .1 .1 .1 .1 .0 ∙ s .seenLong) (c .before .before .before .before .before .before .judge .kept .1 .1 .1 .1 .1 .1 .0 ∙ s .queueLong) (c .before .before .before .before .before .before .judge .kept .1 .1 .1 .1 .1 .1 .1 .0)
 
 pub judge-entry-spec : {M : Type 1} → statement M
 judge-entry-spec =

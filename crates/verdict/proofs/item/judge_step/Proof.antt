@@ -75,7 +75,7 @@ returns-2 : tie.Need-returns-2
 returns-2 c =
     let b = begins _ (c .before .before .before .before .before .before .before .before .before .before .before .before .before .before .before .before .root-of .ensures) (nowhere-false _ (c .before .before .before .before .before .before .before .before .before .before .before .before .before .before .before .is-nowhere .ensures) (c .before .before .before .before .before .before .before .before .before .before .before .before .before .before .if1 .left)) (c .before .before .before .before .before .before .before .before .before .before .state .ensures) (c .before .before .before .before .before .before .before .before .before .before .before .before .before .moved .ensures) (c .before .before .before .before .before .before .before .before .before .before .before .before .root-of2 .ensures) (c .before .before .before .before .before .before .before .before .before .before .before .cut-of .ensures) in
     let s = c .before .before .before .before .before .before .before .before .before .before .before .before .before .before .before .before .before .before .before .before .before .before .before .before .pre .1 .0 in
-    step-walked _ (c .before .before .before .before .before .before .before .before .before .before .before .before .before .before .before .before .before .before .before .before .before .before .before .before .pre .0) b (c .before .before .before .before .before .before .judge .ensures) (c .before .before .before .before .before .before .judge .kept .1 .1 .1 .1 .1 .0 ∙ s .seenLong) (c .before .before .before .before .before .before .judge .kept .1 .1 .1 .1 .1 .1 .0 ∙ s .queueLong) (c .before .before .before .before .before .before .judge .kept .1 .1 .1 .1 .1 .1 .1 .0)
+    step-walked _ (c .before .before .before .before .before .before .before .before .before .before .before .before .before .before .before .before .before .before .before .before .before .before .before .before .pre .0) b (c .before .before .before .before .before .before .judge .ensures .0) (c .before .before .before .before .before .before .judge .kept .1 .1 .1 .1 .1 .0 ∙ s .seenLong) (c .before .before .before .before .before .before .judge .kept .1 .1 .1 .1 .1 .1 .0 ∙ s .queueLong) (c .before .before .before .before .before .before .judge .kept .1 .1 .1 .1 .1 .1 .1 .0)
 
 pub judge-step-spec : {M : Type 1} → statement M
 judge-step-spec =

@@ -2,6 +2,7 @@ use denote.Ref.{now}
 use Rattle.walk.specs.Pairs.{pairOf}
 use Rattle.walk.specs.Laws.Exploring.{answered-at}
 use Rattle.walk.specs.Laws.Judged.{judged-finished, judged-found, judges-passes, judges-fails}
+use Rattle.walk.specs.Laws.Items.{with-counts}
 use borrow.Author.Needs.{needs}
 use Rattle.walk.proofs.judge.judge.Statement.{statement}
 use Rattle.walk.proofs.judge.judge.Tie as tie
@@ -50,7 +51,7 @@ same-length-2 c = search needs
 returns : tie.Need-returns
 returns c =
     let a = c .before .before .before .before .before .before .before .before .before .before .before .before .before .before .before .before .before .before .before .before .before .before .before .args in
-    judges-passes (judged-finished (now (a .arcs)) (now (a .finals)) (now (a .rows)) (a .w) (pairOf (a .root)) (answered-at (c .before .before .before .before .before .before .before .before .tail .given .1) (c .before .before .before .before .before .before .before .before .before .before .before .before .before .before .search .ensures))) (c .before .before .before .before .clear .ensures)
+    with-counts (judges-passes (judged-finished (now (a .arcs)) (now (a .finals)) (now (a .rows)) (a .w) (pairOf (a .root)) (answered-at (c .before .before .before .before .before .before .before .before .tail .given .1) (c .before .before .before .before .before .before .before .before .before .before .before .before .before .before .search .ensures))) (c .before .before .before .before .clear .ensures))
 
 -- src/judge.rt:24:1
 same-length-3 : tie.Need-same-length-3
@@ -68,7 +69,7 @@ same-length-5 c = search needs
 returns-2 : tie.Need-returns-2
 returns-2 c =
     let a = c .before .before .before .before .before .before .before .before .before .before .before .before .before .before .before .before .before .before .before .before .before .before .before .before .before .before .before .before .before .args in
-    judges-fails (judged-found (now (a .arcs)) (now (a .finals)) (now (a .rows)) (a .w) (pairOf (a .root)) (answered-at (c .before .before .before .before .before .before .before .before .before .before .before .before .before .before .k .given .1) (c .before .before .before .before .before .before .before .before .before .before .before .before .before .before .before .before .before .before .before .before .search .ensures))) (c .before .before .before .before .clear2 .ensures) (c .before .before .before .before .before .before .before .before .before .show .ensures)
+    with-counts (judges-fails (judged-found (now (a .arcs)) (now (a .finals)) (now (a .rows)) (a .w) (pairOf (a .root)) (answered-at (c .before .before .before .before .before .before .before .before .before .before .before .before .before .before .k .given .1) (c .before .before .before .before .before .before .before .before .before .before .before .before .before .before .before .before .before .before .before .before .search .ensures))) (c .before .before .before .before .clear2 .ensures) (c .before .before .before .before .before .before .before .before .before .show .ensures))
 
 pub judge-spec : {M : Type 1} → statement M
 judge-spec =
