@@ -1,64 +1,61 @@
 -- The line that is written of a verdict is the line of checking's reply; and with enough lent it is the line of the file's reply.
-use Prim.Native.Nat.{ℕ, _+_, _*_, _≤_, _<_}
+use Prim.Native.Nat.{ℕ, _+_, _*_, _≤_}
 use mathlib.Core.Path.{_≡_, refl, sym, ap, subst, _∙_}
 use mathlib.Core.List.{List, _++_}
-use lib.ListN.{length, take, drop, replicate, length-take, length-replicate}
+use lib.ListN.{length, drop, replicate, length-replicate}
 use lib.Dec.{leb}
 use borrow.Author.Tests.{le-leb}
 use native.Mathlib.Omega.{arith}
-use Rattle.meaning.specs.Reply.{FileReply, refused, verdict, shownOf, lineOf, replyOf, replyTo}
-use Rattle.meaning.specs.Checking.{checkOf, readLent, Checks, enough, tableLeast, contentsLeast, mostShown}
-use Rattle.meaning.specs.Laws.Checking.{Ways, long, little, whole, ways, enough-long, long-enough, lent-enough, lent-sound}
-use Rattle.meaning.specs.Laws.Shown.{shown-fits, shown-within, contents-kept}
+use Rattle.meaning.specs.Reply.{shownOf, lineOf, replyOf, replyTo}
+use Rattle.meaning.specs.Checking.{checkOf, readLent, Checks, tableLeast, contentsLeast, mostShown}
+use Rattle.meaning.specs.Laws.Checking.{long-enough, lent-enough, lent-sound}
+use Rattle.meaning.specs.Laws.Shown.{shown-fits}
 use Rattle.line.specs.Said.{said, shownBy, holds, given, Writes}
 use Rattle.line.specs.declared.verdict.Verdict.{Verdict as Line}
-use Rattle.line.specs.declared.verdict.Verdict.the-variants.{Closed, Outside, Leaves, Bad, Refused}
-use Rattle.verdict.specs.Check.{saidVerdict}
+use Rattle.verdict.specs.Check.{saidVerdict, shownIn}
+use Rattle.verdict.specs.Laws.Shows.{checks-shows}
 use Rattle.verdict.specs.declared.check.Verdict.{Verdict}
 use Rattle.verdict.specs.declared.check.Verdict.the-variants as Verdict
 use Rattle.answer.specs.Printed.{printedOf}
 use Rattle.answer.specs.Answer.{lineIn, Answers, mostLine, Lines}
 
--- fewer messages than there are: the front has as many as were asked for
-front-long : (n : ℕ) (contents : List ℕ) → length (take n contents) < length contents → n ≡ length (take n contents)
-front-long n contents h = omega (arith, length-take n contents)
-
--- how many messages are shown: by a verdict that shows fewer than the contents have, and by a refusal
-shown-of : (p : Line) (contents : List ℕ) → length (shownOf (said p contents)) < length contents → shownBy p ≡ length (shownOf (said p contents))
-shown-of (Closed n) contents h = refl
-shown-of Outside contents h = refl
-shown-of (Leaves c t n) contents h = front-long n contents h
-shown-of (Bad b n) contents h = front-long n contents h
-shown-of (Refused k j) contents h = refl
-
-shown-refused : (p : Line) (contents : List ℕ) {k j : ℕ} → said p contents ≡ refused k j → shownBy p ≡ length (shownOf (said p contents))
-shown-refused (Closed n) contents e = refl
-shown-refused Outside contents e = refl
-shown-refused (Leaves c t n) contents e = absurd (let z : _≡_ {A = ℕ} 0 1 = cc in omega arith)
-shown-refused (Bad b n) contents e = absurd (let z : _≡_ {A = ℕ} 0 1 = cc in omega arith)
-shown-refused (Refused k j) contents e = refl
-
 -- room for a line that shows no more messages than there are, and no more than any verdict shows
 room-for : (room contents shown : ℕ) → shown ≤ contents → shown ≤ mostShown → holds room contents shown ≡ leb (4 * shown + 41) room
 room-for room contents shown h k = rw (le-leb shown contents h, le-leb shown contentsLeast (omega arith))
 
-module _ {file seen queue contents seen₁ queue₁ contents₁ : List ℕ} (p : Line) (checks : Checks file seen queue contents (said p contents₁) seen₁ queue₁ contents₁) where
-  kept : length contents₁ ≡ length contents
-  kept = ap length (checks .contents) ∙ contents-kept file seen queue contents
+-- what is printed of a verdict says what the verdict says, and shows as many messages
+said-printed : (v : Verdict) (contents : List ℕ) → saidVerdict v contents ≡ said (printedOf v) contents
+said-printed (Verdict.Closed n) contents = refl
+said-printed Verdict.Outside contents = refl
+said-printed (Verdict.Leaves c t n) contents = refl
+said-printed (Verdict.Bad b n) contents = refl
+said-printed (Verdict.Refused why) contents = refl
+said-printed Verdict.ShortMemory contents = refl
+
+shown-printed : (v : Verdict) → shownBy (printedOf v) ≡ shownIn v
+shown-printed (Verdict.Closed n) = refl
+shown-printed Verdict.Outside = refl
+shown-printed (Verdict.Leaves c t n) = refl
+shown-printed (Verdict.Bad b n) = refl
+shown-printed (Verdict.Refused why) = refl
+shown-printed Verdict.ShortMemory = refl
+
+module _ {file seen queue contents seen₁ queue₁ contents₁ : List ℕ} (v : Verdict) (p : Line) (e : p ≡ printedOf v)
+    (given-checks : Checks file seen queue contents (saidVerdict v contents₁) seen₁ queue₁ contents₁) where
+  same : saidVerdict v contents₁ ≡ said p contents₁
+  same = said-printed v contents₁ ∙ ap (λ l. said l contents₁) (sym e)
+
+  checks : Checks file seen queue contents (said p contents₁) seen₁ queue₁ contents₁
+  checks = subst (λ x. Checks file seen queue contents x seen₁ queue₁ contents₁) same given-checks
 
   few : length (shownOf (said p contents₁)) ≤ mostShown
   few = subst (λ r. length (shownOf r) ≤ mostShown) (sym (checks .reply)) (shown-fits (readLent file seen queue contents) (lent-sound file seen queue contents))
 
-  within : length (shownOf (said p contents₁)) ≤ length contents₁
-  within = let w = subst (λ r. length (shownOf r) ≤ length contents) (sym (checks .reply)) (shown-within file seen queue contents) in omega (arith, w, kept)
-
   counted : shownBy p ≡ length (shownOf (said p contents₁))
-  counted = go (ways file seen queue contents)
-    where
-      go : Ways file seen queue contents (readLent file seen queue contents) → shownBy p ≡ length (shownOf (said p contents₁))
-      go (long e) = shown-refused p contents₁ (checks .reply ∙ ap replyTo e)
-      go (little h l e) = shown-refused p contents₁ (checks .reply ∙ ap replyTo e)
-      go (whole h e) = shown-of p contents₁ (omega (arith, few, kept, enough-long file seen queue contents h .2))
+  counted = ap shownBy e ∙ shown-printed v ∙ checks-shows v given-checks .number ∙ ap (λ r. length (shownOf r)) same
+
+  within : length (shownOf (said p contents₁)) ≤ length contents₁
+  within = omega (arith, ap shownBy e ∙ shown-printed v, counted, checks-shows v given-checks .within)
 
   room : (n : ℕ) → holds n (length contents₁) (shownBy p) ≡ leb (4 * length (shownOf (said p contents₁)) + 41) n
   room n = ap (holds n (length contents₁)) counted ∙ room-for n (length contents₁) (length (shownOf (said p contents₁))) within few
@@ -77,31 +74,17 @@ module _ {file seen queue contents seen₁ queue₁ contents₁ : List ℕ} (p :
     contents = checks .contents;
   }
 
--- what is printed of a verdict says what the verdict says
-said-printed : (v : Verdict) (contents : List ℕ) → saidVerdict v contents ≡ said (printedOf v) contents
-said-printed (Verdict.Closed n) contents = refl
-said-printed Verdict.Outside contents = refl
-said-printed (Verdict.Leaves c t n) contents = refl
-said-printed (Verdict.Bad b n) contents = refl
-said-printed (Verdict.Refused why) contents = refl
-said-printed Verdict.ShortMemory contents = refl
-
 -- CHECKED, PRINTED AND WRITTEN: ANSWERED
 pub answered-by : {file seen queue contents seen₁ queue₁ contents₁ buffer buffer₁ : List ℕ} {r : ℕ} (v : Verdict) (p : Line) → p ≡ printedOf v
     → Checks file seen queue contents (saidVerdict v contents₁) seen₁ queue₁ contents₁ → Writes buffer p contents₁ buffer₁ r
     → Answers file seen queue contents buffer seen₁ queue₁ contents₁ buffer₁ r
-answered-by {file} {seen} {queue} {contents} {seen₁} {queue₁} {contents₁} v p e checks w =
-    answered p
-    (subst (λ x. Checks file seen queue contents x seen₁ queue₁ contents₁) (said-printed v contents₁ ∙ ap (λ l. said l contents₁) (sym e)) checks)
-    w
+answered-by v p e checks w = answered v p e checks w
 
 -- a verdict that is printed says checking's reply, and tells how many messages that shows
 pub counted-by : {file seen queue contents seen₁ queue₁ contents₁ : List ℕ} (v : Verdict) (p : Line) → p ≡ printedOf v
     → Checks file seen queue contents (saidVerdict v contents₁) seen₁ queue₁ contents₁
     → (said p contents₁ ≡ checkOf file seen queue contents .reply) × (shownBy p ≡ length (shownOf (said p contents₁)))
-counted-by {file} {seen} {queue} {contents} {seen₁} {queue₁} {contents₁} v p e checks =
-    let own = subst (λ x. Checks file seen queue contents x seen₁ queue₁ contents₁) (said-printed v contents₁ ∙ ap (λ l. said l contents₁) (sym e)) checks in
-    (own .reply, counted p own)
+counted-by v p e given-checks = (checks v p e given-checks .reply, counted v p e given-checks)
 
 -- with enough lent checking's reply is the reply to the file
 reply-whole : (file seen queue contents : List ℕ) → tableLeast ≤ length seen → tableLeast ≤ length queue → contentsLeast ≤ length contents

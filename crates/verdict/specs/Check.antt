@@ -10,7 +10,7 @@ use Rattle.session.specs.declared.tables.Tables.{Tables}
 use Rattle.model.specs.Verdict.{closed, outside, leaves, bad}
 use Rattle.model.specs.Judge as Model
 use Rattle.meaning.specs.Tables.{sessionOf}
-use Rattle.meaning.specs.Reply.{FileReply, refused, verdict}
+use Rattle.meaning.specs.Reply.{FileReply, refused, verdict, shownOf}
 use Rattle.verdict.specs.Judging.{Kept}
 use Rattle.verdict.specs.declared.judged.Progress.{Progress}
 use Rattle.verdict.specs.declared.judged.Progress.the-variants as Progress
@@ -33,6 +33,11 @@ shownIn (Leaves control transition shown) = shown
 shownIn (Bad number shown) = shown
 shownIn (Refused why) = 0
 shownIn ShortMemory = 0
+
+-- THE NUMBER that a verdict carries is that of the messages shown, and the buffer has as many
+pub record Shows (r : Verdict) (contents : List ℕ) : Type 0 where
+  pub number : shownIn r ≡ length (shownOf (saidVerdict r contents))
+  pub within : shownIn r ≤ length contents
 
 -- the items have been judged
 abbrev pub concluded : Progress → Verdict

@@ -10,3 +10,4 @@ pub mod Begin
 pub mod Whole
 pub mod Check
 pub mod Reply
+pub mod Shows
