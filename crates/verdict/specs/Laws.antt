@@ -9,5 +9,5 @@ pub mod Walked
 pub mod Begin
 pub mod Whole
 pub mod Check
-pub mod Reply
 pub mod Shows
+pub mod Reply

@@ -18,7 +18,7 @@ ghost use Prim.Native.Nat.{ℕ, _≤_};
 ghost use lib.ListN.{length, replicate};
 ghost use Rattle.meaning.specs.Checking.{Checks, CheckMeans, CheckTwoRuns};
 ghost use Rattle.verdict.specs.Judging.{AllAsked, AllParts};
-ghost use Rattle.verdict.specs.Check.{saidVerdict, concluded, Concludes, Room};
+ghost use Rattle.verdict.specs.Check.{saidVerdict, Shows, concluded, Concludes, Room};
 ghost use Rattle.session.specs.Valid.{Valid};
 
 // Entries that a scratch table needs, and bytes that a contents buffer needs.
@@ -148,6 +148,7 @@ pub fn check(file: &[u8], seen: &mut [u16], queue: &mut [u16], contents: &mut [u
     ensures { λ r. ⌜ Checks (now (file .entry)) (now (seen .entry)) (now (queue .entry)) (now (contents .entry)) (saidVerdict r (now (contents .exit))) (now (seen .exit)) (now (queue .exit)) (now (contents .exit)) ⌝ }
     ensures two_runs { λ r. ⌜ ((ts : List ℕ) → CheckTwoRuns (now (file .entry)) (now (seen .entry)) (now (queue .entry)) (now (contents .entry)) (saidVerdict r (now (contents .exit))) ts) ⌝ }
     ensures means { λ r. ⌜ CheckMeans (now (file .entry)) (now (seen .entry)) (now (queue .entry)) (now (contents .entry)) (saidVerdict r (now (contents .exit))) ⌝ }
+    ensures shows { λ r. ⌜ Shows r (now (contents .exit)) ⌝ }
 {
     if MOST_BYTES < file.len() {
         return Verdict::Refused(Refusal::TooLong);

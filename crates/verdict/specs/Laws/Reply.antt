@@ -1,6 +1,6 @@
 -- Checking's promises, from what its parts say.
 use Prim.Native.Nat.{ℕ, _≤_, _<_}
-use mathlib.Core.Path.{_≡_, refl, sym, ap, subst, _∙_}
+use mathlib.Core.Path.{_≡_, refl, sym, ap, _∙_}
 use mathlib.Core.Bool.{false}
 use mathlib.Core.List.{List, _++_}
 use native.Mathlib.Omega.{arith}
@@ -17,26 +17,29 @@ use Rattle.session.specs.Laws.Reading.{answer-refused, answer-read, answer-vali
 use Rattle.session.specs.declared.reading.Reading.{Reading}
 use Rattle.session.specs.declared.reading.Answer.the-variants.{Read, Refused as AnswerRefused}
 use Rattle.numbers.specs.declared.refusal.Refusal.{Refusal}
-use Rattle.session.specs.declared.tables.Tables.{Tables}
+use Rattle.numbers.specs.declared.refusal.Refusal.the-variants.{TooLong}
 use Rattle.model.specs.Judge as Model
 use Rattle.meaning.specs.Tables.{sessionOf}
-use Rattle.meaning.specs.Reply.{FileReply, refused, verdict, replyTo, shownOf}
+use Rattle.meaning.specs.Reply.{verdict, replyTo, shownOf}
 use Rattle.meaning.specs.Checking.{enough, readLent, tableAfter, contentsAfter, Checks, CheckMeans, CheckTwoRuns}
 use Rattle.meaning.specs.Laws.Checking.{lent-long, lent-little, lent-enough, long-enough, checks-made, checks-refused, check-means, check-two-runs}
 use Rattle.verdict.specs.Judging.{Kept}
-use Rattle.verdict.specs.Check.{saidVerdict, shownIn, Room, Concludes}
+use Rattle.verdict.specs.Check.{saidVerdict, shownIn, Shows, Room, Concludes}
+use Rattle.verdict.specs.Laws.Shows.{checks-shows}
 use Rattle.verdict.specs.declared.check.Verdict.{Verdict}
 use Rattle.verdict.specs.declared.check.Verdict.the-variants.{Closed, Outside, Leaves, Bad, Refused, ShortMemory}
 
--- all three promises come from the first
-abbrev pub Promised : List ℕ → List ℕ → List ℕ → List ℕ → FileReply → List ℕ → List ℕ → List ℕ → Type 0
-Promised file seen queue contents r seen₁ queue₁ contents₁ =
-    Checks file seen queue contents r seen₁ queue₁ contents₁
-    × (((ts : List ℕ) → CheckTwoRuns file seen queue contents r ts) × CheckMeans file seen queue contents r)
+-- all four promises come from the first
+abbrev pub Promised : List ℕ → List ℕ → List ℕ → List ℕ → Verdict → List ℕ → List ℕ → List ℕ → Type 0
+Promised file seen queue contents v seen₁ queue₁ contents₁ =
+    Checks file seen queue contents (saidVerdict v contents₁) seen₁ queue₁ contents₁
+    × (((ts : List ℕ) → CheckTwoRuns file seen queue contents (saidVerdict v contents₁) ts)
+    × (CheckMeans file seen queue contents (saidVerdict v contents₁) × Shows v contents₁))
 
-pub promised : (file seen queue contents : List ℕ) {r : FileReply} {seen₁ queue₁ contents₁ : List ℕ}
-    → Checks file seen queue contents r seen₁ queue₁ contents₁ → Promised file seen queue contents r seen₁ queue₁ contents₁
-promised file seen queue contents k = (k, (check-two-runs file seen queue contents k, check-means file seen queue contents k))
+pub promised : (file seen queue contents : List ℕ) (v : Verdict) {seen₁ queue₁ contents₁ : List ℕ}
+    → Checks file seen queue contents (saidVerdict v contents₁) seen₁ queue₁ contents₁ → Promised file seen queue contents v seen₁ queue₁ contents₁
+promised file seen queue contents v k =
+    (k, (check-two-runs file seen queue contents k, (check-means file seen queue contents k, checks-shows v k)))
 
 -- the contents shown are the front of the buffer, and the rest is kept
 shown-front : (r : Verdict) (contents₁ : List ℕ) → shownOf (saidVerdict r contents₁) ≡ take (shownIn r) contents₁
@@ -56,11 +59,11 @@ contents-after r contents contents₁ k =
     ∙ ap (λ u. u ++ drop (length u) contents) (sym (shown-front r contents₁))
 
 module _ (file seen queue contents : List ℕ) where
-  pub too-long : 16384 < length file → Promised file seen queue contents (refused 1 16384) seen queue contents
-  too-long h = promised file seen queue contents (checks-refused file seen queue contents 1 16384 (lent-long file seen queue contents h) refl)
+  pub too-long : 16384 < length file → Promised file seen queue contents (Refused TooLong) seen queue contents
+  too-long h = promised file seen queue contents (Refused TooLong) (checks-refused file seen queue contents 1 16384 (lent-long file seen queue contents h) refl)
 
-  pub too-little : length file ≤ 16384 → enough seen queue contents ≡ false → Promised file seen queue contents (refused 2 0) seen queue contents
-  too-little h e = promised file seen queue contents (checks-refused file seen queue contents 2 0 (lent-little file seen queue contents h e) refl)
+  pub too-little : length file ≤ 16384 → enough seen queue contents ≡ false → Promised file seen queue contents ShortMemory seen queue contents
+  too-little h e = promised file seen queue contents ShortMemory (checks-refused file seen queue contents 2 0 (lent-little file seen queue contents h e) refl)
 
   module _ (reading : Reading) (read : Reads (readFile file) reading)
       (room : mostPairs ≤ length seen) (space : mostPairs ≤ length queue) (buffer : mostShown ≤ length contents) where
@@ -68,9 +71,9 @@ module _ (file seen queue contents : List ℕ) where
     given = lent-enough file seen queue contents (long-enough file seen queue contents room space buffer)
 
     pub not-read : (why : Refusal) → reading .answer ≡ AnswerRefused why
-        → Promised file seen queue contents (refused (numberOf why) (placeOf why)) seen queue contents
+        → Promised file seen queue contents (Refused why) seen queue contents
     not-read why e =
-        promised file seen queue contents
+        promised file seen queue contents (Refused why)
         (checks-refused file seen queue contents (numberOf why) (placeOf why)
         (given ∙ answer-refused (readFile file) reading read (numberOf why) (placeOf why) (ap saidAnswer e)) refl)
 
@@ -80,9 +83,9 @@ module _ (file seen queue contents : List ℕ) where
     pub judged : reading .answer ≡ Read → (r : Verdict) (seen′ queue′ seen₁ queue₁ contents₁ : List ℕ)
         → seen′ ≡ replicate (length seen) 0 → queue′ ≡ replicate (length queue) 0
         → Concludes (λ T. T ≡ reading .tables) seen′ queue′ contents r seen₁ queue₁ contents₁
-        → Promised file seen queue contents (saidVerdict r contents₁) seen₁ queue₁ contents₁
+        → Promised file seen queue contents r seen₁ queue₁ contents₁
     judged e r seen′ queue′ seen₁ queue₁ contents₁ es eq k =
-        promised file seen queue contents
+        promised file seen queue contents r
         (checks-made file seen queue contents
         (is ∙ sym (ap replyTo (given ∙ answer-read (readFile file) reading read (ap saidAnswer e) .1)))
         (k .seen ∙ es ∙ sym (ap (λ x. tableAfter x seen) is))
