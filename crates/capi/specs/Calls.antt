@@ -8,7 +8,7 @@ use lib.ListN.{length, drop}
 use lib.Dec.{leb}
 use Rattle.numbers.specs.Part.{Part, got, refused}
 use Rattle.session.specs.File.{readFile, replyOf}
-use Rattle.session.specs.declared.tables.Tables.{Tables}
+use Rattle.tables.specs.declared.tables.Tables.{Tables}
 use Rattle.meaning.specs.Checking.{checkOf}
 use Rattle.diagram.specs.Member.{memberOf}
 use Rattle.capi.specs.Told.{NO-ROOM, toldReply, toldAnswer, toldMember, replyAfter}

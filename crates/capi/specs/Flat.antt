@@ -2,10 +2,10 @@
 use Prim.Native.Nat.{ℕ, _+_, _*_}
 use mathlib.Core.List.{List, [], _∷_, _++_}
 use lib.ListN.{length}
-use Rattle.session.specs.Limits.{mostMachines, mostControls, mostQueues, mostPool, mostBad}
-use Rattle.session.specs.Rows.{rowsLength}
-use Rattle.session.specs.Pool.{poolArcs}
-use Rattle.session.specs.declared.tables.Tables.{Tables}
+use Rattle.tables.specs.Limits.{mostMachines, mostControls, mostQueues, mostPool, mostBad}
+use Rattle.tables.specs.Rows.{rowsLength}
+use Rattle.tables.specs.Pool.{poolArcs}
+use Rattle.tables.specs.declared.tables.Tables.{Tables}
 
 abbrev pub four : List ℕ → List ℕ → List ℕ → List ℕ → List ℕ
 four a b c d = ((a ++ b) ++ c) ++ d

@@ -10,8 +10,8 @@ use native.Mathlib.Omega.{arith}
 use Rattle.numbers.specs.Part.{Part, got, refused}
 use Rattle.session.specs.Said.{Reply, read, refusal, saidAnswer}
 use Rattle.session.specs.File.{readFile, replyOf, tablesOf, Reads}
-use Rattle.session.specs.Valid.{Valid}
-use Rattle.session.specs.declared.tables.Tables.{Tables}
+use Rattle.tables.specs.Valid.{Valid}
+use Rattle.tables.specs.declared.tables.Tables.{Tables}
 use Rattle.session.specs.declared.reading.Reading.{Reading}
 use Rattle.meaning.specs.Reply.{shownOf}
 use Rattle.meaning.specs.Checking.{Checked, checkOf, Checks}

@@ -1,18 +1,18 @@
 // The tables of a file that was read, one after the other in lent bytes.
 use numbers::put::put_word;
-use session::kinds::DiagramState;
-use session::tables::ENTRIES;
-use session::tables::MOST_CONTROLS;
-use session::tables::MOST_MACHINES;
-use session::tables::MOST_QUEUES;
-use session::tables::POOL_ARCS;
-use session::tables::ROWS;
-use session::tables::Tables;
+use tables::kinds::DiagramState;
+use tables::tables::ENTRIES;
+use tables::tables::MOST_CONTROLS;
+use tables::tables::MOST_MACHINES;
+use tables::tables::MOST_QUEUES;
+use tables::tables::POOL_ARCS;
+use tables::tables::ROWS;
+use tables::tables::Tables;
 ghost use Prim.Native.Nat.{_+_, _≤_};
 ghost use lib.ListN.{length};
 ghost use Rattle.numbers.specs.Put.{Put};
 ghost use Rattle.capi.specs.Flat.{four, fourLong, smallLong, largeLong, tablesLeast, small, large, flat};
-ghost use Rattle.session.specs.Valid.{Valid};
+ghost use Rattle.tables.specs.Valid.{Valid};
 
 // Bytes of the counts with the tables of machines and queues, of the large tables, and of all.
 const COUNTS: usize = 6;

@@ -5,9 +5,9 @@ use mathlib.Core.Bool.{Bool}
 use mathlib.Core.List.{List}
 use lib.ListN.{getD, set, take}
 use lib.Dec.{eqb}
-use Rattle.session.specs.Limits.{mostControls}
-use Rattle.session.specs.Rows.{machineAt, fromAt, toAt}
-use Rattle.session.specs.declared.tables.Machines.{Machines}
+use Rattle.tables.specs.Limits.{mostControls}
+use Rattle.tables.specs.Rows.{machineAt, fromAt, toAt}
+use Rattle.tables.specs.declared.tables.Machines.{Machines}
 use Rattle.model.specs.Model.{number, places}
 use Rattle.controls.specs.declared.parting.Parted.{Parted}
 

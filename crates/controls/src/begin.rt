@@ -1,14 +1,14 @@
 // The control state that a run begins in.
 use crate::parting::product_from;
 use numbers::number::wide;
-use session::kinds::ControlState;
-use session::tables::Machines;
+use tables::kinds::ControlState;
+use tables::tables::Machines;
 ghost use mathlib.Core.Path.{_≡_};
 ghost use lib.ListN.{take};
 ghost use Rattle.model.specs.Model.{number};
 ghost use Rattle.controls.specs.Controls.{sizesOf, startsOf};
 ghost use Rattle.controls.specs.Laws.Begin.{Numberable};
-ghost use Rattle.session.specs.Valid.{MachinesValid};
+ghost use Rattle.tables.specs.Valid.{MachinesValid};
 
 // The number of the control state in which machine i is in state starts[i].
 fn number_of(states: [u8; 4], starts: [u8; 4], count: usize) -> usize

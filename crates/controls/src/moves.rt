@@ -1,15 +1,15 @@
 // A transition at a control state: whether its machine is in the from-state, and the control state that it leads to.
 use crate::parting::part_at;
 use numbers::number::wide;
-use session::kinds::ControlState;
-use session::tables::FROM;
-use session::tables::Machines;
-use session::tables::TO;
+use tables::kinds::ControlState;
+use tables::tables::FROM;
+use tables::tables::Machines;
+use tables::tables::TO;
 ghost use Prim.Native.Nat.{_+_, _<_, _≤_};
 ghost use lib.ListN.{length, getD};
-ghost use Rattle.session.specs.Rows.{rowLength, machineAt, toAt};
+ghost use Rattle.tables.specs.Rows.{rowLength, machineAt, toAt};
 ghost use Rattle.controls.specs.Controls.{IsAt, Moved};
-ghost use Rattle.session.specs.Valid.{MachinesValid};
+ghost use Rattle.tables.specs.Valid.{MachinesValid};
 
 // Whether the machine of the transition is in its from-state.
 pub fn is_at(m: Machines, rows: &[u8], row: usize, c: ControlState) -> bool

@@ -1,14 +1,14 @@
 // A control state parted at a machine.
 use numbers::number::wide;
-use session::kinds::ControlState;
-use session::tables::Machines;
+use tables::kinds::ControlState;
+use tables::tables::Machines;
 ghost use mathlib.Core.Path.{_≡_};
 ghost use Prim.Native.Nat.{_<_, _≤_};
 ghost use lib.ListN.{take, drop};
 ghost use Rattle.model.specs.Model.{product};
 ghost use Rattle.controls.specs.Controls.{sizesOf, Located};
 ghost use Rattle.controls.specs.Laws.Parting.{Stepped, Partable};
-ghost use Rattle.session.specs.Valid.{MachinesValid};
+ghost use Rattle.tables.specs.Valid.{MachinesValid};
 
 // A control state parted at a machine: what the machines before it give, what is left, and how many control states one state
 // of the machine takes.

@@ -3,14 +3,15 @@ use Prim.Native.Nat.{ℕ}
 use mathlib.Core.Path.{_≡_, refl}
 use mathlib.Core.List.{List, [], _∷_}
 use Rattle.numbers.specs.Number.{readNumber, readWithin, readBelow, readTwo}
-use Rattle.session.specs.Machines.{readFactor, readSizes, readStarts, countedMachines, readMachines}
-use Rattle.session.specs.Queues.{readTerm, readCounts, readQueues, firstOf}
-use Rattle.session.specs.Transitions.{readMessage, readWord, readAction, readTransition, readRows, readTransitions}
-use Rattle.session.specs.Pool.{readAscending, readArc, readArcs, readState, readStates, readPool}
-use Rattle.session.specs.Lowest.{lowest, lowests, arcsOrdered, statesOrdered, queuesOrdered, inQueueOrder}
+use Rattle.reading_model.specs.Machines.{readFactor, readSizes, readStarts, countedMachines, readMachines}
+use Rattle.reading_model.specs.Queues.{readTerm, readCounts, readQueues}
+use Rattle.tables.specs.Queues.{firstOf}
+use Rattle.reading_model.specs.Transitions.{readMessage, readWord, readAction, readTransition, readRows, readTransitions}
+use Rattle.reading_pool.specs.Pool.{readAscending, readArc, readArcs, readState, readStates, readPool}
+use Rattle.reading_pool.specs.Lowest.{lowest, lowests, arcsOrdered, statesOrdered, queuesOrdered, inQueueOrder}
 use Rattle.session.specs.Map.{readRoots, readMap}
 use Rattle.session.specs.Bad.{readEntries, readBad}
-use Rattle.session.specs.Model.{readModel}
+use Rattle.reading_model.specs.Model.{readModel}
 use Rattle.session.specs.Sets.{readSets}
 use Rattle.session.specs.File.{readFile}
 use Rattle.meaning.specs.Cases.{hex}

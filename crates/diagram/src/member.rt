@@ -2,27 +2,27 @@
 use crate::reply::Member;
 use numbers::number::entry;
 use numbers::number::wide;
-use session::kinds::ControlState;
-use session::kinds::Message;
-use session::kinds::Reached;
-use session::lookup::along;
-use session::lookup::is_final;
-use session::lookup::root_of;
 use session::reading::Answer;
 use session::reading::read;
-use session::tables::Pool;
-use session::tables::Queues;
-use session::tables::Tables;
+use tables::kinds::ControlState;
+use tables::kinds::Message;
+use tables::kinds::Reached;
+use tables::lookup::along;
+use tables::lookup::is_final;
+use tables::lookup::root_of;
+use tables::tables::Pool;
+use tables::tables::Queues;
+use tables::tables::Tables;
 ghost use mathlib.Core.Path.{_≡_};
 ghost use Prim.Native.Nat.{_≤_};
 ghost use lib.ListN.{take};
-ghost use Rattle.session.specs.Limits.{mostPool};
-ghost use Rattle.session.specs.Kinds.{reachedOf};
+ghost use Rattle.tables.specs.Limits.{mostPool};
+ghost use Rattle.tables.specs.Kinds.{reachedOf};
 ghost use Rattle.model.specs.Model.{queueOf};
 ghost use Rattle.meaning.specs.Tables.{poolOf, sessionOf};
 ghost use Rattle.diagram.specs.Said.{saidMember};
 ghost use Rattle.diagram.specs.Member.{judge, ask, memberOf};
-ghost use Rattle.session.specs.Valid.{QueuesValid, PoolValid, Valid};
+ghost use Rattle.tables.specs.Valid.{QueuesValid, PoolValid, Valid};
 
 // The queue that a message belongs to.
 fn queue_of(q: Queues, m: Message) -> u8

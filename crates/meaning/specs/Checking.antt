@@ -8,9 +8,9 @@ use lib.ListN.{length, drop, replicate}
 use lib.Dec.{leb}
 use Rattle.numbers.specs.Limits.{mostBytes}
 use Rattle.numbers.specs.Part.{Part, provided}
-use Rattle.session.specs.Limits.{mostWord}
+use Rattle.tables.specs.Limits.{mostWord}
 use Rattle.session.specs.File.{readFile}
-use Rattle.session.specs.declared.tables.Tables.{Tables}
+use Rattle.tables.specs.declared.tables.Tables.{Tables}
 use Rattle.meaning.specs.Reply.{FileReply, refused, verdict, replyTo, shownOf}
 use Rattle.meaning.specs.Claims.{Meant, TwoRunsTo}
 

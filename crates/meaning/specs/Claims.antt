@@ -6,7 +6,7 @@ use mathlib.Core.Logic.{_↔_}
 use mathlib.Core.List.{List}
 use Rattle.numbers.specs.Part as Part
 use Rattle.session.specs.File.{readFile}
-use Rattle.session.specs.declared.tables.Tables.{Tables}
+use Rattle.tables.specs.declared.tables.Tables.{Tables}
 use Rattle.model.specs.Verdict.{Reply, closed, items, Means, Closed}
 use Rattle.model.specs.TwoRuns.{TwoRuns}
 use Rattle.meaning.specs.Tables.{sessionOf}

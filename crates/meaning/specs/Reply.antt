@@ -3,7 +3,7 @@ use Prim.Native.Nat.{ℕ}
 use mathlib.Core.List.{List, []}
 use Rattle.numbers.specs.Part as Part
 use Rattle.session.specs.File.{readFile}
-use Rattle.session.specs.declared.tables.Tables.{Tables}
+use Rattle.tables.specs.declared.tables.Tables.{Tables}
 use Rattle.model.specs.Verdict.{Reply, closed, outside, leaves, bad}
 use Rattle.model.specs.Judge as Judge
 use Rattle.model.specs.Line.{line, refusedLine}

@@ -5,18 +5,18 @@ use mathlib.Core.Option.{Option, none, some}
 use mathlib.Core.List.{List, [], _∷_}
 use lib.ListN.{getD, take, drop}
 use lib.Dec.{ltb}
-use Rattle.session.specs.Limits.{mostMessages}
-use Rattle.session.specs.Pool.{arcAt}
-use Rattle.session.specs.Lookup.{rootOf, finalAt}
-use Rattle.session.specs.declared.tables.Machines.{Machines}
-use Rattle.session.specs.declared.tables.Queues.{Queues}
-use Rattle.session.specs.declared.tables.Transitions.{Transitions}
-use Rattle.session.specs.declared.tables.Pool as Declared
-use Rattle.session.specs.declared.tables.Tables.{Tables}
+use Rattle.tables.specs.Limits.{mostMessages}
+use Rattle.tables.specs.Pool.{arcAt}
+use Rattle.tables.specs.Lookup.{rootOf, finalAt}
+use Rattle.tables.specs.declared.tables.Machines.{Machines}
+use Rattle.tables.specs.declared.tables.Queues.{Queues}
+use Rattle.tables.specs.declared.tables.Transitions.{Transitions}
+use Rattle.tables.specs.declared.tables.Pool as Declared
+use Rattle.tables.specs.declared.tables.Tables.{Tables}
 use Rattle.model.specs.Model.{Model, Action, local, send, receive, Transition}
 use Rattle.model.specs.Diagram.{Pool}
 use Rattle.model.specs.Session.{Session}
-use Rattle.session.specs.Rows.{rowLength, machineAt, fromAt, toAt, kindAt, queueAt, wordAt}
+use Rattle.tables.specs.Rows.{rowLength, machineAt, fromAt, toAt, kindAt, queueAt, wordAt}
 
 -- kinds: 0 local, 1 send, 2 receive
 abbrev pub actionOf : ℕ → ℕ → List ℕ → Action

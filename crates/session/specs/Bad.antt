@@ -2,10 +2,10 @@
 use Prim.Native.Nat.{ℕ, zero, suc, _+_, _*_}
 use mathlib.Core.List.{List}
 use lib.ListN.{set, replicate}
-use Rattle.session.specs.Limits.{mostBad}
+use Rattle.tables.specs.Limits.{mostBad}
 use Rattle.numbers.specs.Part.{Part, got, andThen}
 use Rattle.numbers.specs.Number.{readWithin, readTwo}
-use Rattle.session.specs.declared.tables.BadList.{BadList}
+use Rattle.tables.specs.declared.tables.BadList.{BadList}
 
 -- the entries from number b on: entry b has its control state at 2 · b and its root after it
 unfoldable pub readEntries : List ℕ → ℕ → ℕ → ℕ → ℕ → ℕ → List ℕ → Part (List ℕ)

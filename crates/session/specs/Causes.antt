@@ -6,23 +6,25 @@ use mathlib.Core.Logic.{_⊎_}
 use mathlib.Core.Option.{Option, none, some}
 use mathlib.Core.List.{List}
 use lib.ListN.{length, getD, replicate}
-use Rattle.session.specs.Limits.{mostMachines, mostStates, mostControls, mostQueues, mostMessages, mostTransitions, mostWord, mostPool, mostBad}
+use Rattle.tables.specs.Limits.{mostMachines, mostStates, mostControls, mostQueues, mostMessages, mostTransitions, mostWord, mostPool, mostBad}
 use Rattle.numbers.specs.Part.{got}
 use Rattle.numbers.specs.Number.{readNumber, readWithin, readBelow, readTwo}
-use Rattle.session.specs.Machines.{readSizes, readStarts, readMachines}
-use Rattle.session.specs.Queues.{readCounts, readQueues, firstOf, OfQueue}
-use Rattle.session.specs.Transitions.{readWord, readRows}
-use Rattle.session.specs.Model.{readModel}
-use Rattle.session.specs.Pool.{poolArcs, readAscending, readArc, readStates, readPool}
-use Rattle.session.specs.Order.{QueueOrdered}
+use Rattle.reading_model.specs.Machines.{readSizes, readStarts, readMachines}
+use Rattle.reading_model.specs.Queues.{readCounts, readQueues}
+use Rattle.tables.specs.Queues.{firstOf, OfQueue}
+use Rattle.reading_model.specs.Transitions.{readWord, readRows}
+use Rattle.reading_model.specs.Model.{readModel}
+use Rattle.tables.specs.Pool.{poolArcs}
+use Rattle.reading_pool.specs.Pool.{readAscending, readArc, readStates, readPool}
+use Rattle.tables.specs.Order.{QueueOrdered}
 use Rattle.session.specs.Map.{readRoots, readMap}
 use Rattle.session.specs.Bad.{readEntries}
-use Rattle.session.specs.Rows.{rowsLength}
-use Rattle.session.specs.declared.tables.Machines.{Machines}
-use Rattle.session.specs.declared.tables.Queues.{Queues}
-use Rattle.session.specs.declared.tables.ModelTables.{ModelTables}
-use Rattle.session.specs.declared.tables.Pool.{Pool}
-use Rattle.session.specs.declared.tables.Map.{Map}
+use Rattle.tables.specs.Rows.{rowsLength}
+use Rattle.tables.specs.declared.tables.Machines.{Machines}
+use Rattle.tables.specs.declared.tables.Queues.{Queues}
+use Rattle.tables.specs.declared.tables.ModelTables.{ModelTables}
+use Rattle.tables.specs.declared.tables.Pool.{Pool}
+use Rattle.tables.specs.declared.tables.Map.{Map}
 
 -- A FIELD, number by number, with what was read before it as far as it is held to that.
 pub data Field : Type 0 where

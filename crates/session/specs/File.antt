@@ -5,19 +5,20 @@ use mathlib.Core.List.{List}
 use lib.ListN.{length, replicate}
 use lib.Dec.{leb}
 use Rattle.numbers.specs.Limits.{mostBytes}
-use Rattle.session.specs.Limits.{mostMachines, mostControls, mostQueues, mostMessages, mostTransitions, mostPool, mostBad}
+use Rattle.tables.specs.Limits.{mostMachines, mostControls, mostQueues, mostMessages, mostTransitions, mostPool, mostBad}
 use Rattle.numbers.specs.Part.{Part, got, refused, provided, andThen}
 use Rattle.session.specs.Said.{Reply, saidAnswer, read, refusal}
-use Rattle.session.specs.Model.{readModel}
-use Rattle.session.specs.Pool.{poolArcs, readPool}
-use Rattle.session.specs.Lowest.{inQueueOrder}
+use Rattle.reading_model.specs.Model.{readModel}
+use Rattle.tables.specs.Pool.{poolArcs}
+use Rattle.reading_pool.specs.Pool.{readPool}
+use Rattle.reading_pool.specs.Lowest.{inQueueOrder}
 use Rattle.session.specs.Sets.{readSets}
-use Rattle.session.specs.declared.tables.ModelTables.{ModelTables}
-use Rattle.session.specs.declared.tables.Pool.{Pool}
-use Rattle.session.specs.declared.tables.SetTables.{SetTables}
-use Rattle.session.specs.declared.tables.Tables.{Tables}
+use Rattle.tables.specs.declared.tables.ModelTables.{ModelTables}
+use Rattle.tables.specs.declared.tables.Pool.{Pool}
+use Rattle.tables.specs.declared.tables.SetTables.{SetTables}
+use Rattle.tables.specs.declared.tables.Tables.{Tables}
 use Rattle.session.specs.declared.reading.Reading.{Reading}
-use Rattle.session.specs.Rows.{rowLength}
+use Rattle.tables.specs.Rows.{rowLength}
 
 -- the tables of a model, a pool and sets over it
 abbrev pub joined : ModelTables → Pool → SetTables → Tables

@@ -2,10 +2,10 @@
 use Prim.Native.Nat.{ℕ, zero, suc, _+_}
 use mathlib.Core.List.{List}
 use lib.ListN.{set, replicate}
-use Rattle.session.specs.Limits.{mostControls}
+use Rattle.tables.specs.Limits.{mostControls}
 use Rattle.numbers.specs.Part.{Part, got, andThen}
 use Rattle.numbers.specs.Number.{readWithin}
-use Rattle.session.specs.declared.tables.Map.{Map}
+use Rattle.tables.specs.declared.tables.Map.{Map}
 
 -- the roots of the control states from number i on
 unfoldable pub readRoots : List ℕ → ℕ → ℕ → ℕ → ℕ → List ℕ → Part (List ℕ)

@@ -5,7 +5,7 @@ use mathlib.Core.List.{List}
 use Rattle.numbers.specs.Part.{Part, got, andThen}
 use Rattle.session.specs.Map.{readMap}
 use Rattle.session.specs.Bad.{readBad}
-use Rattle.session.specs.declared.tables.SetTables.{SetTables}
+use Rattle.tables.specs.declared.tables.SetTables.{SetTables}
 
 unfoldable pub readSets : List ℕ → ℕ → ℕ → ℕ → Part SetTables
 readSets s at product n =

@@ -1,18 +1,18 @@
 // Field 6: the bad entries.
-use crate::tables::BadList;
-use crate::tables::ENTRIES;
-use crate::tables::ENTRY;
-use crate::tables::MOST_BAD;
 use numbers::number::Field;
 use numbers::number::Filled;
 use numbers::number::Pair;
 use numbers::number::read_two;
 use numbers::number::read_within;
 use numbers::number::wide;
+use tables::tables::BadList;
+use tables::tables::ENTRIES;
+use tables::tables::ENTRY;
+use tables::tables::MOST_BAD;
 ghost use mathlib.Core.Path.{_≡_};
 ghost use Prim.Native.Nat.{_≤_};
 ghost use Rattle.numbers.specs.Said.{filledWith};
-ghost use Rattle.session.specs.Limits.{mostControls, mostBad};
+ghost use Rattle.tables.specs.Limits.{mostControls, mostBad};
 ghost use Rattle.session.specs.Bad.{readEntries, readBad};
 
 pub struct BadRead {

@@ -1,13 +1,13 @@
 // Field 5: the root of each control state.
-use crate::tables::MOST_CONTROLS;
-use crate::tables::Map;
 use numbers::number::Field;
 use numbers::number::Filled;
 use numbers::number::read_within;
+use tables::tables::MOST_CONTROLS;
+use tables::tables::Map;
 ghost use mathlib.Core.Path.{_≡_};
 ghost use Prim.Native.Nat.{_≤_};
 ghost use Rattle.numbers.specs.Said.{filledWith};
-ghost use Rattle.session.specs.Limits.{mostControls};
+ghost use Rattle.tables.specs.Limits.{mostControls};
 ghost use Rattle.session.specs.Map.{readRoots, readMap};
 
 pub struct MapRead {

@@ -1,14 +1,14 @@
 // Fields 5 and 6, the sets: the root of each control state, and the bad entries.
 use crate::bad::read_bad;
 use crate::map::read_map;
-use crate::tables::BadList;
-use crate::tables::ENTRIES;
-use crate::tables::SetTables;
 use numbers::number::Filled;
+use tables::tables::BadList;
+use tables::tables::ENTRIES;
+use tables::tables::SetTables;
 ghost use mathlib.Core.Path.{_≡_};
 ghost use Prim.Native.Nat.{_≤_};
 ghost use Rattle.numbers.specs.Said.{filledWith};
-ghost use Rattle.session.specs.Limits.{mostControls};
+ghost use Rattle.tables.specs.Limits.{mostControls};
 ghost use Rattle.session.specs.Sets.{readSets};
 
 pub struct SetsRead {

@@ -1,11 +1,11 @@
 // A digest of all entries of the tables: h · 257 + entry + 1, modulo 16,777,213, entry after entry.
-use session::tables::BadList;
-use session::tables::Machines;
-use session::tables::Map;
-use session::tables::Pool;
-use session::tables::Queues;
-use session::tables::Tables;
-use session::tables::Transitions;
+use tables::tables::BadList;
+use tables::tables::Machines;
+use tables::tables::Map;
+use tables::tables::Pool;
+use tables::tables::Queues;
+use tables::tables::Tables;
+use tables::tables::Transitions;
 ghost use Prim.Native.Nat.{_<_};
 
 const MODULUS: u64 = 16777213;

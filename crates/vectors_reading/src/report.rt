@@ -5,7 +5,7 @@ use numbers::refusal::number;
 use numbers::refusal::place;
 use session::reading::Answer;
 use session::reading::read;
-use session::tables::Tables;
+use tables::tables::Tables;
 
 fn spaced(x: u64) {
     io::write_all(1, b" ");

@@ -6,7 +6,7 @@ use mathlib.Core.Logic.{_⊎_, ⊎-elim}
 use native.Mathlib.Omega.{arith}
 use denote.Enum.Declared.{tagOf}
 use types.Run.{OneOf}
-use Rattle.session.specs.declared.tables.Tables.{Tables}
+use Rattle.tables.specs.declared.tables.Tables.{Tables}
 use Rattle.model.specs.Verdict.{Reply}
 use Rattle.model.specs.Laws.Deciding.{unlessFailed}
 use Rattle.verdict.specs.Judging.{Judges}

@@ -3,7 +3,7 @@ use Prim.Native.Nat.{ℕ, _≤_}
 use mathlib.Core.Path.{_≡_}
 use mathlib.Core.List.{List}
 use lib.ListN.{length, getD}
-use Rattle.session.specs.Limits.{mostPool}
+use Rattle.tables.specs.Limits.{mostPool}
 
 -- every root has its final mark
 pub record RootsIn (roots finals : List ℕ) : Type 0 where

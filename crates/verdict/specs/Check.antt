@@ -6,7 +6,7 @@ use lib.ListN.{length, take, replicate}
 use Rattle.walk.specs.Pairs.{mostPairs}
 use Rattle.walk.specs.Shown.{mostShown}
 use Rattle.numbers.specs.Said.{numberOf, placeOf}
-use Rattle.session.specs.declared.tables.Tables.{Tables}
+use Rattle.tables.specs.declared.tables.Tables.{Tables}
 use Rattle.model.specs.Verdict.{closed, outside, leaves, bad}
 use Rattle.model.specs.Judge as Model
 use Rattle.meaning.specs.Tables.{sessionOf}

@@ -6,11 +6,11 @@ use lib.ListN.{length, take, drop}
 use Rattle.model.specs.Judge as Model
 use Rattle.model.specs.Laws.Items.{IsItem}
 use Rattle.meaning.specs.Tables.{sessionOf, transitionAt, entriesFrom}
-use Rattle.session.specs.Limits.{mostTransitions, mostBad}
-use Rattle.session.specs.Valid.{Valid}
-use Rattle.session.specs.declared.tables.Machines.{Machines}
-use Rattle.session.specs.declared.tables.Queues.{Queues}
-use Rattle.session.specs.declared.tables.Tables.{Tables}
+use Rattle.tables.specs.Limits.{mostTransitions, mostBad}
+use Rattle.tables.specs.Valid.{Valid}
+use Rattle.tables.specs.declared.tables.Machines.{Machines}
+use Rattle.tables.specs.declared.tables.Queues.{Queues}
+use Rattle.tables.specs.declared.tables.Tables.{Tables}
 use Rattle.model.specs.Verdict.{step, entry, Reply, closed, leaves, bad}
 use Rattle.walk.specs.Pairs.{mostPairs}
 use Rattle.walk.specs.Marks.{Blank}
@@ -19,7 +19,7 @@ use Rattle.walk.specs.declared.judge.Judged.{Judged}
 use Rattle.walk.specs.declared.judge.Judged.the-variants.{Passes, Fails}
 use Rattle.verdict.specs.declared.judged.Progress.{Progress}
 use Rattle.verdict.specs.declared.judged.Progress.the-variants.{Passed, Leaves, Meets}
-use Rattle.session.specs.Rows.{rowLength}
+use Rattle.tables.specs.Rows.{rowLength}
 
 -- the most pairs of the steps of one control state
 abbrev pub mostAtControl : ℕ

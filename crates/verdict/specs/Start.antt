@@ -5,14 +5,14 @@ use mathlib.Core.Option.{Option}
 use mathlib.Core.Logic.{_⊎_}
 use mathlib.Core.List.{List}
 use lib.ListN.{take}
-use Rattle.session.specs.declared.tables.Queues.{Queues}
+use Rattle.tables.specs.declared.tables.Queues.{Queues}
 use Rattle.model.specs.Model.{Action, local, send, receive, firstOf}
 use Rattle.model.specs.Judge.{out, into, rootPair}
 use Rattle.meaning.specs.Tables.{actionOf}
 use Rattle.walk.specs.Pairs.{afterSide, sideOf}
 use Rattle.walk.specs.Over.{wordOver}
 use Rattle.verdict.specs.declared.start.Cut.{Cut}
-use Rattle.session.specs.Rows.{wordEntry, kindAt, queueAt, lengthAt, wordAt}
+use Rattle.tables.specs.Rows.{wordEntry, kindAt, queueAt, lengthAt, wordAt}
 
 -- the action of the transition whose row begins here
 abbrev pub actionAt : List ℕ → ℕ → Action

@@ -1,14 +1,14 @@
 // The start: whether empty queues are in the set of the control state that a run begins in.
 use controls::begin::first_control;
-use session::lookup::is_final;
-use session::lookup::root_of;
-use session::tables::Machines;
+use tables::lookup::is_final;
+use tables::lookup::root_of;
+use tables::tables::Machines;
 ghost use mathlib.Core.Path.{_≡_};
 ghost use Rattle.model.specs.Model.{number};
-ghost use Rattle.session.specs.Lookup.{rootOf, finalAt};
+ghost use Rattle.tables.specs.Lookup.{rootOf, finalAt};
 ghost use Rattle.controls.specs.Controls.{sizesOf, startsOf};
 ghost use Rattle.verdict.specs.Begin.{RootsIn};
-ghost use Rattle.session.specs.Valid.{MachinesValid};
+ghost use Rattle.tables.specs.Valid.{MachinesValid};
 
 // Whether empty queues are in the set of the control state that the machines start in.
 pub fn begins_inside(m: Machines, roots: &[u8], finals: &[u8]) -> bool

@@ -5,12 +5,12 @@ use crate::judged::Progress;
 use numbers::number::wide;
 use numbers::refusal::MOST_BYTES;
 use numbers::refusal::Refusal;
-use session::kinds::ControlState;
 use session::reading::Answer;
 use session::reading::read;
-use session::tables::Machines;
-use session::tables::Queues;
-use session::tables::Tables;
+use tables::kinds::ControlState;
+use tables::tables::Machines;
+use tables::tables::Queues;
+use tables::tables::Tables;
 use walk::pairs::CODES;
 ghost use mathlib.Core.Path.{_≡_};
 ghost use mathlib.Core.List.{List};
@@ -19,7 +19,7 @@ ghost use lib.ListN.{length, replicate};
 ghost use Rattle.meaning.specs.Checking.{Checks, CheckMeans, CheckTwoRuns};
 ghost use Rattle.verdict.specs.Judging.{AllAsked, AllParts};
 ghost use Rattle.verdict.specs.Check.{saidVerdict, Shows, concluded, Concludes, Room};
-ghost use Rattle.session.specs.Valid.{Valid};
+ghost use Rattle.tables.specs.Valid.{Valid};
 
 // Entries that a scratch table needs, and bytes that a contents buffer needs.
 pub const TABLE_LEAST: usize = CODES;

@@ -1,13 +1,13 @@
 // One item, judged by itself.
 use crate::start::cut_of;
 use controls::moves::moved;
-use session::kinds::ControlState;
-use session::kinds::DiagramState;
-use session::kinds::Reached;
-use session::lookup::root_of;
-use session::tables::Machines;
-use session::tables::Queues;
-use session::tables::WORD;
+use tables::kinds::ControlState;
+use tables::kinds::DiagramState;
+use tables::kinds::Reached;
+use tables::lookup::root_of;
+use tables::tables::Machines;
+use tables::tables::Queues;
+use tables::tables::WORD;
 use walk::judge::Judged;
 use walk::judge::judge;
 use walk::pairs::AFTER;

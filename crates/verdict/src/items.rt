@@ -2,8 +2,8 @@
 use crate::entries::judge_entries;
 use crate::judged::Progress;
 use crate::steps::judge_steps;
-use session::tables::Machines;
-use session::tables::Queues;
+use tables::tables::Machines;
+use tables::tables::Queues;
 ghost use Prim.Native.Nat.{_≤_};
 ghost use mathlib.Core.List.{_++_};
 ghost use lib.ListN.{length};

@@ -1,5 +1,5 @@
 // How judging goes on: the items up to the first that fails.
-use session::kinds::ControlState;
+use tables::kinds::ControlState;
 
 pub enum Progress {
     // the pairs of all items till now

@@ -1,16 +1,16 @@
 // How the action of a transition parts the contents.
 use numbers::number::wide;
-use session::queues::messages_of;
-use session::tables::KIND;
-use session::tables::LENGTH;
-use session::tables::QUEUE;
-use session::tables::Queues;
+use tables::spans::messages_of;
+use tables::tables::KIND;
+use tables::tables::LENGTH;
+use tables::tables::QUEUE;
+use tables::tables::Queues;
 use walk::pairs::AFTER;
 ghost use Prim.Native.Nat.{_+_, _<_, _≤_};
 ghost use lib.ListN.{length};
-ghost use Rattle.session.specs.Rows.{rowLength, queueAt};
+ghost use Rattle.tables.specs.Rows.{rowLength, queueAt};
 ghost use Rattle.verdict.specs.Start.{Cuts};
-ghost use Rattle.session.specs.Valid.{QueuesValid};
+ghost use Rattle.tables.specs.Valid.{QueuesValid};
 
 // How an action parts the contents: the side it starts on, the first message that is read after it, and how many messages of
 // its word are taken out and put in.

@@ -2,15 +2,15 @@
 use crate::item::judge_step;
 use crate::judged::Progress;
 use controls::moves::is_at;
-use session::kinds::ControlState;
-use session::tables::Machines;
-use session::tables::Queues;
-use session::tables::ROW;
+use tables::kinds::ControlState;
+use tables::tables::Machines;
+use tables::tables::Queues;
+use tables::tables::ROW;
 use walk::judge::Judged;
 ghost use Prim.Native.Nat.{_+_, _*_, _≤_};
 ghost use lib.ListN.{length};
 ghost use mathlib.Core.List.{[], _∷_};
-ghost use Rattle.session.specs.Limits.{mostControls};
+ghost use Rattle.tables.specs.Limits.{mostControls};
 ghost use Rattle.model.specs.Verdict.{stepsAt, stepsFrom};
 ghost use Rattle.model.specs.Judge.{decide};
 ghost use Rattle.meaning.specs.Tables.{sessionOf, transitionAt, transitionsFrom};
@@ -18,7 +18,7 @@ ghost use Rattle.walk.specs.Pairs.{mostPairs};
 ghost use Rattle.walk.specs.Shown.{mostShown};
 ghost use Rattle.verdict.specs.Judging.{mostAtControl, Scratch, Parts, Judges, StepsAsked};
 ghost use Rattle.verdict.specs.Laws.Sequence.{AllIn};
-ghost use Rattle.session.specs.Rows.{rowLength};
+ghost use Rattle.tables.specs.Rows.{rowLength};
 
 // One transition at a control state: its step, if the machine is in the from-state.
 fn judge_turn(

@@ -6,7 +6,7 @@ use lib.ListN.{length, take, drop}
 use mathlib.Core.Option.{some}
 use Rattle.explore.specs.Search.{Outcome, found, finished, trace}
 use Rattle.explore.specs.Size.{Size}
-use Rattle.session.specs.Limits.{mostPool}
+use Rattle.tables.specs.Limits.{mostPool}
 use Rattle.model.specs.Session.{Session, WellFormed}
 use Rattle.model.specs.Verdict.{Item, Pair, Visited}
 use Rattle.model.specs.Judge as Judge

@@ -7,8 +7,8 @@ use Prim.Native.Nat.{ℕ, suc, _+_, _≤_, _<_}
 use lib.Dec.{ltb, eqb}
 use lib.ListN.{length, getD, take, drop}
 use Rattle.meaning.specs.Tables.{arcOf}
-use Rattle.session.specs.Lookup.{finalAt, ArcsSmall}
-use Rattle.session.specs.Limits.{mostPool, mostMessages}
+use Rattle.tables.specs.Lookup.{finalAt, ArcsSmall}
+use Rattle.tables.specs.Limits.{mostPool, mostMessages}
 use Rattle.explore.specs.Search.{Outcome, searchFrom}
 use Rattle.model.specs.Model.{messages}
 use Rattle.model.specs.Session.{Session}
@@ -18,7 +18,7 @@ use Rattle.model.specs.Judge as Judge
 use Rattle.model.specs.Judge.{same, pair}
 use Rattle.walk.specs.declared.pairs.Walk.{Walk}
 use Rattle.walk.specs.declared.pairs.Node.{Node}
-use Rattle.session.specs.Kinds.{reachedOf}
+use Rattle.tables.specs.Kinds.{reachedOf}
 use Rattle.walk.specs.Pairs.{mostPairs, afterSide, sideOf}
 
 -- the states and arcs alone; which are final is asked when a pair is judged

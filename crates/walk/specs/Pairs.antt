@@ -5,8 +5,8 @@ use mathlib.Core.Bool.{true, false}
 use mathlib.Core.Option.{Option, none, some}
 use Prim.Native.Nat.{ℕ, zero, suc, _+_, _-_, _*_, _/_, _%_, _≤_, _<_}
 use lib.Dec.{ltb}
-use Rattle.session.specs.Limits.{mostPool}
-use Rattle.session.specs.Kinds.{reachedOf}
+use Rattle.tables.specs.Limits.{mostPool}
+use Rattle.tables.specs.Kinds.{reachedOf}
 use Rattle.model.specs.Verdict.{Pair, before, after}
 use Rattle.walk.specs.declared.pairs.Node.{Node}
 

@@ -8,7 +8,7 @@ use crate::search::search;
 ghost use mathlib.Core.Path.{_≡_};
 ghost use Prim.Native.Nat.{_≤_};
 ghost use lib.ListN.{length};
-ghost use Rattle.session.specs.Limits.{mostPool};
+ghost use Rattle.tables.specs.Limits.{mostPool};
 ghost use Rattle.walk.specs.Pairs.{mostPairs, pairOf, NodeFits};
 ghost use Rattle.walk.specs.Marks.{Blank};
 ghost use Rattle.walk.specs.Over.{Lent};

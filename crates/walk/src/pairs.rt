@@ -1,7 +1,7 @@
 // A walk, and its pairs as numbers: the side, the source state, and the target state or nowhere.
 use numbers::number::wide;
-use session::kinds::DiagramState;
-use session::kinds::Reached;
+use tables::kinds::DiagramState;
+use tables::kinds::Reached;
 ghost use Prim.Native.Nat.{_<_};
 ghost use Rattle.walk.specs.Pairs.{mostPairs, NodeOf, NodeFits, Coded};
 

@@ -7,9 +7,9 @@ use native.Mathlib.Numerals.{add-one}
 use native.Mathlib.Nat.{add-assoc}
 use lib.ListN.{length, getD, take, drop, drop-of-length-le, length-take}
 use lib.Seq.{drop-cons, getD-take}
-use Rattle.session.specs.Limits.{mostControls}
-use Rattle.session.specs.Valid.{MachinesValid}
-use Rattle.session.specs.declared.tables.Machines.{Machines}
+use Rattle.tables.specs.Limits.{mostControls}
+use Rattle.tables.specs.Valid.{MachinesValid}
+use Rattle.tables.specs.declared.tables.Machines.{Machines}
 use Rattle.model.specs.Model.{product, number}
 use Rattle.model.specs.Laws.Controls.{number-below}
 use Rattle.meaning.specs.Laws.Counts.{states-are}

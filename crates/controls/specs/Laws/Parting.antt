@@ -7,14 +7,14 @@ use native.Mathlib.Numerals.{add-one}
 use native.Mathlib.Nat.{mod-lt, div-add-mod', mul-le-mul, one-mul, zero-add, add-assoc, le-refl}
 use lib.ListN.{length, getD, set, take, drop, length-take, drop-of-length-le}
 use lib.Seq.{drop-cons, getD-take}
-use Rattle.session.specs.Limits.{mostMachines, mostControls}
-use Rattle.session.specs.Kinds.{limited}
-use Rattle.session.specs.Valid.{MachinesValid}
-use Rattle.session.specs.declared.tables.Machines.{Machines}
+use Rattle.tables.specs.Limits.{mostMachines, mostControls}
+use Rattle.tables.specs.Kinds.{limited}
+use Rattle.tables.specs.Valid.{MachinesValid}
+use Rattle.tables.specs.declared.tables.Machines.{Machines}
 use Rattle.model.specs.Model.{product, number, places}
 use Rattle.model.specs.Laws.Controls.{number-places, number-below, places-are-states, states-set}
 use Rattle.meaning.specs.Laws.Counts.{product-is}
-use Rattle.session.specs.Laws.Kinds.{control-made}
+use Rattle.tables.specs.Laws.Kinds.{control-made}
 use Rattle.controls.specs.Controls.{sizesOf, Located}
 use Rattle.controls.specs.declared.parting.Parted.{Parted}
 

@@ -9,13 +9,13 @@ use lib.Seq.{drop-cons}
 use borrow.Author.Tests.{lt-ltb, le-ltb, le-leb, lt-leb}
 use native.Mathlib.Omega.{arith}
 use native.Mathlib.Numerals.{add-one}
-use Rattle.session.specs.Valid.{QueuesValid}
-use Rattle.session.specs.declared.tables.Queues.{Queues}
-use Rattle.session.specs.declared.tables.Pool as Declared
+use Rattle.tables.specs.Valid.{QueuesValid}
+use Rattle.tables.specs.declared.tables.Queues.{Queues}
+use Rattle.tables.specs.declared.tables.Pool as Declared
 use Rattle.model.specs.Model.{total, queueOf}
 use Rattle.model.specs.Diagram.{Pool, along}
 use Rattle.meaning.specs.Tables.{poolOf}
-use Rattle.session.specs.Lookup.{alongArc, finalAt}
+use Rattle.tables.specs.Lookup.{alongArc, finalAt}
 use Rattle.diagram.specs.Member.{Reply, refusal, answer, judge}
 use Rattle.diagram.specs.Laws.Tables.{messages-are, along-is, final-is}
 use Rattle.diagram.specs.Laws.Queues.{drop-all}

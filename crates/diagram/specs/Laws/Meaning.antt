@@ -9,7 +9,7 @@ use borrow.Author.Tests.{ltb-true, ltb-false, lt-ltb, le-ltb, leb-true, leb-fals
 use native.Mathlib.Omega.{arith}
 use Rattle.numbers.specs.Part.{Part, got, refused}
 use Rattle.session.specs.File.{readFile}
-use Rattle.session.specs.declared.tables.Tables.{Tables}
+use Rattle.tables.specs.declared.tables.Tables.{Tables}
 use Rattle.model.specs.Model.{total, queueOf, controls, Contents}
 use Rattle.model.specs.Diagram.{Pool, along, accepts, word}
 use Rattle.model.specs.Session.{Session, inside}

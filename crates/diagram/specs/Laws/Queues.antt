@@ -7,8 +7,8 @@ use lib.Seq.{drop-cons, getD-take}
 use borrow.Author.Tests.{lt-ltb, le-ltb}
 use native.Mathlib.Omega.{arith}
 use native.Mathlib.Numerals.{add-one}
-use Rattle.session.specs.Valid.{QueuesValid}
-use Rattle.session.specs.declared.tables.Queues.{Queues}
+use Rattle.tables.specs.Valid.{QueuesValid}
+use Rattle.tables.specs.declared.tables.Queues.{Queues}
 use Rattle.model.specs.Model.{queueOf}
 
 module _ (ns : List ℕ) (i m : ℕ) (h : i < length ns) where

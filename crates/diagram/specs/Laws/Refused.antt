@@ -12,7 +12,7 @@ use native.Mathlib.Omega.{arith}
 use native.Mathlib.Nat.{add-zero}
 use Rattle.numbers.specs.Part.{Part, got, refused}
 use Rattle.session.specs.File.{readFile}
-use Rattle.session.specs.declared.tables.Tables.{Tables}
+use Rattle.tables.specs.declared.tables.Tables.{Tables}
 use Rattle.model.specs.Model.{total, queueOf, controls}
 use Rattle.model.specs.Diagram.{Pool, along, accepts}
 use Rattle.meaning.specs.Tables.{sessionOf}

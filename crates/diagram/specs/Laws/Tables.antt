@@ -5,15 +5,15 @@ use mathlib.Core.Option.{Option, none, some}
 use lib.ListN.{take}
 use borrow.Author.Tests.{lt-ltb}
 use native.Mathlib.Omega.{arith}
-use Rattle.session.specs.Limits.{mostMessages}
-use Rattle.session.specs.Valid.{MachinesValid, QueuesValid}
-use Rattle.session.specs.declared.tables.Machines.{Machines}
-use Rattle.session.specs.declared.tables.Queues.{Queues}
-use Rattle.session.specs.declared.tables.Pool.{Pool}
+use Rattle.tables.specs.Limits.{mostMessages}
+use Rattle.tables.specs.Valid.{MachinesValid, QueuesValid}
+use Rattle.tables.specs.declared.tables.Machines.{Machines}
+use Rattle.tables.specs.declared.tables.Queues.{Queues}
+use Rattle.tables.specs.declared.tables.Pool.{Pool}
 use Rattle.model.specs.Model.{product, total}
 use Rattle.model.specs.Diagram.{along, isFinal}
 use Rattle.meaning.specs.Tables.{arcOf, poolOf}
-use Rattle.session.specs.Lookup.{alongArc, finalAt}
+use Rattle.tables.specs.Lookup.{alongArc, finalAt}
 use Rattle.meaning.specs.Laws.Counts.{product-is, total-is}
 
 pub controls-are : {m : Machines} → MachinesValid m → product (take (m .count) (m .states)) ≡ m .product

@@ -13,11 +13,11 @@ use Rattle.numbers.specs.Part.{Part, got, provided}
 use Rattle.numbers.specs.Part as Part
 use Rattle.numbers.specs.Laws.Parts.{not-refused}
 use Rattle.session.specs.File.{readFile}
-use Rattle.session.specs.Valid.{Valid}
+use Rattle.tables.specs.Valid.{Valid}
 use Rattle.session.specs.Laws.Fields.{parts, file-is}
 use Rattle.session.specs.Laws.Refusals.{refusal-number}
 use Rattle.session.specs.Laws.Valid.{valid}
-use Rattle.session.specs.declared.tables.Tables.{Tables}
+use Rattle.tables.specs.declared.tables.Tables.{Tables}
 use Rattle.model.specs.Laws.Basics.{byTest, and-is}
 use Rattle.meaning.specs.Reply.{FileReply, refused, replyTo, replyOf}
 use Rattle.meaning.specs.Checking.{tableLeast, contentsLeast, enough, readLent, tableAfter, contentsAfter, checkOf, Checks, CheckMeans, CheckTwoRuns}

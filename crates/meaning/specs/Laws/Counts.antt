@@ -7,11 +7,11 @@ use lib.Seq.{take-suc, length-take-le, getD-take}
 use borrow.Author.Tests.{lt-ltb, le-ltb}
 use native.Mathlib.Omega.{arith}
 use native.Mathlib.Nat.{mul-assoc, mul-one, one-mul}
-use Rattle.session.specs.Queues as Table
+use Rattle.tables.specs.Queues as Table
 use Rattle.model.specs.Model.{product, firstOf, total, queueOf, Between, nothing, message}
 use Rattle.model.specs.Session.{States}
 use Rattle.model.specs.Laws.Queues.{first-zero}
-use Rattle.session.specs.Valid.{productOf}
+use Rattle.tables.specs.Valid.{productOf}
 
 -- PRODUCTS
 product-snoc : (ks : List ℕ) (k : ℕ) → product (ks ++ (k ∷ [])) ≡ product ks * k

@@ -8,15 +8,15 @@ use lib.Seq.{length-take-le}
 use lib.Dec.{ltb}
 use borrow.Author.Tests.{ltb-true}
 use native.Mathlib.Omega.{arith}
-use Rattle.session.specs.Limits.{mostMessages}
-use Rattle.session.specs.Queues.{OfQueue}
-use Rattle.session.specs.Pool.{arcAt}
-use Rattle.session.specs.Valid.{QueuesValid, PoolValid}
-use Rattle.session.specs.Laws.Queues.{below-sum-of-queue}
-use Rattle.session.specs.Laws.Pool.{ArcValid, arc-valid}
-use Rattle.session.specs.Order.{QueueOrdered}
-use Rattle.session.specs.declared.tables.Queues.{Queues}
-use Rattle.session.specs.declared.tables.Pool as Declared
+use Rattle.tables.specs.Limits.{mostMessages}
+use Rattle.tables.specs.Queues.{OfQueue}
+use Rattle.tables.specs.Pool.{arcAt}
+use Rattle.tables.specs.Valid.{QueuesValid, PoolValid}
+use Rattle.tables.specs.Laws.Queues.{below-sum-of-queue}
+use Rattle.tables.specs.Laws.Pool.{ArcValid, arc-valid}
+use Rattle.tables.specs.Order.{QueueOrdered}
+use Rattle.tables.specs.declared.tables.Queues.{Queues}
+use Rattle.tables.specs.declared.tables.Pool as Declared
 use Rattle.model.specs.Model.{queueOf, total}
 use Rattle.model.specs.Diagram.{InQueueOrder}
 use Rattle.model.specs.Laws.Basics.{none-not-some}

@@ -6,17 +6,17 @@ use mathlib.Core.List.{List, List·Memᴰ·not-nil}
 use lib.ListN.{length, getD, getElem?, take, drop}
 use lib.Seq.{getD-drop, getD-take, length-take-le}
 use native.Mathlib.Omega.{arith}
-use Rattle.session.specs.Valid.{QueuesValid, RowValid, TransitionsValid, BadValid}
-use Rattle.session.specs.declared.tables.Machines.{Machines}
-use Rattle.session.specs.declared.tables.Queues.{Queues}
-use Rattle.session.specs.declared.tables.Transitions.{Transitions}
-use Rattle.session.specs.declared.tables.BadList.{BadList}
+use Rattle.tables.specs.Valid.{QueuesValid, RowValid, TransitionsValid, BadValid}
+use Rattle.tables.specs.declared.tables.Machines.{Machines}
+use Rattle.tables.specs.declared.tables.Queues.{Queues}
+use Rattle.tables.specs.declared.tables.Transitions.{Transitions}
+use Rattle.tables.specs.declared.tables.BadList.{BadList}
 use Rattle.explore.specs.Mem.{Mem, here, there}
 use Rattle.model.specs.Model.{Transition, first, Between}
 use Rattle.model.specs.Session.{OwnWord}
 use Rattle.meaning.specs.Tables.{actionOf, transitionAt, transitionsFrom, modelOf, entriesFrom}
 use Rattle.meaning.specs.Laws.Counts.{first-is, between-take}
-use Rattle.session.specs.Rows.{rowLength, wordEntry, queueAt, lengthAt, wordAt}
+use Rattle.tables.specs.Rows.{rowLength, wordEntry, queueAt, lengthAt, wordAt}
 
 pub transitions-length : (rows : List ℕ) (left t : ℕ) → length (transitionsFrom rows left t) ≡ left
 transitions-length rows zero t = refl

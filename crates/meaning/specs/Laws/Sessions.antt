@@ -7,15 +7,15 @@ use lib.ListN.{getD}
 use lib.Dec.{eqb}
 use borrow.Author.Tests.{eqb-false}
 use native.Mathlib.Omega.{arith}
-use Rattle.session.specs.Valid.{MapValid, Valid}
-use Rattle.session.specs.declared.tables.Map.{Map}
-use Rattle.session.specs.declared.tables.Tables.{Tables}
+use Rattle.tables.specs.Valid.{MapValid, Valid}
+use Rattle.tables.specs.declared.tables.Map.{Map}
+use Rattle.tables.specs.declared.tables.Tables.{Tables}
 use Rattle.model.specs.Session.{WellFormed}
 use Rattle.model.specs.Laws.Basics.{none-not-some}
 use Rattle.model.specs.Laws.Ordered.{accepted-in-order}
 use Rattle.model.specs.Laws.Bounds.{Within}
 use Rattle.meaning.specs.Tables.{poolOf, sessionOf}
-use Rattle.session.specs.Lookup.{rootOf}
+use Rattle.tables.specs.Lookup.{rootOf}
 use Rattle.meaning.specs.Laws.Counts.{product-is, states-are}
 use Rattle.meaning.specs.Laws.Rows.{transitions-length, entries-length, words-own, moves-within, entries-within}
 use Rattle.meaning.specs.Laws.Order.{arc-within, messages-are, pool-in-order}

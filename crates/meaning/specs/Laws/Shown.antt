@@ -7,9 +7,9 @@ use lib.Seq.{take-append-seam}
 use native.Mathlib.Omega.{arith}
 use native.Mathlib.Nat.{mul-le-mul}
 use Rattle.numbers.specs.Part as Part
-use Rattle.session.specs.Limits.{mostWord, mostMessages}
-use Rattle.session.specs.Valid.{Valid}
-use Rattle.session.specs.declared.tables.Tables.{Tables}
+use Rattle.tables.specs.Limits.{mostWord, mostMessages}
+use Rattle.tables.specs.Valid.{Valid}
+use Rattle.tables.specs.declared.tables.Tables.{Tables}
 use Rattle.explore.specs.Mem.{Mem, here, there}
 use Rattle.model.specs.Model.{Between, nothing, Contents}
 use Rattle.model.specs.Diagram.{word}
@@ -29,7 +29,7 @@ use Rattle.meaning.specs.Laws.Order.{messages-are}
 use Rattle.meaning.specs.Laws.Sessions.{well-formed}
 use Rattle.meaning.specs.Laws.Claims.{Sound}
 use Rattle.meaning.specs.Laws.Checking.{Ways, long, little, whole, ways, enough-long, lent-sound}
-use Rattle.session.specs.Rows.{rowLength, wordEntry, kindAt, queueAt, lengthAt}
+use Rattle.tables.specs.Rows.{rowLength, wordEntry, kindAt, queueAt, lengthAt}
 
 -- a failing item shows no more than w
 reply-shows : (i : Item) (w : List ℕ) (b : ℕ) → length w ≤ b → length (shownOf (verdict (reply i w))) ≤ b

@@ -7,7 +7,7 @@ use lib.ListN.{length, drop, replicate}
 use native.Mathlib.Omega.{arith}
 use Rattle.numbers.specs.Part as Part
 use Rattle.session.specs.File.{readFile}
-use Rattle.session.specs.declared.tables.Tables.{Tables}
+use Rattle.tables.specs.declared.tables.Tables.{Tables}
 use Rattle.explore.specs.Mem.{Mem, here, there}
 use Rattle.model.specs.Model.{run}
 use Rattle.model.specs.Session.{inside}

@@ -1,5 +1,5 @@
 use mathlib.Core.Path.{ap, _∙_}
-use Rattle.session.specs.declared.tables.Tables.{Tables}
+use Rattle.tables.specs.declared.tables.Tables.{Tables}
 use Rattle.measured.specs.Measured.{sampled}
 use borrow.Author.Needs.{needs}
 use Rattle.measured.proofs.measured_read.Statement.{statement}

@@ -6,7 +6,7 @@ use lib.ListN.{length, getD, set, replicate, length-set, length-replicate}
 use lib.Seq.{getD-set-same, getD-set-other}
 use native.Mathlib.Omega.{arith}
 use native.Mathlib.Nat.{zero-add}
-use Rattle.session.specs.Limits.{mostBad}
+use Rattle.tables.specs.Limits.{mostBad}
 use Rattle.numbers.specs.Part.{got}
 use Rattle.numbers.specs.Laws.Parts.{andThen-got, same-value}
 use Rattle.numbers.specs.Number.{readWithin, readTwo}
@@ -14,8 +14,8 @@ use Rattle.session.specs.Bad.{readEntries, readBad}
 use Rattle.numbers.specs.Laws.Ranges.{within-range, two-range}
 use Rattle.numbers.specs.Laws.Written.{changed-set, changed-then, Written, written-none, written-more, zeros-hold}
 use Rattle.numbers.specs.Laws.Rounds.{Rounds, rounds-keep}
-use Rattle.session.specs.Valid.{BadValid}
-use Rattle.session.specs.declared.tables.BadList.{BadList}
+use Rattle.tables.specs.Valid.{BadValid}
+use Rattle.tables.specs.declared.tables.BadList.{BadList}
 
 abbrev Fits : ℕ → ℕ → ℕ → List ℕ → Type 0
 Fits product n b rows = (getD rows (b * 2) 0 < product) × (getD rows (b * 2 + 1) 0 < n)

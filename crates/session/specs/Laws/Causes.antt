@@ -10,41 +10,45 @@ use lib.Dec.{ltb, leb, eqb}
 use borrow.Author.Tests.{ltb-true, ltb-false, leb-true, leb-false, eqb-false}
 use native.Mathlib.Omega.{arith}
 use Rattle.numbers.specs.Limits.{mostBytes}
-use Rattle.session.specs.Limits.{mostMachines, mostStates, mostControls, mostQueues, mostMessages, mostTransitions, mostWord, mostPool, mostBad}
+use Rattle.tables.specs.Limits.{mostMachines, mostStates, mostControls, mostQueues, mostMessages, mostTransitions, mostWord, mostPool, mostBad}
 use Rattle.numbers.specs.Part.{Part, got, refused, provided, andThen}
 use Rattle.numbers.specs.Number.{readNumber, readWithin, readBelow, readTwo}
 use Rattle.numbers.specs.Laws.Parts.{not-refused}
 use Rattle.numbers.specs.Laws.Ranges.{below-number, below-range, within-number, within-range}
 use Rattle.numbers.specs.Laws.Rounds.{Rounds, rounds-more}
 use Rattle.numbers.specs.Laws.Places.{Fair, rounds-fair, number-fair, within-fair, below-fair, two-fair}
-use Rattle.session.specs.Machines.{readFactor, readSizes, readStarts, countedMachines, readMachines}
-use Rattle.session.specs.Queues.{readTerm, readCounts, readQueues, firstOf}
-use Rattle.session.specs.Transitions.{readMessage, readAction, readTransition, readRows, readTransitions}
-use Rattle.session.specs.Pool.{poolArcs, readAscending, readArc, readArcs, readState, readStates, readPool}
+use Rattle.reading_model.specs.Machines.{readFactor, readSizes, readStarts, countedMachines, readMachines}
+use Rattle.reading_model.specs.Queues.{readTerm, readCounts, readQueues}
+use Rattle.tables.specs.Queues.{firstOf}
+use Rattle.reading_model.specs.Transitions.{readMessage, readAction, readTransition, readRows, readTransitions}
+use Rattle.tables.specs.Pool.{poolArcs}
+use Rattle.reading_pool.specs.Pool.{readAscending, readArc, readArcs, readState, readStates, readPool}
 use Rattle.session.specs.Map.{readRoots, readMap}
 use Rattle.session.specs.Bad.{readEntries, readBad}
-use Rattle.session.specs.Model.{readModel}
+use Rattle.reading_model.specs.Model.{readModel}
 use Rattle.session.specs.Sets.{readSets}
-use Rattle.session.specs.Lowest.{inQueueOrder}
+use Rattle.reading_pool.specs.Lowest.{inQueueOrder}
 use Rattle.session.specs.File.{readFile}
 use Rattle.session.specs.Causes.{Field, machineStates, startingState, queueMessages, wordMessage, InRange}
 use Rattle.session.specs.Causes.{ToTransitions, ToTransition, ToMove, ToAction, ToWord, ToState, ToArcs, leastAfter, ArcsRead, no-arc, one-arc-more, ToArc, ToSets, ToBad, ToEntry}
 use Rattle.session.specs.Causes.{Comes, to-machine-count, to-states, to-start, to-queue-count, to-messages, to-transition-count, to-machine, to-from, to-to, to-kind, to-queue, to-word-length, to-word, to-pool-count, to-final, to-arc-count, to-arc, to-target, to-root, to-bad-count, to-control, to-bad-root}
 use Rattle.session.specs.Causes.{Stands, Cause, ends, malformed, outside, product-passed, sum-passed, other-queue, not-ascending}
-use Rattle.session.specs.Laws.Machines.{sizes-rounds, starts-rounds}
-use Rattle.session.specs.Laws.Queues.{counts-rounds}
-use Rattle.session.specs.Laws.Transitions.{word-rounds, rows-rounds}
-use Rattle.session.specs.Laws.Pool.{states-rounds}
+use Rattle.reading_model.specs.Laws.Machines.{sizes-rounds, starts-rounds}
+use Rattle.reading_model.specs.Laws.Queues.{counts-rounds}
+use Rattle.reading_model.specs.Laws.Transitions.{word-rounds, rows-rounds}
+use Rattle.reading_pool.specs.Laws.Pool.{states-rounds}
 use Rattle.session.specs.Laws.Map.{roots-rounds}
 use Rattle.session.specs.Laws.Bad.{entries-rounds}
-use Rattle.session.specs.Laws.Order.{ordered-is}
+use Rattle.reading_pool.specs.Laws.Order.{ordered-is}
 use Rattle.session.specs.Laws.Fields.{fromSets, parts, file-is}
 use Rattle.session.specs.Laws.Valid.{pool-ready}
-use Rattle.session.specs.Laws.Places.{factor-fair, machines-fair, term-fair, queues-fair, message-fair, transition-fair, transitions-fair, model-fair, ascending-fair, arc-fair, arcs-fair, state-fair, pool-fair, map-fair, bad-fair, sets-fair}
-use Rattle.session.specs.declared.tables.Machines.{Machines}
-use Rattle.session.specs.declared.tables.Queues.{Queues}
-use Rattle.session.specs.declared.tables.ModelTables.{ModelTables}
-use Rattle.session.specs.Rows.{rowLength, rowsLength, fromEntry, toEntry, kindEntry, queueEntry, lengthEntry, wordEntry}
+use Rattle.reading_model.specs.Laws.Places.{factor-fair, machines-fair, term-fair, queues-fair, message-fair, transition-fair, transitions-fair, model-fair}
+use Rattle.reading_pool.specs.Laws.Places.{ascending-fair, arc-fair, arcs-fair, state-fair, pool-fair}
+use Rattle.session.specs.Laws.Places.{map-fair, bad-fair, sets-fair}
+use Rattle.tables.specs.declared.tables.Machines.{Machines}
+use Rattle.tables.specs.declared.tables.Queues.{Queues}
+use Rattle.tables.specs.declared.tables.ModelTables.{ModelTables}
+use Rattle.tables.specs.Rows.{rowLength, rowsLength, fromEntry, toEntry, kindEntry, queueEntry, lengthEntry, wordEntry}
 
 module _ (s : List ℕ) where
   module _ {A : Type 0} where

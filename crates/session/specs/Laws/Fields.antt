@@ -11,17 +11,19 @@ use native.Mathlib.Omega.{arith}
 use Rattle.numbers.specs.Limits.{mostBytes}
 use Rattle.numbers.specs.Part.{Part, got, refused, provided, andThen}
 use Rattle.numbers.specs.Laws.Parts.{provided-got, same-value, same-place}
-use Rattle.session.specs.Pool.{readPool}
-use Rattle.session.specs.Lowest.{inQueueOrder}
-use Rattle.session.specs.Model.{readModel}
+use Rattle.reading_pool.specs.Pool.{readPool}
+use Rattle.reading_pool.specs.Lowest.{inQueueOrder}
+use Rattle.reading_model.specs.Model.{readModel}
 use Rattle.session.specs.Sets.{readSets}
 use Rattle.session.specs.File.{readFile, joined}
 use Rattle.numbers.specs.Laws.Places.{Fair}
-use Rattle.session.specs.Laws.Places.{model-fair, pool-fair, sets-fair}
-use Rattle.session.specs.declared.tables.ModelTables.{ModelTables}
-use Rattle.session.specs.declared.tables.Pool.{Pool}
-use Rattle.session.specs.declared.tables.SetTables.{SetTables}
-use Rattle.session.specs.declared.tables.Tables.{Tables}
+use Rattle.reading_model.specs.Laws.Places.{model-fair}
+use Rattle.reading_pool.specs.Laws.Places.{pool-fair}
+use Rattle.session.specs.Laws.Places.{sets-fair}
+use Rattle.tables.specs.declared.tables.ModelTables.{ModelTables}
+use Rattle.tables.specs.declared.tables.Pool.{Pool}
+use Rattle.tables.specs.declared.tables.SetTables.{SetTables}
+use Rattle.tables.specs.declared.tables.Tables.{Tables}
 
 -- the model and the sets that tables have
 abbrev pub modelTables : Tables → ModelTables

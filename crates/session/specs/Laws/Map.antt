@@ -8,7 +8,7 @@ use lib.Dec.{ltb}
 use borrow.Author.Tests.{ltb-true, ltb-false}
 use native.Mathlib.Omega.{arith}
 use native.Mathlib.Nat.{zero-add}
-use Rattle.session.specs.Limits.{mostControls}
+use Rattle.tables.specs.Limits.{mostControls}
 use Rattle.numbers.specs.Part.{got}
 use Rattle.numbers.specs.Laws.Parts.{andThen-got, same-value}
 use Rattle.numbers.specs.Number.{readWithin}
@@ -16,8 +16,8 @@ use Rattle.session.specs.Map.{readRoots, readMap}
 use Rattle.numbers.specs.Laws.Ranges.{within-range}
 use Rattle.numbers.specs.Laws.Written.{Entries, entries-none, entries-more, zeros-hold}
 use Rattle.numbers.specs.Laws.Rounds.{Rounds, rounds-keep}
-use Rattle.session.specs.Valid.{MapValid}
-use Rattle.session.specs.declared.tables.Map.{Map}
+use Rattle.tables.specs.Valid.{MapValid}
+use Rattle.tables.specs.declared.tables.Map.{Map}
 
 module _ (s : List ℕ) (n : ℕ) where
   pub roots-rounds : Rounds (λ left i at x. readRoots s at n left i x) (λ i at x. readWithin s at 0 n) (λ i v x. set x i v)

@@ -8,12 +8,12 @@ use native.Mathlib.Omega.{arith}
 use Rattle.numbers.specs.Part.{Part, got, refused}
 use Rattle.session.specs.Said.{Reply, read, refusal, saidAnswer}
 use Rattle.session.specs.File.{readFile, empty, replyOf, tablesOf, Reads}
-use Rattle.session.specs.Valid.{Valid}
+use Rattle.tables.specs.Valid.{Valid}
 use Rattle.session.specs.Laws.Valid.{valid}
 use Rattle.numbers.specs.declared.refusal.Refusal.the-variants.{TooLong, Ends, NotShortest, OutOfRange, PassesLimit, OtherQueue, NotAscending, NotInQueueOrder, Trailing}
 use Rattle.session.specs.declared.reading.Answer.{Answer}
 use Rattle.session.specs.declared.reading.Answer.the-variants.{Read, Refused}
-use Rattle.session.specs.declared.tables.Tables.{Tables}
+use Rattle.tables.specs.declared.tables.Tables.{Tables}
 use Rattle.session.specs.declared.reading.Reading.{Reading}
 
 -- the answer that says a reply

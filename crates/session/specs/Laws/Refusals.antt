@@ -11,20 +11,22 @@ use borrow.Author.Tests.{leb-true, leb-false, lt-leb}
 use native.Mathlib.Omega.{arith}
 use Rattle.numbers.specs.Limits.{mostBytes}
 use Rattle.numbers.specs.Part.{Part, got, refused, provided}
-use Rattle.session.specs.Pool.{readPool}
-use Rattle.session.specs.Lowest.{inQueueOrder}
-use Rattle.session.specs.Model.{readModel}
+use Rattle.reading_pool.specs.Pool.{readPool}
+use Rattle.reading_pool.specs.Lowest.{inQueueOrder}
+use Rattle.reading_model.specs.Model.{readModel}
 use Rattle.session.specs.Sets.{readSets}
 use Rattle.session.specs.File.{readFile}
-use Rattle.session.specs.Order.{QueueOrdered}
-use Rattle.session.specs.Laws.Order.{ordered-is}
+use Rattle.tables.specs.Order.{QueueOrdered}
+use Rattle.reading_pool.specs.Laws.Order.{ordered-is}
 use Rattle.numbers.specs.Laws.Places.{Placed, refuses-late, Fair, fair-more, fair-provided, fair-then}
-use Rattle.session.specs.Laws.Places.{model-fair, pool-fair, sets-fair}
+use Rattle.reading_model.specs.Laws.Places.{model-fair}
+use Rattle.reading_pool.specs.Laws.Places.{pool-fair}
+use Rattle.session.specs.Laws.Places.{sets-fair}
 use Rattle.session.specs.Laws.Fields.{ToPool, to-pool, Fields, to-end, fromSets, parts, file-is, Late, Reached, reached, Ended, ended}
 use Rattle.session.specs.Laws.Valid.{pool-ready}
-use Rattle.session.specs.declared.tables.ModelTables.{ModelTables}
-use Rattle.session.specs.declared.tables.Pool.{Pool}
-use Rattle.session.specs.declared.tables.Tables.{Tables}
+use Rattle.tables.specs.declared.tables.ModelTables.{ModelTables}
+use Rattle.tables.specs.declared.tables.Pool.{Pool}
+use Rattle.tables.specs.declared.tables.Tables.{Tables}
 
 module _ (s : List ℕ) where
   sets-on-fair : (at : ℕ) (M : ModelTables) (P : Pool) → at ≤ length s → Fair s 10 at (fromSets s at M P)

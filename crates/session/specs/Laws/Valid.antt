@@ -4,43 +4,22 @@ use mathlib.Core.Path.{_≡_, subst}
 use mathlib.Core.List.{List}
 use Rattle.numbers.specs.Part.{got}
 use Rattle.numbers.specs.Laws.Parts.{andThen-got, same-value}
-use Rattle.session.specs.Limits.{mostControls}
-use Rattle.session.specs.Machines.{readMachines}
-use Rattle.session.specs.Queues.{readQueues}
-use Rattle.session.specs.Transitions.{readTransitions}
+use Rattle.tables.specs.Limits.{mostControls}
 use Rattle.session.specs.Map.{readMap}
 use Rattle.session.specs.Bad.{readBad}
-use Rattle.session.specs.Model.{readModel}
 use Rattle.session.specs.Sets.{readSets}
 use Rattle.session.specs.File.{readFile}
-use Rattle.session.specs.Valid.{MachinesValid, QueuesValid, TransitionsValid, PoolValid, MapValid, BadValid, Valid, ModelValid, SetsValid}
-use Rattle.session.specs.Laws.Machines.{machines-valid}
-use Rattle.session.specs.Laws.Queues.{queues-valid}
-use Rattle.session.specs.Laws.Transitions.{transitions-valid}
-use Rattle.session.specs.Laws.Pool.{pool-valid}
-use Rattle.session.specs.Order.{QueueOrdered}
-use Rattle.session.specs.Laws.Order.{ordered-is}
+use Rattle.tables.specs.Valid.{PoolValid, Valid, ModelValid, SetsValid}
+use Rattle.reading_pool.specs.Laws.Pool.{pool-valid}
+use Rattle.reading_pool.specs.Laws.Order.{ordered-is}
 use Rattle.session.specs.Laws.Map.{map-valid}
 use Rattle.session.specs.Laws.Bad.{bad-valid}
 use Rattle.session.specs.Laws.Fields.{ToPool, read-is}
-use Rattle.session.specs.declared.tables.ModelTables.{ModelTables}
-use Rattle.session.specs.declared.tables.Pool.{Pool}
-use Rattle.session.specs.declared.tables.SetTables.{SetTables}
-use Rattle.session.specs.declared.tables.Tables.{Tables}
-
-pub model-valid : (s : List ℕ) (at : ℕ) {M : ModelTables} {next : ℕ} → readModel s at ≡ got M next → ModelValid M
-unfolding readModel
-model-valid s at e =
-    let m = andThen-got (readMachines s at) e in
-    let q = andThen-got (readQueues s (m .place)) (m .then) in
-    let τ = andThen-got (readTransitions s (q .place) (m .value) (q .value)) (q .then) in
-    let queues = queues-valid s (m .place) (q .first) in
-    subst ModelValid (same-value (τ .then))
-    (record {
-      machines = machines-valid s at (m .first);
-      queues = queues;
-      transitions = transitions-valid s (m .value) (q .value) (queues .least) (q .place) (τ .first);
-    })
+use Rattle.tables.specs.declared.tables.ModelTables.{ModelTables}
+use Rattle.tables.specs.declared.tables.Pool.{Pool}
+use Rattle.tables.specs.declared.tables.SetTables.{SetTables}
+use Rattle.tables.specs.declared.tables.Tables.{Tables}
+use Rattle.reading_model.specs.Laws.Model.{model-valid}
 
 pub sets-valid : (s : List ℕ) (product n at : ℕ) {D : SetTables} {next : ℕ} → product ≤ mostControls
     → readSets s at product n ≡ got D next → SetsValid product n D

@@ -5,7 +5,7 @@ use mathlib.Core.Bool.{Bool, true, false}
 use mathlib.Core.Option.{Option, none, some}
 use mathlib.Core.List.{List, [], _∷_, map}
 use native.Mathlib.Nat.{zero-add}
-use Rattle.session.specs.declared.tables.Tables.{Tables}
+use Rattle.tables.specs.declared.tables.Tables.{Tables}
 use Rattle.model.specs.Model.{number, begin}
 use Rattle.model.specs.Diagram.{word, accepts}
 use Rattle.model.specs.Session.{inside}
@@ -13,8 +13,8 @@ use Rattle.model.specs.Verdict.{Item, start, outside}
 use Rattle.model.specs.Judge.{decide, judge}
 use Rattle.model.specs.Laws.Deciding.{decide-passes, decide-fails}
 use Rattle.meaning.specs.Tables.{sessionOf}
-use Rattle.session.specs.Kinds.{reachedOf}
-use Rattle.session.specs.Lookup.{rootOf, finalAt, RootAt}
+use Rattle.tables.specs.Kinds.{reachedOf}
+use Rattle.tables.specs.Lookup.{rootOf, finalAt, RootAt}
 use Rattle.controls.specs.Controls.{sizesOf, startsOf}
 
 -- empty queues have no messages

@@ -7,18 +7,18 @@ use native.Mathlib.Omega.{arith}
 use native.Mathlib.Numerals.{add-one}
 use lib.ListN.{length, getD, take, drop, set, replicate, length-replicate, take-append-drop, replicate-append-replicate, drop-of-length-le}
 use lib.Seq.{drop-cons, set-at, take-at, length-take-le}
-use Rattle.session.specs.Limits.{mostPool}
-use Rattle.session.specs.Valid.{MachinesValid}
-use Rattle.session.specs.declared.tables.Machines.{Machines}
-use Rattle.session.specs.declared.tables.Queues.{Queues}
-use Rattle.session.specs.declared.tables.Tables.{Tables}
+use Rattle.tables.specs.Limits.{mostPool}
+use Rattle.tables.specs.Valid.{MachinesValid}
+use Rattle.tables.specs.declared.tables.Machines.{Machines}
+use Rattle.tables.specs.declared.tables.Queues.{Queues}
+use Rattle.tables.specs.declared.tables.Tables.{Tables}
 use Rattle.model.specs.Model.{number, begin, controls}
 use Rattle.model.specs.Session.{Session, inside}
 use Rattle.model.specs.Verdict.{Reply, outside, stepsFrom, entriesFrom}
 use Rattle.model.specs.Judge as Model
 use Rattle.model.specs.Judge.{decide}
 use Rattle.meaning.specs.Tables.{sessionOf, entriesFrom as entriesIn}
-use Rattle.session.specs.Lookup.{rootOf, finalAt}
+use Rattle.tables.specs.Lookup.{rootOf, finalAt}
 use Rattle.meaning.specs.Reply.{FileReply, verdict}
 use Rattle.walk.specs.Pairs.{mostPairs}
 use Rattle.walk.specs.Marks.{Blank}

@@ -6,8 +6,8 @@ use mathlib.Core.Option.{Option, none, some, Option·map}
 use mathlib.Core.List.{List, [], _∷_, _++_}
 use native.Mathlib.Omega.{arith}
 use lib.ListN.{length, getD, take, drop, length-take}
-use Rattle.session.specs.Valid.{Valid}
-use Rattle.session.specs.declared.tables.Tables.{Tables}
+use Rattle.tables.specs.Valid.{Valid}
+use Rattle.tables.specs.declared.tables.Tables.{Tables}
 use Rattle.model.specs.Model.{Action, local, send, receive, messages, moved}
 use Rattle.model.specs.Session.{Session}
 use Rattle.model.specs.Verdict as Model
@@ -17,12 +17,12 @@ use Rattle.model.specs.Judge.{cut, stepWalk, entryWalk, beginStep, beginEntry, 
 use Rattle.model.specs.Searched.{searched, searchWalk, judgeBySearch}
 use Rattle.model.specs.Laws.Items.{IsItem}
 use Rattle.meaning.specs.Tables.{sessionOf, transitionAt}
-use Rattle.session.specs.Limits.{mostPool, mostWord}
-use Rattle.session.specs.Kinds.{reachedOf}
-use Rattle.session.specs.Lookup.{rootOf, RootAt}
-use Rattle.session.specs.Laws.Lookup.{reached-nowhere, reached-state, reached-small}
-use Rattle.session.specs.declared.kinds.DiagramState.{DiagramState}
-use Rattle.session.specs.declared.kinds.Reached.{Reached}
+use Rattle.tables.specs.Limits.{mostPool, mostWord}
+use Rattle.tables.specs.Kinds.{reachedOf}
+use Rattle.tables.specs.Lookup.{rootOf, RootAt}
+use Rattle.tables.specs.Laws.Lookup.{reached-nowhere, reached-state, reached-small}
+use Rattle.tables.specs.declared.kinds.DiagramState.{DiagramState}
+use Rattle.tables.specs.declared.kinds.Reached.{Reached}
 use Rattle.meaning.specs.Laws.Sessions.{well-formed}
 use Rattle.meaning.specs.Laws.Order.{messages-are}
 use Rattle.walk.specs.Pairs.{mostPairs, afterSide, pairOf}
@@ -36,7 +36,7 @@ use Rattle.walk.specs.declared.pairs.Node.{Node}
 use Rattle.verdict.specs.Start.{actionAt, cutOf, Cuts}
 use Rattle.controls.specs.Controls.{Moved}
 use Rattle.verdict.specs.declared.start.Cut.{Cut}
-use Rattle.session.specs.Rows.{wordEntry, lengthAt}
+use Rattle.tables.specs.Rows.{wordEntry, lengthAt}
 
 cut-is : (S : Session) (a : Action) → cutOf (S .model .queues) a ≡ cut S a
 cut-is S local = refl

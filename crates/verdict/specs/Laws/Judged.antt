@@ -7,12 +7,12 @@ use mathlib.Core.List.{List, [], _∷_}
 use native.Mathlib.Omega.{arith}
 use native.Mathlib.Nat.{zero-add}
 use lib.ListN.{length, getElem?, take, drop}
-use Rattle.session.specs.Limits.{mostTransitions}
-use Rattle.session.specs.Valid.{MachinesValid, RowValid}
-use Rattle.session.specs.declared.kinds.ControlState.{ControlState}
-use Rattle.session.specs.declared.tables.Machines.{Machines}
-use Rattle.session.specs.declared.tables.Queues.{Queues}
-use Rattle.session.specs.declared.tables.Tables.{Tables}
+use Rattle.tables.specs.Limits.{mostTransitions}
+use Rattle.tables.specs.Valid.{MachinesValid, RowValid}
+use Rattle.tables.specs.declared.kinds.ControlState.{ControlState}
+use Rattle.tables.specs.declared.tables.Machines.{Machines}
+use Rattle.tables.specs.declared.tables.Queues.{Queues}
+use Rattle.tables.specs.declared.tables.Tables.{Tables}
 use Rattle.model.specs.Model.{isAt, controls}
 use Rattle.model.specs.Verdict.{step, stepsAt, Reply, closed, leaves}
 use Rattle.model.specs.Judge as Model
@@ -29,7 +29,7 @@ use Rattle.verdict.specs.Laws.Turns.{turn-skips, turn-passes, turn-fails
 use Rattle.walk.specs.declared.judge.Judged.{Judged}
 use Rattle.walk.specs.declared.judge.Judged.the-variants.{Passes, Fails}
 use Rattle.verdict.specs.declared.judged.Progress.the-variants.{Passed, Leaves}
-use Rattle.session.specs.Rows.{rowLength, rowsLength}
+use Rattle.tables.specs.Rows.{rowLength, rowsLength}
 
 module _ {T : Tables} {m : Machines} {q : Queues} {rows arcs finals roots : List ℕ} where
   pub fewer-parts : {count : ℕ} → Parts T m q rows arcs finals roots count → {less : ℕ} → less ≤ count → Parts T m q rows arcs finals roots less

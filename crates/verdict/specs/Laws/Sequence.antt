@@ -6,8 +6,8 @@ use native.Mathlib.Omega.{arith}
 use native.Mathlib.Nat.{sub-zero}
 use native.Mathlib.Numerals.{add-one}
 use lib.ListN.{length, getD, take, drop}
-use Rattle.session.specs.declared.kinds.ControlState.{ControlState}
-use Rattle.session.specs.declared.tables.Tables.{Tables}
+use Rattle.tables.specs.declared.kinds.ControlState.{ControlState}
+use Rattle.tables.specs.declared.tables.Tables.{Tables}
 use Rattle.model.specs.Model.{Model}
 use Rattle.model.specs.Session.{Session}
 use Rattle.model.specs.Verdict.{Item, entry, stepsAt, stepsFrom, entriesFrom, Reply, closed}
@@ -18,7 +18,7 @@ use Rattle.verdict.specs.Judging.{Kept, Scratch, saidSoFar, Judges}
 use Rattle.verdict.specs.Laws.Turns.{steps-split}
 use Rattle.verdict.specs.declared.judged.Progress.{Progress}
 use Rattle.verdict.specs.declared.judged.Progress.the-variants.{Passed, Leaves, Meets}
-use Rattle.session.specs.Rows.{rowLength}
+use Rattle.tables.specs.Rows.{rowLength}
 
 -- nothing was written
 pub kept-none : {contents₀ contents₁ : List ℕ} → Kept 0 contents₀ contents₁ → contents₁ ≡ contents₀

@@ -5,10 +5,10 @@ use mathlib.Core.Logic.{_⊎_, inl, inr}
 use mathlib.Core.List.{List}
 use native.Mathlib.Omega.{arith}
 use lib.ListN.{length, getD, take, drop}
-use Rattle.session.specs.Queues as Table
-use Rattle.session.specs.Valid.{QueuesValid}
-use Rattle.session.specs.Laws.Queues.{first-ascends}
-use Rattle.session.specs.declared.tables.Queues.{Queues}
+use Rattle.tables.specs.Queues as Table
+use Rattle.tables.specs.Valid.{QueuesValid}
+use Rattle.tables.specs.Laws.Queues.{first-ascends}
+use Rattle.tables.specs.declared.tables.Queues.{Queues}
 use Rattle.model.specs.Model.{Action, local, send, receive, firstOf}
 use Rattle.model.specs.Judge.{out, into, rootPair}
 use Rattle.meaning.specs.Tables.{actionOf}
@@ -17,7 +17,7 @@ use Rattle.walk.specs.Pairs.{afterSide, sideOf}
 use Rattle.walk.specs.Over.{wordOver}
 use Rattle.verdict.specs.Start.{actionAt, cutOf, Cuts}
 use Rattle.verdict.specs.declared.start.Cut.{Cut}
-use Rattle.session.specs.Rows.{wordEntry, kindAt, queueAt, lengthAt, wordAt}
+use Rattle.tables.specs.Rows.{wordEntry, kindAt, queueAt, lengthAt, wordAt}
 
 module _ (q : Queues) (rows : List ℕ) (row : ℕ) where
   abbrev ns : List ℕ

@@ -8,10 +8,10 @@ use native.Mathlib.Omega.{arith}
 use native.Mathlib.Nat.{mul-le-mul}
 use lib.ListN.{length, getD, take, drop, length-append, length-drop}
 use lib.Seq.{drop-at}
-use Rattle.session.specs.Valid.{MachinesValid, QueuesValid, RowValid, Valid}
-use Rattle.session.specs.declared.tables.Machines.{Machines}
-use Rattle.session.specs.declared.tables.Queues.{Queues}
-use Rattle.session.specs.declared.tables.Tables.{Tables}
+use Rattle.tables.specs.Valid.{MachinesValid, QueuesValid, RowValid, Valid}
+use Rattle.tables.specs.declared.tables.Machines.{Machines}
+use Rattle.tables.specs.declared.tables.Queues.{Queues}
+use Rattle.tables.specs.declared.tables.Tables.{Tables}
 use Rattle.model.specs.Session.{Session}
 use Rattle.model.specs.Verdict.{Item, step, entry, items, Pair, most}
 use Rattle.model.specs.Judge as Model
@@ -25,11 +25,11 @@ use Rattle.walk.specs.Pairs.{mostPairs, pairOf, NodeFits, afterSide}
 use Rattle.walk.specs.Marks.{Blank}
 use Rattle.walk.specs.Over.{Lent, WordWithin}
 use Rattle.walk.specs.Judged.{judgedOver, ShownFits, Judges, shownOf, saidJudged, shownBy}
-use Rattle.session.specs.Limits.{mostPool, mostWord}
-use Rattle.session.specs.Lookup.{RootAt}
-use Rattle.session.specs.Laws.Lookup.{arcs-small, state-below}
-use Rattle.session.specs.declared.kinds.DiagramState.{DiagramState}
-use Rattle.session.specs.declared.kinds.Reached.{Reached}
+use Rattle.tables.specs.Limits.{mostPool, mostWord}
+use Rattle.tables.specs.Lookup.{RootAt}
+use Rattle.tables.specs.Laws.Lookup.{arcs-small, state-below}
+use Rattle.tables.specs.declared.kinds.DiagramState.{DiagramState}
+use Rattle.tables.specs.declared.kinds.Reached.{Reached}
 use Rattle.walk.specs.declared.pairs.Walk.{Walk}
 use Rattle.walk.specs.declared.pairs.Node.{Node}
 use Rattle.walk.specs.declared.judge.Judged.{Judged}
@@ -40,7 +40,7 @@ use Rattle.verdict.specs.Judging.{pairsOf, Kept, Scratch, Judging, Parts
 use Rattle.verdict.specs.Laws.Turns.{judged-item, few-pairs}
 use Rattle.verdict.specs.Laws.Item.{step-nothing, step-judged, step-fits, entry-nothing, entry-judged, entry-fits}
 use Rattle.verdict.specs.declared.start.Cut.{Cut}
-use Rattle.session.specs.Rows.{rowLength, wordEntry, lengthAt}
+use Rattle.tables.specs.Rows.{rowLength, wordEntry, lengthAt}
 
 -- the front of the buffer is written, the rest is kept
 kept-front : (u contents contents′ : List ℕ) (n : ℕ) → n ≡ length u → contents′ ≡ u ++ drop (length u) contents

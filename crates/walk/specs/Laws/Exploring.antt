@@ -14,13 +14,13 @@ use Rattle.explore.specs.SearchLaws.{search-end, search-found, search-on}
 use Rattle.numbers.specs.Laws.Parts.{one-more}
 use Rattle.model.specs.Verdict.{Pair}
 use Rattle.model.specs.Judge.{same}
-use Rattle.session.specs.Lookup.{finalAt}
+use Rattle.tables.specs.Lookup.{finalAt}
 use Rattle.walk.specs.declared.pairs.Node.{Node}
 use Rattle.walk.specs.declared.search.Outcome.{Outcome}
 use Rattle.walk.specs.declared.search.Outcome.the-variants as Answer
-use Rattle.session.specs.Kinds.{reachedOf}
+use Rattle.tables.specs.Kinds.{reachedOf}
 use Rattle.walk.specs.Pairs.{mostPairs, sideOf, decode, pairOf, NodeFits}
-use Rattle.session.specs.Laws.Lookup.{reached-small}
+use Rattle.tables.specs.Laws.Lookup.{reached-small}
 use Rattle.walk.specs.Laws.Pairs.{after-side}
 use Rattle.walk.specs.Marks.{foundAt, view, Tables, Pushed, Swept}
 use Rattle.walk.specs.Laws.Marks.{tables-most, view-length, swept-more}

@@ -6,7 +6,7 @@ use Prim.Native.Nat.{ℕ, _+_, _-_, _*_, _≤_}
 use native.Mathlib.Omega.{arith}
 use native.Mathlib.Nat.{mul-le-mul}
 use lib.ListN.{length}
-use Rattle.session.specs.Limits.{mostPool}
+use Rattle.tables.specs.Limits.{mostPool}
 use Rattle.model.specs.Session.{Session, WellFormed}
 use Rattle.model.specs.Verdict as Verdict
 use Rattle.model.specs.Verdict.{Item, start, step, entry, Pair}

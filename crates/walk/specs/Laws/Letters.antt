@@ -10,7 +10,7 @@ use borrow.Author.Tests.{lt-ltb, le-ltb, eq-eqb, ne-eqb}
 use Rattle.model.specs.Verdict.{Pair}
 use Rattle.walk.specs.declared.pairs.Node.{Node}
 use Rattle.walk.specs.declared.pairs.Walk.{Walk}
-use Rattle.session.specs.Kinds.{reachedOf}
+use Rattle.tables.specs.Kinds.{reachedOf}
 use Rattle.walk.specs.Pairs.{afterSide, sideOf, pairOf, NodeFits}
 use Rattle.walk.specs.Laws.Pairs.{after-side}
 use Rattle.walk.specs.Over.{readOver, jumpOver, goOver}

@@ -13,7 +13,7 @@ use Rattle.model.specs.Verdict.{Pair}
 use Rattle.model.specs.Judge.{same}
 use Rattle.walk.specs.declared.pairs.Node.{Node}
 use Rattle.walk.specs.declared.pairs.Walk.{Walk}
-use Rattle.session.specs.Kinds.{reachedOf}
+use Rattle.tables.specs.Kinds.{reachedOf}
 use Rattle.walk.specs.Pairs.{decode, pairOf, NodeOf}
 use Rattle.walk.specs.Over.{jumpOver, goOver, readFrom}
 use Rattle.walk.specs.Laws.Letters.{before-read, before-none, before-step, after-low, after-read, after-high}

@@ -9,10 +9,10 @@ use native.Mathlib.Nat.{sub-zero, add-zero, sub-eq-zero-of-le}
 use lib.ListN.{length, getD, take, drop}
 use lib.Seq.{drop-cons}
 use borrow.Author.Tests.{lt-ltb}
-use Rattle.session.specs.Pool.{arcAt}
+use Rattle.tables.specs.Pool.{arcAt}
 use Rattle.numbers.specs.Laws.Parts.{one-more}
-use Rattle.session.specs.Limits.{mostPool, mostMessages}
-use Rattle.session.specs.Lookup.{alongArc, AlongTo}
+use Rattle.tables.specs.Limits.{mostPool, mostMessages}
+use Rattle.tables.specs.Lookup.{alongArc, AlongTo}
 use Rattle.meaning.specs.Tables.{arcOf}
 use Rattle.model.specs.Diagram.{along, follow}
 use Rattle.model.specs.Verdict.{Pair, after}
@@ -21,9 +21,9 @@ use Rattle.walk.specs.declared.pairs.Node.{Node}
 use Rattle.walk.specs.declared.pairs.Walk.{Walk}
 use Rattle.walk.specs.declared.moves.Next.{Next}
 use Rattle.walk.specs.declared.moves.Next.the-variants as Answer
-use Rattle.session.specs.Kinds.{reachedOf}
+use Rattle.tables.specs.Kinds.{reachedOf}
 use Rattle.walk.specs.Pairs.{nowhere, afterSide, sideOf, pairOf, Coded}
-use Rattle.session.specs.Laws.Lookup.{reached-nowhere, reached-state, reached-small}
+use Rattle.tables.specs.Laws.Lookup.{reached-nowhere, reached-state, reached-small}
 use Rattle.walk.specs.Over.{poolOver, wordOver, readOver, jumpOver, WordWithin, Reads, Follows}
 use Rattle.walk.specs.Leads.{LeadsTo}
 

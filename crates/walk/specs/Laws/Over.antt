@@ -7,7 +7,7 @@ use Prim.Native.Nat.{ℕ, suc}
 use lib.Dec.{ltb, eqb}
 use Rattle.explore.specs.Search.{searchFrom}
 use Rattle.meaning.specs.Tables.{arcOf}
-use Rattle.session.specs.Lookup.{finalAt}
+use Rattle.tables.specs.Lookup.{finalAt}
 use Rattle.model.specs.Diagram.{along, follow, isFinal}
 use Rattle.model.specs.Session.{Session}
 use Rattle.model.specs.Verdict.{Pair, before, after}

@@ -7,12 +7,12 @@ use native.Mathlib.Omega.{arith}
 use native.Mathlib.Decide.{decLt}
 use lib.Dec.{eqb}
 use borrow.Author.Tests.{eqb-true, eqb-false, lt-ltb, le-ltb}
-use Rattle.session.specs.Limits.{mostPool}
+use Rattle.tables.specs.Limits.{mostPool}
 use Rattle.model.specs.Verdict.{before, after}
 use Rattle.model.specs.Judge.{same}
 use Rattle.model.specs.Laws.Judging.{same-equality}
 use Rattle.walk.specs.declared.pairs.Node.{Node}
-use Rattle.session.specs.Kinds.{reachedOf}
+use Rattle.tables.specs.Kinds.{reachedOf}
 use Rattle.walk.specs.Pairs.{nowhere, stride, afterSide, mostPairs, sideOf, decode, reachedCode, code, NodeFits, Coded, NodeOf}
 
 reached-code : (t : ℕ) → reachedCode (reachedOf t) ≡ t

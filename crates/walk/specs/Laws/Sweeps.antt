@@ -12,7 +12,7 @@ use Rattle.model.specs.Verdict.{Pair}
 use Rattle.model.specs.Judge.{same}
 use Rattle.walk.specs.declared.pairs.Walk.{Walk}
 use Rattle.walk.specs.declared.pairs.Node.{Node}
-use Rattle.session.specs.Kinds.{reachedOf}
+use Rattle.tables.specs.Kinds.{reachedOf}
 use Rattle.walk.specs.Pairs.{pairOf, NodeFits}
 use Rattle.walk.specs.Marks.{view, Tables, Shows, Pushed, Swept}
 use Rattle.walk.specs.Laws.Marks.{pushed-more}

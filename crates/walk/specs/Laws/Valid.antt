@@ -4,15 +4,15 @@ use mathlib.Core.List.{List}
 use Prim.Native.Nat.{ℕ, _+_, _*_, _≤_, _<_}
 use native.Mathlib.Omega.{arith}
 use lib.ListN.{length, getD}
-use Rattle.session.specs.Valid.{QueuesValid, TransitionsValid, Valid}
-use Rattle.session.specs.Laws.Lookup.{arcs-small}
-use Rattle.session.specs.declared.tables.Machines.{Machines}
-use Rattle.session.specs.declared.tables.Queues.{Queues}
-use Rattle.session.specs.declared.tables.Transitions.{Transitions}
-use Rattle.session.specs.declared.tables.Tables.{Tables}
+use Rattle.tables.specs.Valid.{QueuesValid, TransitionsValid, Valid}
+use Rattle.tables.specs.Laws.Lookup.{arcs-small}
+use Rattle.tables.specs.declared.tables.Machines.{Machines}
+use Rattle.tables.specs.declared.tables.Queues.{Queues}
+use Rattle.tables.specs.declared.tables.Transitions.{Transitions}
+use Rattle.tables.specs.declared.tables.Tables.{Tables}
 use Rattle.model.specs.Model.{messages}
 use Rattle.meaning.specs.Tables.{sessionOf}
-use Rattle.session.specs.Rows.{rowLength, wordEntry, lengthAt}
+use Rattle.tables.specs.Rows.{rowLength, wordEntry, lengthAt}
 use Rattle.walk.specs.declared.pairs.Walk.{Walk}
 use Rattle.walk.specs.Over.{WordWithin, Lent, Over}
 

@@ -1,13 +1,13 @@
 use mathlib.Core.Path.{_∙_}
 use native.Mathlib.Omega.{arith}
-use Rattle.session.specs.Laws.Kinds.{control-made}
+use Rattle.tables.specs.Laws.Kinds.{control-made}
 use Rattle.controls.specs.Laws.Begin.{read-numberable, start-below}
 use borrow.Author.Needs.{needs}
 use Rattle.controls.proofs.begin.first_control.Statement.{statement}
 use Rattle.controls.proofs.begin.first_control.Tie as tie
 use Rattle.controls.proofs.begin.first_control.Reads as reads
 use Rattle.controls.proofs.begin.first_control.Lts as lts
-use Rattle.session.proofs.kinds.ControlState.new.Reads as new-reads
+use Rattle.tables.proofs.kinds.ControlState.new.Reads as new-reads
 use Rattle.numbers.proofs.number.wide.Reads as wide-reads
 use Rattle.controls.proofs.begin.number_of.Reads as number-of-reads
 

@@ -8,7 +8,7 @@ use Rattle.controls.proofs.moves.moved.Statement.{statement}
 use Rattle.controls.proofs.moves.moved.Tie as tie
 use Rattle.controls.proofs.moves.moved.Reads as reads
 use Rattle.controls.proofs.moves.moved.Lts as lts
-use Rattle.session.proofs.kinds.ControlState.new.Reads as new-reads
+use Rattle.tables.proofs.kinds.ControlState.new.Reads as new-reads
 use Rattle.numbers.proofs.number.wide.Reads as wide-reads
 use Rattle.controls.proofs.parting.part_at.Reads as part-at-reads
 

@@ -1,5 +1,5 @@
 use native.Mathlib.Omega.{arith}
-use Rattle.session.specs.Laws.Kinds.{control-made}
+use Rattle.tables.specs.Laws.Kinds.{control-made}
 use mathlib.Core.Path.{sym, _∙_}
 use denote.Ref.{now}
 use Rattle.diagram.specs.Laws.Asking.{ask-unknown, ask-judged}
@@ -8,9 +8,9 @@ use Rattle.diagram.proofs.member.ask.Statement.{statement}
 use Rattle.diagram.proofs.member.ask.Tie as tie
 use Rattle.diagram.proofs.member.ask.Reads as reads
 use Rattle.diagram.proofs.member.ask.Lts as lts
-use Rattle.session.proofs.lookup.root_of.Reads as root-of-reads
+use Rattle.tables.proofs.lookup.root_of.Reads as root-of-reads
 use Rattle.diagram.proofs.member.judge.Reads as judge-reads
-use Rattle.session.proofs.kinds.ControlState.new.Reads as new-reads
+use Rattle.tables.proofs.kinds.ControlState.new.Reads as new-reads
 
 -- src/member.rt:82:9
 returns : tie.Need-returns

@@ -5,19 +5,19 @@ use lib.ListN.{length}
 use denote.Ref.{now}
 use native.Mathlib.Omega.{arith}
 use Prim.Native.Nat.{_≤_}
-use Rattle.session.specs.Limits.{mostPool}
-use Rattle.session.specs.Kinds.{reachedOf}
-use Rattle.session.specs.Laws.Lookup.{arcs-small}
-use Rattle.session.specs.Laws.Kinds.{message-made}
+use Rattle.tables.specs.Limits.{mostPool}
+use Rattle.tables.specs.Kinds.{reachedOf}
+use Rattle.tables.specs.Laws.Lookup.{arcs-small}
+use Rattle.tables.specs.Laws.Kinds.{message-made}
 use Rattle.diagram.specs.Laws.Judging.{Judging, judging-begin, judging-unknown, judging-earlier, judging-on, judging-end}
 use Rattle.diagram.proofs.member.judge.Statement.{statement}
 use Rattle.diagram.proofs.member.judge.Tie as tie
 use Rattle.diagram.proofs.member.judge.Reads as reads
 use Rattle.diagram.proofs.member.judge.Lts as lts
-use Rattle.session.proofs.lookup.along.Reads as along-reads
-use Rattle.session.proofs.lookup.is_final.Reads as is-final-reads
+use Rattle.tables.proofs.lookup.along.Reads as along-reads
+use Rattle.tables.proofs.lookup.is_final.Reads as is-final-reads
 use Rattle.diagram.proofs.member.queue_of.Reads as queue-of-reads
-use Rattle.session.proofs.kinds.Message.new.Reads as new-reads
+use Rattle.tables.proofs.kinds.Message.new.Reads as new-reads
 use Rattle.numbers.proofs.number.wide.Reads as wide-reads
 
 abbrev Inv-loop : tie.InvT-loop

@@ -2,16 +2,16 @@ use native.Mathlib.Omega.{arith}
 use mathlib.Core.Path.{sym, _∙_}
 use borrow.Author.Tests.{le-leb, lt-leb, not-true, not-false}
 use Rattle.session.specs.File.{readFile}
-use Rattle.session.specs.Laws.Pool.{pool-valid}
-use Rattle.session.specs.Laws.Valid.{model-valid}
+use Rattle.reading_pool.specs.Laws.Pool.{pool-valid}
+use Rattle.reading_model.specs.Laws.Model.{model-valid}
 use borrow.Author.Needs.{needs}
 use Rattle.session.proofs.reading.read.Statement.{statement}
 use Rattle.session.proofs.reading.read.Tie as tie
 use Rattle.session.proofs.reading.read.Reads as reads
 use Rattle.session.proofs.reading.read.Lts as lts
-use Rattle.session.proofs.model.read_model.Reads as read-model-reads
-use Rattle.session.proofs.order.in_queue_order.Reads as in-queue-order-reads
-use Rattle.session.proofs.pool.read_pool.Reads as read-pool-reads
+use Rattle.reading_model.proofs.model.read_model.Reads as read-model-reads
+use Rattle.reading_pool.proofs.order.in_queue_order.Reads as in-queue-order-reads
+use Rattle.reading_pool.proofs.pool.read_pool.Reads as read-pool-reads
 use Rattle.session.proofs.reading.joined.Reads as joined-reads
 use Rattle.session.proofs.reading.refused.Reads as refused-reads
 use Rattle.session.proofs.sets.read_sets.Reads as read-sets-reads

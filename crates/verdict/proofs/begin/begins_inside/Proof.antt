@@ -6,8 +6,8 @@ use Rattle.verdict.proofs.begin.begins_inside.Tie as tie
 use Rattle.verdict.proofs.begin.begins_inside.Reads as reads
 use Rattle.verdict.proofs.begin.begins_inside.Lts as lts
 use Rattle.controls.proofs.begin.first_control.Reads as first-control-reads
-use Rattle.session.proofs.lookup.is_final.Reads as is-final-reads
-use Rattle.session.proofs.lookup.root_of.Reads as root-of-reads
+use Rattle.tables.proofs.lookup.is_final.Reads as is-final-reads
+use Rattle.tables.proofs.lookup.root_of.Reads as root-of-reads
 
 -- src/begin.rt:19:9
 first-control-requires : tie.Need-first-control-requires

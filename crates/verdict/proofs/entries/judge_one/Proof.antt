@@ -1,8 +1,8 @@
 use Prim.Native.Nat.{_≤_}
 use mathlib.Core.Path.{subst, _∙_}
 use native.Mathlib.Omega.{arith}
-use Rattle.session.specs.Limits.{mostControls, mostPool}
-use Rattle.session.specs.Laws.Kinds.{made-is}
+use Rattle.tables.specs.Limits.{mostControls, mostPool}
+use Rattle.tables.specs.Laws.Kinds.{made-is}
 use Rattle.walk.specs.Pairs.{mostPairs}
 use Rattle.walk.specs.declared.judge.Judged.{Judged}
 use Rattle.verdict.specs.Judging.{pairsOf}
@@ -14,8 +14,8 @@ use Rattle.verdict.proofs.entries.judge_one.Tie as tie
 use Rattle.verdict.proofs.entries.judge_one.Reads as reads
 use Rattle.verdict.proofs.entries.judge_one.Lts as lts
 use Rattle.numbers.proofs.number.wide.Reads as wide-reads
-use Rattle.session.proofs.kinds.ControlState.new.Reads as kinds-ControlState-new-reads
-use Rattle.session.proofs.kinds.DiagramState.new.Reads as kinds-DiagramState-new-reads
+use Rattle.tables.proofs.kinds.ControlState.new.Reads as kinds-ControlState-new-reads
+use Rattle.tables.proofs.kinds.DiagramState.new.Reads as kinds-DiagramState-new-reads
 use Rattle.verdict.proofs.item.judge_entry.Reads as judge-entry-reads
 
 -- src/entries.rt:43:50

@@ -1,15 +1,15 @@
 use mathlib.Core.Path.{_∙_}
-use Rattle.session.specs.Laws.Lookup.{nowhere-true, nowhere-false, state-below}
+use Rattle.tables.specs.Laws.Lookup.{nowhere-true, nowhere-false, state-below}
 use Rattle.verdict.specs.Laws.Walked.{root-as, state-somewhere, entry-roots, entry-none, entry-shown, entry-node, entry-lent, entry-finals, entry-walked}
 use borrow.Author.Needs.{needs}
 use Rattle.verdict.proofs.item.judge_entry.Statement.{statement}
 use Rattle.verdict.proofs.item.judge_entry.Tie as tie
 use Rattle.verdict.proofs.item.judge_entry.Reads as reads
 use Rattle.verdict.proofs.item.judge_entry.Lts as lts
-use Rattle.session.proofs.kinds.Reached.at.Reads as at-reads
-use Rattle.session.proofs.kinds.Reached.is_nowhere.Reads as is-nowhere-reads
-use Rattle.session.proofs.kinds.Reached.state.Reads as state-reads
-use Rattle.session.proofs.lookup.root_of.Reads as root-of-reads
+use Rattle.tables.proofs.kinds.Reached.at.Reads as at-reads
+use Rattle.tables.proofs.kinds.Reached.is_nowhere.Reads as is-nowhere-reads
+use Rattle.tables.proofs.kinds.Reached.state.Reads as state-reads
+use Rattle.tables.proofs.lookup.root_of.Reads as root-of-reads
 use Rattle.walk.proofs.judge.judge.Reads as judge-reads
 
 -- src/item.rt:85:9

@@ -1,6 +1,6 @@
 use mathlib.Core.Path.{_∙_}
 use native.Mathlib.Omega.{arith}
-use Rattle.session.specs.Laws.Lookup.{nowhere-true, nowhere-false, state-below}
+use Rattle.tables.specs.Laws.Lookup.{nowhere-true, nowhere-false, state-below}
 use Rattle.verdict.specs.Laws.Walked.{begins, asked-machines, asked-queues, asked-long, asked-row, asked-roots, step-none, step-shown, node-fits, step-lent, step-finals, step-walked}
 use borrow.Author.Needs.{needs}
 use Rattle.verdict.proofs.item.judge_step.Statement.{statement}
@@ -8,9 +8,9 @@ use Rattle.verdict.proofs.item.judge_step.Tie as tie
 use Rattle.verdict.proofs.item.judge_step.Reads as reads
 use Rattle.verdict.proofs.item.judge_step.Lts as lts
 use Rattle.controls.proofs.moves.moved.Reads as moved-reads
-use Rattle.session.proofs.kinds.Reached.is_nowhere.Reads as is-nowhere-reads
-use Rattle.session.proofs.kinds.Reached.state.Reads as state-reads
-use Rattle.session.proofs.lookup.root_of.Reads as root-of-reads
+use Rattle.tables.proofs.kinds.Reached.is_nowhere.Reads as is-nowhere-reads
+use Rattle.tables.proofs.kinds.Reached.state.Reads as state-reads
+use Rattle.tables.proofs.lookup.root_of.Reads as root-of-reads
 use Rattle.verdict.proofs.start.cut_of.Reads as cut-of-reads
 use Rattle.walk.proofs.judge.judge.Reads as judge-reads
 

@@ -7,7 +7,7 @@ use Rattle.verdict.proofs.start.cut_of.Tie as tie
 use Rattle.verdict.proofs.start.cut_of.Reads as reads
 use Rattle.verdict.proofs.start.cut_of.Lts as lts
 use Rattle.numbers.proofs.number.wide.Reads as wide-reads
-use Rattle.session.proofs.queues.messages_of.Reads as messages-of-reads
+use Rattle.tables.proofs.spans.messages_of.Reads as messages-of-reads
 
 -- src/start.rt:37:21
 add-kind : tie.Need-add-kind

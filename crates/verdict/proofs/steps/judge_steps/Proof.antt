@@ -1,6 +1,6 @@
 use Rattle.walk.specs.Shown.{mostShown}
 use Rattle.verdict.specs.Judging.{mostAtControl}
-use Rattle.session.specs.Laws.Kinds.{control-made}
+use Rattle.tables.specs.Laws.Kinds.{control-made}
 use Rattle.verdict.specs.Laws.Judged.{machines-asked}
 use borrow.Author.Needs.{needs}
 use Prim.Native.Nat.{ℕ, _+_, _*_, _-_, _≤_}
@@ -20,7 +20,7 @@ use Rattle.verdict.proofs.steps.judge_steps.Statement.{statement}
 use Rattle.verdict.proofs.steps.judge_steps.Tie as tie
 use Rattle.verdict.proofs.steps.judge_steps.Reads as reads
 use Rattle.verdict.proofs.steps.judge_steps.Lts as lts
-use Rattle.session.proofs.kinds.ControlState.new.Reads as new-reads
+use Rattle.tables.proofs.kinds.ControlState.new.Reads as new-reads
 use Rattle.verdict.proofs.steps.judge_control.Reads as judge-control-reads
 
 abbrev Inv-loop : tie.InvT-loop

@@ -6,7 +6,7 @@ use Rattle.walk.proofs.moves.follow.Statement.{statement}
 use Rattle.walk.proofs.moves.follow.Tie as tie
 use Rattle.walk.proofs.moves.follow.Reads as reads
 use Rattle.walk.proofs.moves.follow.Lts as lts
-use Rattle.session.proofs.lookup.along.Reads as along-reads
+use Rattle.tables.proofs.lookup.along.Reads as along-reads
 use Rattle.walk.proofs.moves.message_at.Reads as message-at-reads
 
 abbrev Inv-loop : tie.InvT-loop

@@ -1,11 +1,11 @@
 use borrow.Author.Needs.{needs}
-use Rattle.session.specs.Laws.Lookup.{nowhere-true, nowhere-false}
+use Rattle.tables.specs.Laws.Lookup.{nowhere-true, nowhere-false}
 use Rattle.walk.specs.Laws.Moves.{pair-dropped, pair-step, pair-state, leads-nowhere, leads-pair}
 use Rattle.walk.proofs.moves.pair_to.Statement.{statement}
 use Rattle.walk.proofs.moves.pair_to.Tie as tie
 use Rattle.walk.proofs.moves.pair_to.Reads as reads
 use Rattle.walk.proofs.moves.pair_to.Lts as lts
-use Rattle.session.proofs.kinds.Reached.is_nowhere.Reads as is-nowhere-reads
+use Rattle.tables.proofs.kinds.Reached.is_nowhere.Reads as is-nowhere-reads
 use Rattle.walk.proofs.pairs.code_of.Reads as code-of-reads
 
 -- src/moves.rt:59:9

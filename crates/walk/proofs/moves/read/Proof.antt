@@ -1,16 +1,16 @@
 use mathlib.Core.Path.{refl, sym, ap, _∙_}
 use denote.Ref.{now}
-use Rattle.session.specs.Said.{saidArc}
-use Rattle.session.specs.Kinds.{reachedOf}
+use Rattle.tables.specs.Said.{saidArc}
+use Rattle.tables.specs.Kinds.{reachedOf}
 use Rattle.walk.specs.Laws.Moves.{reads-along, leads-nowhere, leads-as, read-missing, read-is}
-use Rattle.session.specs.Laws.Lookup.{entry-within, arc-small}
+use Rattle.tables.specs.Laws.Lookup.{entry-within, arc-small}
 use borrow.Author.Needs.{needs}
 use Rattle.walk.proofs.moves.read.Statement.{statement}
 use Rattle.walk.proofs.moves.read.Tie as tie
 use Rattle.walk.proofs.moves.read.Reads as reads
 use Rattle.walk.proofs.moves.read.Lts as lts
-use Rattle.session.proofs.lookup.arc_at.Reads as arc-at-reads
-use Rattle.session.proofs.lookup.along.Reads as along-reads
+use Rattle.tables.proofs.lookup.arc_at.Reads as arc-at-reads
+use Rattle.tables.proofs.lookup.along.Reads as along-reads
 use Rattle.walk.proofs.moves.pair_to.Reads as pair-to-reads
 
 -- src/moves.rt:79:31

@@ -1,17 +1,17 @@
 use native.Mathlib.Omega.{arith}
 use mathlib.Core.Path.{refl}
 use mathlib.Core.Logic.{inr}
-use Rattle.session.specs.Kinds.{reachedOf}
-use Rattle.session.specs.Laws.Lookup.{nowhere-true, nowhere-false, state-below}
+use Rattle.tables.specs.Kinds.{reachedOf}
+use Rattle.tables.specs.Laws.Lookup.{nowhere-true, nowhere-false, state-below}
 use Rattle.walk.specs.Laws.Moves.{leads-nowhere, leads-as, jump-missing, jump-is}
 use borrow.Author.Needs.{needs}
 use Rattle.walk.proofs.moves.step.Statement.{statement}
 use Rattle.walk.proofs.moves.step.Tie as tie
 use Rattle.walk.proofs.moves.step.Reads as reads
 use Rattle.walk.proofs.moves.step.Lts as lts
-use Rattle.session.proofs.kinds.Reached.at.Reads as at-reads
-use Rattle.session.proofs.kinds.Reached.is_nowhere.Reads as is-nowhere-reads
-use Rattle.session.proofs.kinds.Reached.state.Reads as state-reads
+use Rattle.tables.proofs.kinds.Reached.at.Reads as at-reads
+use Rattle.tables.proofs.kinds.Reached.is_nowhere.Reads as is-nowhere-reads
+use Rattle.tables.proofs.kinds.Reached.state.Reads as state-reads
 use Rattle.walk.proofs.moves.follow.Reads as follow-reads
 use Rattle.walk.proofs.moves.pair_to.Reads as pair-to-reads
 

@@ -7,8 +7,8 @@ use Rattle.walk.proofs.search.fails.Statement.{statement}
 use Rattle.walk.proofs.search.fails.Tie as tie
 use Rattle.walk.proofs.search.fails.Reads as reads
 use Rattle.walk.proofs.search.fails.Lts as lts
-use Rattle.session.proofs.kinds.Reached.at.Reads as at-reads
-use Rattle.session.proofs.lookup.is_final.Reads as is-final-reads
+use Rattle.tables.proofs.kinds.Reached.at.Reads as at-reads
+use Rattle.tables.proofs.lookup.is_final.Reads as is-final-reads
 
 -- src/search.rt:111:9
 returns : tie.Need-returns

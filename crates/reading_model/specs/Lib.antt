@@ -1,0 +1,5 @@
+pub mod Machines
+pub mod Queues
+pub mod Transitions
+pub mod Model
+pub mod Laws

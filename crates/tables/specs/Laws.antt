@@ -1,0 +1,5 @@
+-- Laws of the tables.
+pub mod Queues
+pub mod Pool
+pub mod Kinds
+pub mod Lookup

@@ -1,0 +1,10 @@
+pub mod Limits
+pub mod Kinds
+pub mod Rows
+pub mod Queues
+pub mod Pool
+pub mod Said
+pub mod Lookup
+pub mod Order
+pub mod Valid
+pub mod Laws

@@ -1,0 +1,17 @@
+-- The dense table of arcs: state · 32 + message holds 0 for none, else 1 plus the target.
+use mathlib.Core.Bool.{cond}
+use Prim.Native.Nat.{ℕ, _+_, _-_, _*_}
+use mathlib.Core.List.{List}
+use mathlib.Core.Option.{Option, none, some}
+use lib.ListN.{getD}
+use lib.Dec.{eqb}
+use Rattle.tables.specs.Limits.{mostPool, mostMessages}
+
+-- entries of the table of arcs
+abbrev pub poolArcs : ℕ
+poolArcs = mostPool * mostMessages
+
+-- where the arc of state s for message m leads; a missing arc has nowhere to go
+abbrev pub arcAt : List ℕ → ℕ → ℕ → Option ℕ
+arcAt arcs s m =
+    cond (eqb (getD arcs (s * mostMessages + m) 0) 0) none (some (getD arcs (s * mostMessages + m) 0 - 1))
