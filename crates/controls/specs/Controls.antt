@@ -1,14 +1,14 @@
 -- Control states: parted at a machine, and moved by a transition.
-use Prim.Native.Nat.{ℕ, _+_, _*_, _/_, _%_, _≤_}
+use Prim.Native.Nat.{ℕ, _+_, _*_, _/_, _%_, _≤_, _<_}
 use mathlib.Core.Path.{_≡_}
 use mathlib.Core.Bool.{Bool}
 use mathlib.Core.List.{List}
-use lib.ListN.{getD, set, take}
+use lib.ListN.{length, getD, set, take, drop}
 use lib.Dec.{eqb}
-use Rattle.tables.specs.Limits.{mostControls}
+use Rattle.tables.specs.Limits.{mostMachines, mostControls}
 use Rattle.tables.specs.Rows.{machineAt, fromAt, toAt}
 use Rattle.tables.specs.declared.tables.Machines.{Machines}
-use Rattle.model.specs.Model.{number, places}
+use Rattle.model.specs.Model.{product, number, places}
 use Rattle.controls.specs.declared.parting.Parted.{Parted}
 
 -- for each machine how many states it has, and its starting state
@@ -32,3 +32,25 @@ IsAt m rows row c r = r ≡ eqb (getD (places (sizesOf m) c) (machineAt rows row
 -- the control state that it leads to
 abbrev pub Moved : Machines → List ℕ → ℕ → ℕ → ℕ → Type 0
 Moved m rows row c r = r ≡ number (sizesOf m) (set (places (sizesOf m) c) (machineAt rows row) (toAt rows row))
+
+-- the product from a machine on: of none it is 1, with one machine more it is multiplied, and it stays small
+pub record Stepped (states : List ℕ) (count : ℕ) : Type 0 where
+  pub most : count ≤ mostMachines
+  pub end : product (drop count (take count states)) ≡ 1
+  pub before : (j : ℕ) → j < count
+      → getD states j 0 * product (drop (j + 1) (take count states)) ≡ product (drop j (take count states))
+  pub small : (j : ℕ) → (1 ≤ product (drop j (take count states))) × (product (drop j (take count states)) ≤ mostControls)
+
+-- WHAT IS ASKED to part a control state at a machine
+pub record Partable (states : List ℕ) (count c machine : ℕ) : Type 0 where
+  pub stepped : Stepped states count
+  pub long : count ≤ length states
+  pub below : c < product (take count states)
+  pub within : machine < count
+
+-- WHAT IS ASKED to number the states of so many machines
+pub record Numberable (states starts : List ℕ) (count : ℕ) : Type 0 where
+  pub stepped : Stepped states count
+  pub statesLong : count ≤ length states
+  pub startsLong : count ≤ length starts
+  pub small : number (take count states) (take count starts) ≤ mostControls

@@ -6,8 +6,7 @@ use tables::tables::Machines;
 ghost use mathlib.Core.Path.{_≡_};
 ghost use lib.ListN.{take};
 ghost use Rattle.model.specs.Model.{number};
-ghost use Rattle.controls.specs.Controls.{sizesOf, startsOf};
-ghost use Rattle.controls.specs.Laws.Begin.{Numberable};
+ghost use Rattle.controls.specs.Controls.{sizesOf, startsOf, Numberable};
 ghost use Rattle.tables.specs.Valid.{MachinesValid};
 
 // The number of the control state in which machine i is in state starts[i].

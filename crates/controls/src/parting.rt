@@ -6,8 +6,7 @@ ghost use mathlib.Core.Path.{_≡_};
 ghost use Prim.Native.Nat.{_<_, _≤_};
 ghost use lib.ListN.{take, drop};
 ghost use Rattle.model.specs.Model.{product};
-ghost use Rattle.controls.specs.Controls.{sizesOf, Located};
-ghost use Rattle.controls.specs.Laws.Parting.{Stepped, Partable};
+ghost use Rattle.controls.specs.Controls.{sizesOf, Located, Partable, Stepped};
 ghost use Rattle.tables.specs.Valid.{MachinesValid};
 
 // A control state parted at a machine: what the machines before it give, what is left, and how many control states one state

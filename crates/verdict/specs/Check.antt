@@ -4,7 +4,6 @@ use mathlib.Core.Path.{_≡_}
 use mathlib.Core.List.{List}
 use lib.ListN.{length, take, replicate}
 use Rattle.walk.specs.Pairs.{mostPairs}
-use Rattle.walk.specs.Shown.{mostShown}
 use Rattle.numbers.specs.Said.{numberOf, placeOf}
 use Rattle.tables.specs.declared.tables.Tables.{Tables}
 use Rattle.model.specs.Verdict.{closed, outside, leaves, bad}
@@ -16,6 +15,7 @@ use Rattle.verdict.specs.declared.judged.Progress.{Progress}
 use Rattle.verdict.specs.declared.judged.Progress.the-variants as Progress
 use Rattle.verdict.specs.declared.check.Verdict.{Verdict}
 use Rattle.verdict.specs.declared.check.Verdict.the-variants.{Closed, Outside, Leaves, Bad, Refused, ShortMemory}
+use Rattle.meaning.specs.Checking.{contentsLeast}
 
 -- the contents shown stand at the front of the buffer at exit
 abbrev pub saidVerdict : Verdict → List ℕ → FileReply
@@ -50,7 +50,7 @@ pub record Room (n : ℕ) (seen queue contents : List ℕ) : Type 0 where
   pub front : n ≡ mostPairs
   pub seenLong : n ≤ length seen
   pub queueLong : n ≤ length queue
-  pub contentsLong : mostShown ≤ length contents
+  pub contentsLong : contentsLeast ≤ length contents
   pub seenBlank : seen ≡ replicate (length seen) 0
   pub queueBlank : queue ≡ replicate (length queue) 0
 

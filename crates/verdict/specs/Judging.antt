@@ -2,10 +2,10 @@
 use Prim.Native.Nat.{ℕ, _+_, _*_, _≤_, _<_}
 use mathlib.Core.Path.{_≡_}
 use mathlib.Core.List.{List}
-use lib.ListN.{length, take, drop}
+use lib.ListN.{length, getD, take, drop}
 use Rattle.model.specs.Judge as Model
 use Rattle.model.specs.Laws.Items.{IsItem}
-use Rattle.meaning.specs.Tables.{sessionOf, transitionAt, entriesFrom}
+use Rattle.meaning.specs.Tables.{sessionOf, transitionAt, transitionsFrom, entriesFrom}
 use Rattle.tables.specs.Limits.{mostTransitions, mostBad}
 use Rattle.tables.specs.Valid.{Valid}
 use Rattle.tables.specs.declared.tables.Machines.{Machines}
@@ -24,6 +24,10 @@ use Rattle.tables.specs.Rows.{rowLength}
 -- the most pairs of the steps of one control state
 abbrev pub mostAtControl : ℕ
 mostAtControl = mostTransitions * mostPairs
+
+-- more pairs than any session has (document 01: at most 1,066,385,472), so that every sum on the way stays within a machine number
+abbrev pub amplePairs : ℕ
+amplePairs = 1100000000
 
 abbrev pub pairsOf : Judged → ℕ
 pairsOf (Passes pairs) = pairs
@@ -92,6 +96,13 @@ pub record EntryParts (T : Tables) (q : Queues) (rows arcs finals roots : List �
 -- the bad entries of the tables
 abbrev pub AllBad : List ℕ → ℕ → Tables → Type 0
 AllBad entries count T = sessionOf T .bad ≡ entriesFrom entries count 0
+
+-- bad entry b, and all transitions of the tables
+abbrev pub entryAt : List ℕ → ℕ → ℕ × ℕ
+entryAt entries b = (getD entries (b * 2) 0, getD entries (b * 2 + 1) 0)
+
+abbrev pub AllIn : List ℕ → ℕ → Tables → Type 0
+AllIn rows count T = sessionOf T .model .transitions ≡ transitionsFrom rows count 0
 
 -- WHAT IS ASKED of what is lent, for so many transitions: it is of tables that were read
 pub record StepsAsked (m : Machines) (q : Queues) (rows arcs finals roots : List ℕ) (c count : ℕ) : Type 0 where

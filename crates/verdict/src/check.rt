@@ -14,12 +14,13 @@ use tables::tables::Tables;
 use walk::pairs::CODES;
 ghost use mathlib.Core.Path.{_≡_};
 ghost use mathlib.Core.List.{List};
-ghost use Prim.Native.Nat.{ℕ, _≤_};
+ghost use Prim.Native.Nat.{ℕ};
 ghost use lib.ListN.{length, replicate};
 ghost use Rattle.meaning.specs.Checking.{Checks, CheckMeans, CheckTwoRuns};
-ghost use Rattle.verdict.specs.Judging.{AllAsked, AllParts};
+ghost use Rattle.verdict.specs.Judging.{AllAsked};
 ghost use Rattle.verdict.specs.Check.{saidVerdict, Shows, concluded, Concludes, Room};
 ghost use Rattle.tables.specs.Valid.{Valid};
+ghost use Rattle.verdict.specs.Promises.{diagrams, memory, VerdictFound};
 
 // Entries that a scratch table needs, and bytes that a contents buffer needs.
 pub const TABLE_LEAST: usize = CODES;
@@ -80,7 +81,7 @@ fn judge_lent(
 ) -> Verdict
     requires { ⌜ AllAsked m q (now rows) (now arcs) (now finals) (now roots) (now entries) count many ⌝ }
     requires { ⌜ Room n (now seen) (now queue) (now contents) ⌝ }
-    ensures { λ r. ⌜ Concludes (λ T. AllParts T m q (now (rows .entry)) (now (arcs .entry)) (now (finals .entry)) (now (roots .entry)) (now (entries .entry)) count many) (now (seen .entry)) (now (queue .entry)) (now (contents .entry)) r (now (seen .exit)) (now (queue .exit)) (now (contents .exit)) ⌝ }
+    ensures { λ r. ⌜ VerdictFound m (diagrams q (rows .entry) (arcs .entry) (finals .entry) (roots .entry)) (now (entries .entry)) count many (memory (contents .entry) (seen .entry) (queue .entry)) r (memory (contents .exit) (seen .exit) (queue .exit)) ⌝ }
 {
     if !begins_inside(m, roots, finals) {
         return Verdict::Outside;

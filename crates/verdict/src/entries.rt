@@ -9,15 +9,12 @@ use tables::tables::Queues;
 use walk::judge::Judged;
 ghost use Prim.Native.Nat.{_+_, _*_, _<_, _≤_};
 ghost use lib.ListN.{length};
-ghost use mathlib.Core.List.{[], _∷_};
 ghost use Rattle.tables.specs.Limits.{mostControls};
-ghost use Rattle.model.specs.Verdict.{entry, entriesFrom};
-ghost use Rattle.model.specs.Judge.{decide};
-ghost use Rattle.meaning.specs.Tables.{sessionOf, entriesFrom as entriesIn};
-ghost use Rattle.walk.specs.Pairs.{mostPairs};
-ghost use Rattle.walk.specs.Shown.{mostShown};
-ghost use Rattle.verdict.specs.Judging.{mostAtControl, Scratch, EntryParts, EntriesAsked, AllBad, Judges};
-ghost use Rattle.verdict.specs.Laws.Entries.{entryAt};
+ghost use Rattle.model.specs.Verdict.{entry};
+ghost use Rattle.verdict.specs.Judging.{mostAtControl, Scratch, EntriesAsked};
+ghost use Rattle.meaning.specs.Checking.{contentsLeast};
+ghost use Rattle.verdict.specs.Judging.{amplePairs};
+ghost use Rattle.verdict.specs.Promises.{diagrams, memory, EntriesJudged, OneJudged};
 
 // One bad entry, after items with so many pairs.
 fn judge_one(
@@ -35,10 +32,10 @@ fn judge_one(
     contents: &mut [u8],
 ) -> Progress
     requires { ⌜ EntriesAsked q (now rows) (now arcs) (now finals) (now roots) (now entries) count ⌝ }
-    requires { ⌜ (b < count) × (pairs ≤ 1100000000) ⌝ }
+    requires { ⌜ (b < count) × (pairs ≤ amplePairs) ⌝ }
     requires { ⌜ Scratch (now seen) (now queue) ⌝ }
-    requires { ⌜ mostShown ≤ length (now contents) ⌝ }
-    ensures { λ r. ⌜ Judges (λ T. EntryParts T q (now (rows .entry)) (now (arcs .entry)) (now (finals .entry)) (now (roots .entry)) × AllBad (now (entries .entry)) count T) (pairs + mostPairs) (λ T. decide (sessionOf T) (entry b (entryAt (now (entries .entry)) b) ∷ []) pairs) (now (contents .entry)) r (now (contents .exit)) (now (seen .exit)) (now (queue .exit)) ⌝ }
+    requires { ⌜ contentsLeast ≤ length (now contents) ⌝ }
+    ensures { λ r. ⌜ OneJudged (diagrams q (rows .entry) (arcs .entry) (finals .entry) (roots .entry)) (now (entries .entry)) count b pairs (now (contents .entry)) r (memory (contents .exit) (seen .exit) (queue .exit)) ⌝ }
 {
     let control = ControlState::new(wide(entries[b * ENTRY]));
     let root = DiagramState::new(wide(entries[b * ENTRY + 1]));
@@ -75,8 +72,8 @@ pub fn judge_entries(
     requires { ⌜ EntriesAsked q (now rows) (now arcs) (now finals) (now roots) (now entries) count ⌝ }
     requires { ⌜ pairs ≤ mostAtControl * mostControls ⌝ }
     requires { ⌜ Scratch (now seen) (now queue) ⌝ }
-    requires { ⌜ mostShown ≤ length (now contents) ⌝ }
-    ensures { λ r. ⌜ Judges (λ T. EntryParts T q (now (rows .entry)) (now (arcs .entry)) (now (finals .entry)) (now (roots .entry)) × AllBad (now (entries .entry)) count T) 1100000000 (λ T. decide (sessionOf T) (entriesFrom 0 (entriesIn (now (entries .entry)) count 0)) pairs) (now (contents .entry)) r (now (contents .exit)) (now (seen .exit)) (now (queue .exit)) ⌝ }
+    requires { ⌜ contentsLeast ≤ length (now contents) ⌝ }
+    ensures { λ r. ⌜ EntriesJudged (diagrams q (rows .entry) (arcs .entry) (finals .entry) (roots .entry)) (now (entries .entry)) count pairs (now (contents .entry)) r (memory (contents .exit) (seen .exit) (queue .exit)) ⌝ }
 {
     let mut sum = pairs;
     let mut b: usize = 0;

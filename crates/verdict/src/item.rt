@@ -16,11 +16,9 @@ use walk::pairs::Walk;
 ghost use Prim.Native.Nat.{_≤_};
 ghost use lib.ListN.{length};
 ghost use Rattle.model.specs.Verdict.{step, entry};
-ghost use Rattle.model.specs.Searched.{judgeBySearch};
-ghost use Rattle.meaning.specs.Tables.{sessionOf, transitionAt};
-ghost use Rattle.walk.specs.Pairs.{mostPairs};
-ghost use Rattle.walk.specs.Shown.{mostShown};
-ghost use Rattle.verdict.specs.Judging.{Scratch, StepAsked, Parts, EntryAsked, EntryParts, Judging};
+ghost use Rattle.verdict.specs.Judging.{Scratch, StepAsked, EntryAsked};
+ghost use Rattle.meaning.specs.Checking.{contentsLeast};
+ghost use Rattle.verdict.specs.Promises.{diagrams, memory, EntryJudged, StepJudged};
 
 // The step of a transition from a control state.
 pub fn judge_step(
@@ -38,8 +36,8 @@ pub fn judge_step(
 ) -> Judged
     requires { ⌜ StepAsked m q (now rows) (now arcs) (now finals) (now roots) (c .0) row ⌝ }
     requires { ⌜ Scratch (now seen) (now queue) ⌝ }
-    requires { ⌜ mostShown ≤ length (now contents) ⌝ }
-    ensures { λ r. ⌜ Judging (λ T. Parts T m q (now (rows .entry)) (now (arcs .entry)) (now (finals .entry)) (now (roots .entry)) 0) (λ T. judgeBySearch (sessionOf T) mostPairs (step (c .0) 0 (transitionAt (now (rows .entry)) row))) (now (contents .entry)) r (now (contents .exit)) (now (seen .exit)) (now (queue .exit)) ⌝ }
+    requires { ⌜ contentsLeast ≤ length (now contents) ⌝ }
+    ensures { λ r. ⌜ StepJudged m (diagrams q (rows .entry) (arcs .entry) (finals .entry) (roots .entry)) (c .0) row (now (contents .entry)) r (memory (contents .exit) (seen .exit) (queue .exit)) ⌝ }
 {
     let source = root_of(roots, c);
     if source.is_nowhere() {
@@ -79,8 +77,8 @@ pub fn judge_entry(
 ) -> Judged
     requires { ⌜ EntryAsked q (now rows) (now arcs) (now finals) (now roots) (control .0) (root .0) ⌝ }
     requires { ⌜ Scratch (now seen) (now queue) ⌝ }
-    requires { ⌜ mostShown ≤ length (now contents) ⌝ }
-    ensures { λ r. ⌜ Judging (λ T. EntryParts T q (now (rows .entry)) (now (arcs .entry)) (now (finals .entry)) (now (roots .entry))) (λ T. judgeBySearch (sessionOf T) mostPairs (entry 0 (control .0, root .0))) (now (contents .entry)) r (now (contents .exit)) (now (seen .exit)) (now (queue .exit)) ⌝ }
+    requires { ⌜ contentsLeast ≤ length (now contents) ⌝ }
+    ensures { λ r. ⌜ EntryJudged (diagrams q (rows .entry) (arcs .entry) (finals .entry) (roots .entry)) (control .0) (root .0) (now (contents .entry)) r (memory (contents .exit) (seen .exit) (queue .exit)) ⌝ }
 {
     let source = root_of(roots, control);
     if source.is_nowhere() {

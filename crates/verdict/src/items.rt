@@ -5,13 +5,10 @@ use crate::steps::judge_steps;
 use tables::tables::Machines;
 use tables::tables::Queues;
 ghost use Prim.Native.Nat.{_≤_};
-ghost use mathlib.Core.List.{_++_};
 ghost use lib.ListN.{length};
-ghost use Rattle.model.specs.Verdict.{stepsFrom, entriesFrom};
-ghost use Rattle.model.specs.Judge.{decide};
-ghost use Rattle.meaning.specs.Tables.{sessionOf, entriesFrom as entriesIn};
-ghost use Rattle.walk.specs.Shown.{mostShown};
-ghost use Rattle.verdict.specs.Judging.{Scratch, Judges, AllAsked, AllParts};
+ghost use Rattle.verdict.specs.Judging.{Scratch, AllAsked};
+ghost use Rattle.meaning.specs.Checking.{contentsLeast};
+ghost use Rattle.verdict.specs.Promises.{diagrams, memory, ItemsJudged};
 
 pub fn judge_items(
     m: Machines,
@@ -29,8 +26,8 @@ pub fn judge_items(
 ) -> Progress
     requires { ⌜ AllAsked m q (now rows) (now arcs) (now finals) (now roots) (now entries) count many ⌝ }
     requires { ⌜ Scratch (now seen) (now queue) ⌝ }
-    requires { ⌜ mostShown ≤ length (now contents) ⌝ }
-    ensures { λ r. ⌜ Judges (λ T. AllParts T m q (now (rows .entry)) (now (arcs .entry)) (now (finals .entry)) (now (roots .entry)) (now (entries .entry)) count many) 1100000000 (λ T. decide (sessionOf T) (stepsFrom (sessionOf T .model) 0 (m .product) ++ entriesFrom 0 (entriesIn (now (entries .entry)) many 0)) 0) (now (contents .entry)) r (now (contents .exit)) (now (seen .exit)) (now (queue .exit)) ⌝ }
+    requires { ⌜ contentsLeast ≤ length (now contents) ⌝ }
+    ensures { λ r. ⌜ ItemsJudged m (diagrams q (rows .entry) (arcs .entry) (finals .entry) (roots .entry)) (now (entries .entry)) count many (now (contents .entry)) r (memory (contents .exit) (seen .exit) (queue .exit)) ⌝ }
 {
     let turn = judge_steps(
         m,

@@ -9,16 +9,10 @@ use tables::tables::ROW;
 use walk::judge::Judged;
 ghost use Prim.Native.Nat.{_+_, _*_, _≤_};
 ghost use lib.ListN.{length};
-ghost use mathlib.Core.List.{[], _∷_};
-ghost use Rattle.tables.specs.Limits.{mostControls};
-ghost use Rattle.model.specs.Verdict.{stepsAt, stepsFrom};
-ghost use Rattle.model.specs.Judge.{decide};
-ghost use Rattle.meaning.specs.Tables.{sessionOf, transitionAt, transitionsFrom};
-ghost use Rattle.walk.specs.Pairs.{mostPairs};
-ghost use Rattle.walk.specs.Shown.{mostShown};
-ghost use Rattle.verdict.specs.Judging.{mostAtControl, Scratch, Parts, Judges, StepsAsked};
-ghost use Rattle.verdict.specs.Laws.Sequence.{AllIn};
-ghost use Rattle.tables.specs.Rows.{rowLength};
+ghost use Rattle.verdict.specs.Judging.{mostAtControl, Scratch, StepsAsked};
+ghost use Rattle.meaning.specs.Checking.{contentsLeast};
+ghost use Rattle.verdict.specs.Judging.{amplePairs};
+ghost use Rattle.verdict.specs.Promises.{diagrams, memory, ControlJudged, StepsJudged, TurnJudged};
 
 // One transition at a control state: its step, if the machine is in the from-state.
 fn judge_turn(
@@ -36,10 +30,10 @@ fn judge_turn(
     contents: &mut [u8],
 ) -> Progress
     requires { ⌜ StepsAsked m q (now rows) (now arcs) (now finals) (now roots) (c .0) (i + 1) ⌝ }
-    requires { ⌜ pairs ≤ 1100000000 ⌝ }
+    requires { ⌜ pairs ≤ amplePairs ⌝ }
     requires { ⌜ Scratch (now seen) (now queue) ⌝ }
-    requires { ⌜ mostShown ≤ length (now contents) ⌝ }
-    ensures { λ r. ⌜ Judges (λ T. Parts T m q (now (rows .entry)) (now (arcs .entry)) (now (finals .entry)) (now (roots .entry)) (i + 1)) (pairs + mostPairs) (λ T. decide (sessionOf T) (stepsAt (sessionOf T .model) (c .0) i (transitionAt (now (rows .entry)) (i * rowLength) ∷ [])) pairs) (now (contents .entry)) r (now (contents .exit)) (now (seen .exit)) (now (queue .exit)) ⌝ }
+    requires { ⌜ contentsLeast ≤ length (now contents) ⌝ }
+    ensures { λ r. ⌜ TurnJudged m (diagrams q (rows .entry) (arcs .entry) (finals .entry) (roots .entry)) (c .0) i pairs (now (contents .entry)) r (memory (contents .exit) (seen .exit) (queue .exit)) ⌝ }
 {
     let row = i * ROW;
     if !is_at(m, rows, row, c) {
@@ -81,8 +75,8 @@ fn judge_control(
     requires { ⌜ StepsAsked m q (now rows) (now arcs) (now finals) (now roots) (c .0) count ⌝ }
     requires { ⌜ pairs ≤ mostAtControl * c .0 ⌝ }
     requires { ⌜ Scratch (now seen) (now queue) ⌝ }
-    requires { ⌜ mostShown ≤ length (now contents) ⌝ }
-    ensures { λ r. ⌜ Judges (λ T. Parts T m q (now (rows .entry)) (now (arcs .entry)) (now (finals .entry)) (now (roots .entry)) count) (mostAtControl * (c .0 + 1)) (λ T. decide (sessionOf T) (stepsAt (sessionOf T .model) (c .0) 0 (transitionsFrom (now (rows .entry)) count 0)) pairs) (now (contents .entry)) r (now (contents .exit)) (now (seen .exit)) (now (queue .exit)) ⌝ }
+    requires { ⌜ contentsLeast ≤ length (now contents) ⌝ }
+    ensures { λ r. ⌜ ControlJudged m (diagrams q (rows .entry) (arcs .entry) (finals .entry) (roots .entry)) (c .0) count pairs (now (contents .entry)) r (memory (contents .exit) (seen .exit) (queue .exit)) ⌝ }
 {
     let mut sum = pairs;
     let mut i: usize = 0;
@@ -125,8 +119,8 @@ pub fn judge_steps(
 ) -> Progress
     requires { ⌜ StepsAsked m q (now rows) (now arcs) (now finals) (now roots) 0 count ⌝ }
     requires { ⌜ Scratch (now seen) (now queue) ⌝ }
-    requires { ⌜ mostShown ≤ length (now contents) ⌝ }
-    ensures { λ r. ⌜ Judges (λ T. Parts T m q (now (rows .entry)) (now (arcs .entry)) (now (finals .entry)) (now (roots .entry)) count × AllIn (now (rows .entry)) count T) (mostAtControl * mostControls) (λ T. decide (sessionOf T) (stepsFrom (sessionOf T .model) 0 (m .product)) 0) (now (contents .entry)) r (now (contents .exit)) (now (seen .exit)) (now (queue .exit)) ⌝ }
+    requires { ⌜ contentsLeast ≤ length (now contents) ⌝ }
+    ensures { λ r. ⌜ StepsJudged m (diagrams q (rows .entry) (arcs .entry) (finals .entry) (roots .entry)) count (now (contents .entry)) r (memory (contents .exit) (seen .exit) (queue .exit)) ⌝ }
 {
     let product = m.product;
     let mut sum: usize = 0;

@@ -17,7 +17,8 @@ use Rattle.walk.specs.declared.judge.Judged.{Judged}
 use Rattle.walk.specs.declared.judge.Judged.the-variants.{Passes, Fails}
 use Rattle.walk.specs.Marks.{Blank}
 use Rattle.walk.specs.Over.{goOver, searchOver, walkOver, Over}
-use Rattle.walk.specs.Shown.{partOver, mostShown}
+use Rattle.walk.specs.Shown.{partOver}
+use Rattle.meaning.specs.Checking.{contentsLeast}
 
 -- the contents that a word of letters stands for
 abbrev pub contentsOver : List ℕ → Walk → List ℕ → List ℕ
@@ -34,7 +35,7 @@ module _ (arcs finals rows : List ℕ) (w : Walk) where
 
 -- the contents are not too long to be shown
 pub record ShownFits (arcs finals rows : List ℕ) (w : Walk) (root : Pair) : Type 0 where
-  pub most : (u : List ℕ) → judgedOver arcs finals rows w root ≡ fails u → length u ≤ mostShown
+  pub most : (u : List ℕ) → judgedOver arcs finals rows w root ≡ fails u → length u ≤ contentsLeast
 
 abbrev pub shownOf : Judge.Judged → List ℕ
 shownOf (passes n) = []

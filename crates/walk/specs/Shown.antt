@@ -15,10 +15,6 @@ use Rattle.walk.specs.Pairs.{decode}
 use Rattle.walk.specs.Marks.{Tables}
 use Rattle.walk.specs.Over.{wordOver, goOver}
 
--- the most messages that are shown: every contents buffer that is lent has room for them
-abbrev pub mostShown : ℕ
-mostShown = 32768
-
 -- the place of the parent of the pair at place k
 abbrev pub parentOf : List ℕ → List ℕ → ℕ → ℕ
 parentOf seen queue k = getD seen (getD queue k 0) 0 - 1

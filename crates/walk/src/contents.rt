@@ -6,7 +6,8 @@ ghost use mathlib.Core.List.{_++_, reverse};
 ghost use Prim.Native.Nat.{_+_, _≤_};
 ghost use lib.ListN.{length, take, drop};
 ghost use Rattle.walk.specs.Over.{wordOver, WordWithin, Lent};
-ghost use Rattle.walk.specs.Shown.{partOver, shownOver, mostShown, Placed, Laid, Shown};
+ghost use Rattle.walk.specs.Shown.{partOver, shownOver, Placed, Laid, Shown};
+ghost use Rattle.meaning.specs.Checking.{contentsLeast};
 
 // A word of the table of transitions, laid from its end on. Returns the next place.
 fn lay_word(rows: &[u8], word: usize, out: usize, contents: &mut [u8], start: usize) -> usize
@@ -90,8 +91,8 @@ pub fn show(
 ) -> usize
     requires { ⌜ Lent (now arcs) (now rows) w ⌝ }
     requires { ⌜ Placed (now seen) (now queue) k ⌝ }
-    requires { ⌜ length (shownOver (now arcs) (now rows) w (now seen) (now queue) k) ≤ mostShown ⌝ }
-    requires { ⌜ mostShown ≤ length (now contents) ⌝ }
+    requires { ⌜ length (shownOver (now arcs) (now rows) w (now seen) (now queue) k) ≤ contentsLeast ⌝ }
+    requires { ⌜ contentsLeast ≤ length (now contents) ⌝ }
     ensures { λ r. ⌜ Shown (shownOver (now (arcs .entry)) (now (rows .entry)) w (now (seen .entry)) (now (queue .entry)) k) (now (contents .entry)) (now (contents .exit)) r ⌝ }
 {
     let n = backwards(arcs, rows, w, seen, queue, k, contents);

@@ -12,8 +12,8 @@ ghost use Rattle.tables.specs.Limits.{mostPool};
 ghost use Rattle.walk.specs.Pairs.{mostPairs, pairOf, NodeFits};
 ghost use Rattle.walk.specs.Marks.{Blank};
 ghost use Rattle.walk.specs.Over.{Lent};
-ghost use Rattle.walk.specs.Shown.{mostShown};
 ghost use Rattle.walk.specs.Judged.{ShownFits, Judges, Counts};
+ghost use Rattle.meaning.specs.Checking.{contentsLeast};
 
 // No pair fails, and so many there are; or so many messages are shown.
 pub enum Judged {
@@ -38,7 +38,7 @@ pub fn judge(
     requires { ⌜ length (now seen) ≡ mostPairs ⌝ }
     requires { ⌜ length (now queue) ≡ mostPairs ⌝ }
     requires { ⌜ ShownFits (now arcs) (now finals) (now rows) w (pairOf root) ⌝ }
-    requires { ⌜ mostShown ≤ length (now contents) ⌝ }
+    requires { ⌜ contentsLeast ≤ length (now contents) ⌝ }
     ensures { λ r. ⌜ Judges (now (arcs .entry)) (now (finals .entry)) (now (rows .entry)) w (pairOf root) (now (contents .entry)) (now (seen .exit)) (now (queue .exit)) (now (contents .exit)) r ⌝ }
     ensures counts { λ r. ⌜ Counts (now (arcs .entry)) (now (finals .entry)) (now (rows .entry)) w (pairOf root) r ⌝ }
 {

@@ -13,15 +13,8 @@ use Rattle.tables.specs.declared.tables.Machines.{Machines}
 use Rattle.model.specs.Model.{product, number}
 use Rattle.model.specs.Laws.Controls.{number-below}
 use Rattle.meaning.specs.Laws.Counts.{states-are}
-use Rattle.controls.specs.Controls.{sizesOf, startsOf}
-use Rattle.controls.specs.Laws.Parting.{Stepped, sizes-stepped, sizes-product}
-
--- WHAT IS ASKED to number the states of so many machines
-pub record Numberable (states starts : List ℕ) (count : ℕ) : Type 0 where
-  pub stepped : Stepped states count
-  pub statesLong : count ≤ length states
-  pub startsLong : count ≤ length starts
-  pub small : number (take count states) (take count starts) ≤ mostControls
+use Rattle.controls.specs.Controls.{sizesOf, startsOf, Numberable, Stepped}
+use Rattle.controls.specs.Laws.Parting.{sizes-stepped, sizes-product}
 
 pub number-step : (states starts : List ℕ) (count i sum p P : ℕ) → Numberable states starts count → i < count
     → p ≡ getD starts i 0 → P ≡ product (drop (i + 1) (take count states))

@@ -15,7 +15,7 @@ use Rattle.model.specs.Model.{product, number, places}
 use Rattle.model.specs.Laws.Controls.{number-places, number-below, places-are-states, states-set}
 use Rattle.meaning.specs.Laws.Counts.{product-is}
 use Rattle.tables.specs.Laws.Kinds.{control-made}
-use Rattle.controls.specs.Controls.{sizesOf, Located}
+use Rattle.controls.specs.Controls.{sizesOf, Located, Partable, Stepped}
 use Rattle.controls.specs.declared.parting.Parted.{Parted}
 
 -- every machine has a state
@@ -37,14 +37,6 @@ product-drop (k ∷ ks) h (suc j) =
     let r = product-drop ks (positive-tail k ks h) j in
     let g : 1 * product ks ≤ k * product ks = mul-le-mul (h 0 (omega arith)) (le-refl (product ks)) in
     (r .0, omega (arith, one-mul (product ks)))
-
--- the product from a machine on: of none it is 1, with one machine more it is multiplied, and it stays small
-pub record Stepped (states : List ℕ) (count : ℕ) : Type 0 where
-  pub most : count ≤ mostMachines
-  pub end : product (drop count (take count states)) ≡ 1
-  pub before : (j : ℕ) → j < count
-      → getD states j 0 * product (drop (j + 1) (take count states)) ≡ product (drop j (take count states))
-  pub small : (j : ℕ) → (1 ≤ product (drop j (take count states))) × (product (drop j (take count states)) ≤ mostControls)
 
 -- one machine back
 pub stepped-back : (states : List ℕ) (count i j p x : ℕ) → Stepped states count → i < j → j ≤ count
@@ -181,13 +173,6 @@ module _ (ks : List ℕ) (c machine : ℕ) where
             ∙ sym (ap (λ n. base + number (getD ks machine 0 ∷ drop (machine + 1) ks) (set (places (getD ks machine 0 ∷ drop (machine + 1) ks) rest) n to)) none)
             ∙ ap (λ js. base + number js (set (places js rest) (machine - machine) to)) (sym end-cut)
             ∙ F .moved to
-
--- WHAT IS ASKED to part a control state at a machine
-pub record Partable (states : List ℕ) (count c machine : ℕ) : Type 0 where
-  pub stepped : Stepped states count
-  pub long : count ≤ length states
-  pub below : c < product (take count states)
-  pub within : machine < count
 
 module _ {states : List ℕ} {count c machine : ℕ} (A : Partable states count c machine) where
   pub machine-there : machine < length (take count states)

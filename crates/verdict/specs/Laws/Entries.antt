@@ -15,14 +15,11 @@ use Rattle.model.specs.Searched.{judgeBySearch}
 use Rattle.model.specs.Laws.Deciding.{decide-passes, decide-fails}
 use Rattle.meaning.specs.Tables.{sessionOf, entriesFrom}
 use Rattle.walk.specs.Pairs.{mostPairs}
-use Rattle.verdict.specs.Judging.{Judging, Judges, EntryAsked, EntriesAsked, EntryParts, AllBad}
+use Rattle.verdict.specs.Judging.{Judging, Judges, EntryAsked, EntriesAsked, EntryParts, AllBad, entryAt}
 use Rattle.verdict.specs.Laws.Turns.{judged-item}
 use Rattle.walk.specs.declared.judge.Judged.{Judged}
 use Rattle.walk.specs.declared.judge.Judged.the-variants.{Passes, Fails}
 use Rattle.verdict.specs.declared.judged.Progress.the-variants.{Passed, Meets}
-
-abbrev pub entryAt : List ℕ → ℕ → ℕ × ℕ
-entryAt entries b = (getD entries (b * 2) 0, getD entries (b * 2 + 1) 0)
 
 pub entry-at : (entries : List ℕ) (left t i : ℕ) → i < left → getElem? (entriesFrom entries left t) i ≡ some (entryAt entries (t + i))
 entry-at entries zero t i h = absurd (omega arith)

@@ -14,7 +14,7 @@ use Rattle.model.specs.Verdict.{Item, entry, stepsAt, stepsFrom, entriesFrom, R
 use Rattle.model.specs.Judge.{decide}
 use Rattle.model.specs.Laws.Deciding.{decide-append, unlessFailed}
 use Rattle.meaning.specs.Tables.{sessionOf, transitionAt, transitionsFrom, entriesFrom as entriesIn}
-use Rattle.verdict.specs.Judging.{Kept, Scratch, saidSoFar, Judges}
+use Rattle.verdict.specs.Judging.{Kept, Scratch, saidSoFar, Judges, AllIn}
 use Rattle.verdict.specs.Laws.Turns.{steps-split}
 use Rattle.verdict.specs.declared.judged.Progress.{Progress}
 use Rattle.verdict.specs.declared.judged.Progress.the-variants.{Passed, Leaves, Meets}
@@ -118,10 +118,6 @@ steps-end rows c count i sum h T =
 -- THE CONTROL STATES from number c on, of K in all
 abbrev pub controlsHere : ℕ → ℕ → Tables → ℕ → Reply
 controlsHere K c T n = decide (sessionOf T) (stepsFrom (sessionOf T .model) c (K - c)) n
-
--- all of a session's transitions are in the rows
-abbrev pub AllIn : List ℕ → ℕ → Tables → Type 0
-AllIn rows count T = sessionOf T .model .transitions ≡ transitionsFrom rows count 0
 
 pub controls-link : (rows : List ℕ) (K count c sum : ℕ) → c < K → (T : Tables) → AllIn rows count T
     → controlsHere K c T sum

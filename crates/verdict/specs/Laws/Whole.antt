@@ -14,7 +14,8 @@ use Rattle.model.specs.Judge.{decide}
 use Rattle.model.specs.Laws.Deciding.{decide-append, unlessFailed}
 use Rattle.meaning.specs.Tables.{sessionOf, transitionsFrom, entriesFrom as entriesIn}
 use Rattle.verdict.specs.Judging.{mostAtControl, Kept, Scratch, shownSoFar, Judges, Parts, EntryParts, AllBad, StepsAsked, EntriesAsked, AllParts, AllAsked}
-use Rattle.verdict.specs.Laws.Sequence.{Going, AllIn, goes-on}
+use Rattle.verdict.specs.Judging.{AllIn}
+use Rattle.verdict.specs.Laws.Sequence.{Going, goes-on}
 use Rattle.verdict.specs.declared.judged.Progress.{Progress}
 use Rattle.verdict.specs.declared.judged.Progress.the-variants.{Passed}
 

@@ -20,10 +20,10 @@ use Rattle.model.specs.Laws.Lengths.{taken, shown-bound}
 use Rattle.walk.specs.declared.pairs.Walk.{Walk}
 use Rattle.walk.specs.declared.judge.Judged.{Judged}
 use Rattle.walk.specs.Pairs.{stride, mostPairs}
-use Rattle.walk.specs.Shown.{mostShown}
 use Rattle.walk.specs.Over.{walkOver, Over}
 use Rattle.walk.specs.Judged.{judgedOver, ShownFits, saidJudged, Judges, Counts}
 use Rattle.walk.specs.Laws.Judged.{judged-is}
+use Rattle.meaning.specs.Checking.{contentsLeast}
 
 -- so many states have no more pairs than there are numbers
 pairs-fit : (n : ℕ) → n ≤ mostPool → Verdict.mostPairs n ≤ mostPairs
@@ -47,7 +47,7 @@ module _ (arcs finals rows : List ℕ) (w : Walk) (root : Pair) (S : Session) (o
       ∙ walk-judges S i (record { walk = walkOver rows w; root = root }) at
       ∙ search-is S wf mostPairs (pairs-fit (S .pool .states) few) i item
 
-  pub item-fits : length (taken i) ≤ mostShown - mostPairs → ShownFits arcs finals rows w root
+  pub item-fits : length (taken i) ≤ contentsLeast - mostPairs → ShownFits arcs finals rows w root
   item-fits short =
       record {
         most = λ u e. omega (arith, shown-bound S wf i item u (sym judged-item ∙ e), pairs-fit (S .pool .states) few);

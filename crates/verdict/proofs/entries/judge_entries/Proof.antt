@@ -6,7 +6,6 @@ use native.Mathlib.Omega.{arith}
 use lib.ListN.{length}
 use denote.Ref.{now}
 use Rattle.walk.specs.Pairs.{mostPairs}
-use Rattle.walk.specs.Shown.{mostShown}
 use Rattle.model.specs.Verdict.{entriesFrom}
 use Rattle.model.specs.Judge.{decide}
 use Rattle.meaning.specs.Tables.{sessionOf, entriesFrom as entriesIn}
@@ -18,6 +17,7 @@ use Rattle.verdict.proofs.entries.judge_entries.Tie as tie
 use Rattle.verdict.proofs.entries.judge_entries.Reads as reads
 use Rattle.verdict.proofs.entries.judge_entries.Lts as lts
 use Rattle.verdict.proofs.entries.judge_one.Reads as judge-one-reads
+use Rattle.meaning.specs.Checking.{contentsLeast}
 
 abbrev Inv-loop : tie.InvT-loop
 Inv-loop q rows arcs finals roots entries count pairs seen₀ queue₀ contents₀ sum₀ b₀ seen queue contents sum b =
@@ -37,7 +37,7 @@ loop-holds c =
 -- src/entries.rt:69:13
 judge-one-requires : tie.Need-judge-one-requires Inv-loop μ-loop
 judge-one-requires c κs =
-    (c .before .before .before .before .before .before .before .before .before .before .before .before .before .pre .0, ((c .before .before .before .loop-test .taken, omega (arith, c .before .before .before .before .loop .inv .0 .few, c .before .before .before .before .before .before .before .before .before .before .before .before .before .pre .1 .0, c .before .before .before .before .before .before .before .before .before .before .before .before .before .pre .0 .most)), (c .before .before .before .before .loop .inv .0 .scratch, subst (λ (l : List ℕ). mostShown ≤ length l) (sym (c .before .before .before .before .loop .inv .0 .kept)) (c .before .before .before .before .before .before .before .before .before .before .before .before .before .pre .1 .1 .1))))
+    (c .before .before .before .before .before .before .before .before .before .before .before .before .before .pre .0, ((c .before .before .before .loop-test .taken, omega (arith, c .before .before .before .before .loop .inv .0 .few, c .before .before .before .before .before .before .before .before .before .before .before .before .before .pre .1 .0, c .before .before .before .before .before .before .before .before .before .before .before .before .before .pre .0 .most)), (c .before .before .before .before .loop .inv .0 .scratch, subst (λ (l : List ℕ). contentsLeast ≤ length l) (sym (c .before .before .before .before .loop .inv .0 .kept)) (c .before .before .before .before .before .before .before .before .before .before .before .before .before .pre .1 .1 .1))))
 
 -- src/entries.rt:70:30
 enum-known-turn : tie.Need-enum-known-turn Inv-loop μ-loop

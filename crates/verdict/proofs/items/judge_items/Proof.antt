@@ -1,4 +1,3 @@
-use Rattle.walk.specs.Shown.{mostShown}
 use Rattle.verdict.specs.Laws.Whole.{after-steps}
 use Prim.Native.Nat.{ℕ, _≤_}
 use mathlib.Core.Path.{_≡_, sym, ap, subst, _∙_}
@@ -16,6 +15,7 @@ use Rattle.verdict.proofs.items.judge_items.Reads as reads
 use Rattle.verdict.proofs.items.judge_items.Lts as lts
 use Rattle.verdict.proofs.entries.judge_entries.Reads as judge-entries-reads
 use Rattle.verdict.proofs.steps.judge_steps.Reads as judge-steps-reads
+use Rattle.meaning.specs.Checking.{contentsLeast}
 
 -- src/items.rt:35:9
 judge-steps-requires : tie.Need-judge-steps-requires
@@ -45,7 +45,7 @@ returns c = stops (λ T p. (p .parts, all-in p)) _ _ (entriesAfter (now (c .befo
 judge-entries-requires : tie.Need-judge-entries-requires
 judge-entries-requires c κs =
     let g = after-steps (c .before .before .before .before .before .before .before .before .before .before .before .before .before .before .before .before .before .before .before .before .before .before .before .before .args .m) (c .before .before .before .before .before .before .before .before .before .before .before .before .before .before .before .before .before .before .before .before .before .before .before .before .args .q) (now (c .before .before .before .before .before .before .before .before .before .before .before .before .before .before .before .before .before .before .before .before .before .before .before .before .args .rows)) (now (c .before .before .before .before .before .before .before .before .before .before .before .before .before .before .before .before .before .before .before .before .before .before .before .before .args .arcs)) (now (c .before .before .before .before .before .before .before .before .before .before .before .before .before .before .before .before .before .before .before .before .before .before .before .before .args .finals)) (now (c .before .before .before .before .before .before .before .before .before .before .before .before .before .before .before .before .before .before .before .before .before .before .before .before .args .roots)) (now (c .before .before .before .before .before .before .before .before .before .before .before .before .before .before .before .before .before .before .before .before .before .before .before .before .args .entries)) (c .before .before .before .before .before .before .before .before .before .before .before .before .before .before .before .before .before .before .before .before .before .before .before .before .args .count) (c .before .before .before .before .before .before .before .before .before .before .before .before .before .before .before .before .before .before .before .before .before .before .before .before .args .many) (c .before .before .before .before .before .before .before .before .before .before .before .before .before .before .before .before .before .before .before .before .before .before .before .before .pre .1 .0) _ _ (c .before .before .before .before .turn .given .1) (c .before .before .before .before .before .before .before .before .before .before .before .before .judge-steps .ensures) in
-    (entries-asked (c .before .before .before .before .before .before .before .before .before .before .before .before .before .before .before .before .before .before .before .before .before .before .before .before .pre .0), (g .few, (g .scratch, subst (λ (l : List ℕ). mostShown ≤ length l) (sym (g .kept)) (c .before .before .before .before .before .before .before .before .before .before .before .before .before .before .before .before .before .before .before .before .before .before .before .before .pre .1 .1))))
+    (entries-asked (c .before .before .before .before .before .before .before .before .before .before .before .before .before .before .before .before .before .before .before .before .before .before .before .before .pre .0), (g .few, (g .scratch, subst (λ (l : List ℕ). contentsLeast ≤ length l) (sym (g .kept)) (c .before .before .before .before .before .before .before .before .before .before .before .before .before .before .before .before .before .before .before .before .before .before .before .before .pre .1 .1))))
 
 -- src/items.rt:16:1
 same-length-4 : tie.Need-same-length-4

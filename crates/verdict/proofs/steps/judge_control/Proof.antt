@@ -1,5 +1,4 @@
 use Rattle.walk.specs.Pairs.{mostPairs}
-use Rattle.walk.specs.Shown.{mostShown}
 use Rattle.verdict.specs.Laws.Judged.{machines-asked, count-most}
 use borrow.Author.Needs.{needs}
 use Prim.Native.Nat.{ℕ, _+_, _*_, _-_, _≤_}
@@ -21,6 +20,7 @@ use Rattle.verdict.proofs.steps.judge_control.Tie as tie
 use Rattle.verdict.proofs.steps.judge_control.Reads as reads
 use Rattle.verdict.proofs.steps.judge_control.Lts as lts
 use Rattle.verdict.proofs.steps.judge_turn.Reads as judge-turn-reads
+use Rattle.meaning.specs.Checking.{contentsLeast}
 
 abbrev Inv-loop : tie.InvT-loop
 Inv-loop m q rows arcs finals roots c count pairs seen₀ queue₀ contents₀ sum₀ i₀ seen queue contents sum i =
@@ -40,7 +40,7 @@ loop-holds c =
 -- src/steps.rt:75:13
 judge-turn-requires : tie.Need-judge-turn-requires Inv-loop μ-loop
 judge-turn-requires c κs =
-    (fewer-asked (c .before .before .before .before .before .before .before .before .before .before .before .before .pre .0) (omega arith), (omega (arith, c .before .before .before .before .loop .inv .0 .few, c .before .before .before .before .before .before .before .before .before .before .before .before .pre .1 .0, c .before .before .before .before .before .before .before .before .before .before .before .before .pre .0 .control, machines-asked (c .before .before .before .before .before .before .before .before .before .before .before .before .pre .0) .productMost, count-most (c .before .before .before .before .before .before .before .before .before .before .before .before .pre .0)), (c .before .before .before .before .loop .inv .0 .scratch, subst (λ (l : List ℕ). mostShown ≤ length l) (sym (c .before .before .before .before .loop .inv .0 .kept)) (c .before .before .before .before .before .before .before .before .before .before .before .before .pre .1 .1 .1))))
+    (fewer-asked (c .before .before .before .before .before .before .before .before .before .before .before .before .pre .0) (omega arith), (omega (arith, c .before .before .before .before .loop .inv .0 .few, c .before .before .before .before .before .before .before .before .before .before .before .before .pre .1 .0, c .before .before .before .before .before .before .before .before .before .before .before .before .pre .0 .control, machines-asked (c .before .before .before .before .before .before .before .before .before .before .before .before .pre .0) .productMost, count-most (c .before .before .before .before .before .before .before .before .before .before .before .before .pre .0)), (c .before .before .before .before .loop .inv .0 .scratch, subst (λ (l : List ℕ). contentsLeast ≤ length l) (sym (c .before .before .before .before .loop .inv .0 .kept)) (c .before .before .before .before .before .before .before .before .before .before .before .before .pre .1 .1 .1))))
 
 -- src/steps.rt:76:30
 enum-known-turn : tie.Need-enum-known-turn Inv-loop μ-loop

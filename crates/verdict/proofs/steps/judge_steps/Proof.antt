@@ -1,4 +1,3 @@
-use Rattle.walk.specs.Shown.{mostShown}
 use Rattle.verdict.specs.Judging.{mostAtControl}
 use Rattle.tables.specs.Laws.Kinds.{control-made}
 use Rattle.verdict.specs.Laws.Judged.{machines-asked}
@@ -14,7 +13,8 @@ use Rattle.model.specs.Judge.{decide}
 use Rattle.meaning.specs.Tables.{sessionOf}
 use Rattle.verdict.specs.Judging.{Parts}
 use Rattle.verdict.specs.Laws.Judged.{control-asked}
-use Rattle.verdict.specs.Laws.Sequence.{Going, goes-on, ends, AllIn, controlsHere, controls-link, controls-end, controls-begin}
+use Rattle.verdict.specs.Judging.{AllIn}
+use Rattle.verdict.specs.Laws.Sequence.{Going, goes-on, ends, controlsHere, controls-link, controls-end, controls-begin}
 use Rattle.verdict.proofs.Stops.{stops}
 use Rattle.verdict.proofs.steps.judge_steps.Statement.{statement}
 use Rattle.verdict.proofs.steps.judge_steps.Tie as tie
@@ -22,6 +22,7 @@ use Rattle.verdict.proofs.steps.judge_steps.Reads as reads
 use Rattle.verdict.proofs.steps.judge_steps.Lts as lts
 use Rattle.tables.proofs.kinds.ControlState.new.Reads as new-reads
 use Rattle.verdict.proofs.steps.judge_control.Reads as judge-control-reads
+use Rattle.meaning.specs.Checking.{contentsLeast}
 
 abbrev Inv-loop : tie.InvT-loop
 Inv-loop m q rows arcs finals roots count seen₀ queue₀ contents₀ product sum₀ c₀ seen queue contents sum c =
@@ -46,7 +47,7 @@ new-requires c κs = search needs
 judge-control-requires : tie.Need-judge-control-requires Inv-loop μ-loop
 judge-control-requires c κs =
     let made = control-made (machines-asked (c .before .before .before .before .before .before .before .before .before .before .before .before .before .pre .0)) (c .before .before .before .before .before .loop .c) (c .before .before .before .before .loop-test .taken) (c .before .before .before .new .ensures) in
-    (control-asked (c .before .before .before .before .before .before .before .before .before .before .before .before .before .pre .0) (omega (arith, made, c .before .before .before .before .loop-test .taken)), (omega (arith, made, c .before .before .before .before .before .loop .inv .0 .few), (c .before .before .before .before .before .loop .inv .0 .scratch, subst (λ (l : List ℕ). mostShown ≤ length l) (sym (c .before .before .before .before .before .loop .inv .0 .kept)) (c .before .before .before .before .before .before .before .before .before .before .before .before .before .pre .1 .1))))
+    (control-asked (c .before .before .before .before .before .before .before .before .before .before .before .before .before .pre .0) (omega (arith, made, c .before .before .before .before .loop-test .taken)), (omega (arith, made, c .before .before .before .before .before .loop .inv .0 .few), (c .before .before .before .before .before .loop .inv .0 .scratch, subst (λ (l : List ℕ). contentsLeast ≤ length l) (sym (c .before .before .before .before .before .loop .inv .0 .kept)) (c .before .before .before .before .before .before .before .before .before .before .before .before .before .pre .1 .1))))
 
 -- src/steps.rt:109:30
 enum-known-turn : tie.Need-enum-known-turn Inv-loop μ-loop
