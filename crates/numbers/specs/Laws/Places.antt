@@ -14,7 +14,7 @@ use Rattle.numbers.specs.Laws.Rounds.{Rounds}
 
 -- What a refusal by 3 to 8 says of its place: the end of the input, a number in no allowed form, or a number that is refused for
 -- what it says.
-pub record Placed (s : List ℕ) (k p : ℕ) : Type 0 where
+pub record RefusalPlace (s : List ℕ) (k p : ℕ) : Type 0 where
   pub ends : k ≡ 3 → p ≡ length s
   pub malformed : k ≡ 4 → readNumber s p ≡ refused 4 p
   pub number : 5 ≤ k → k ≤ 8 → (v : ℕ) × (next : ℕ) × (readNumber s p ≡ got v next)
@@ -25,9 +25,9 @@ pub record Refuses (s : List ℕ) (top at k p : ℕ) : Type 0 where
   pub most : k ≤ top
   pub from : at ≤ p
   pub inside : p ≤ length s
-  pub placed : Placed s k p
+  pub placed : RefusalPlace s k p
 
-pub refuses-here : (s : List ℕ) (top at k : ℕ) → 3 ≤ k → k ≤ top → at ≤ length s → Placed s k at → Refuses s top at k at
+pub refuses-here : (s : List ℕ) (top at k : ℕ) → 3 ≤ k → k ≤ top → at ≤ length s → RefusalPlace s k at → Refuses s top at k at
 refuses-here s top at k a b h placed = record { least = a; most = b; from = omega arith; inside = h; placed = placed }
 
 -- a number that is well formed is refused for what it says
@@ -120,7 +120,7 @@ module _ (s : List ℕ) where
   pub number-fair : (at : ℕ) → at ≤ length s → Fair s 8 at (readNumber s at)
   number-fair at h = go (readNumber s at) refl (number-told at)
     where
-      why : (k p : ℕ) → readNumber s at ≡ refused k p → ((k ≡ 3) × (p ≡ length s)) ⊎ ((k ≡ 4) × (p ≡ at)) → Placed s k p
+      why : (k p : ℕ) → readNumber s at ≡ refused k p → ((k ≡ 3) × (p ≡ length s)) ⊎ ((k ≡ 4) × (p ≡ at)) → RefusalPlace s k p
       why k p e (inl t) =
           record { ends = λ n. t .1; malformed = λ n. absurd (omega arith); number = λ a b. absurd (omega arith) }
       why k p e (inr t) =

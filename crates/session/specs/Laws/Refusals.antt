@@ -18,7 +18,7 @@ use Rattle.session.specs.Sets.{readSets}
 use Rattle.session.specs.File.{readFile}
 use Rattle.tables.specs.Order.{QueueOrdered}
 use Rattle.reading_pool.specs.Laws.Order.{ordered-is}
-use Rattle.numbers.specs.Laws.Places.{Placed, refuses-late, Fair, fair-more, fair-provided, fair-then}
+use Rattle.numbers.specs.Laws.Places.{RefusalPlace, refuses-late, Fair, fair-more, fair-provided, fair-then}
 use Rattle.reading_model.specs.Laws.Places.{model-fair}
 use Rattle.reading_pool.specs.Laws.Places.{pool-fair}
 use Rattle.session.specs.Laws.Places.{sets-fair}
@@ -56,7 +56,7 @@ pub record Within (s : List ℕ) (k p : ℕ) : Type 0 where
   pub most : k ≤ 10
   pub place : p ≤ length s
   pub short : length s ≤ mostBytes
-  pub placed : Placed s k p
+  pub placed : RefusalPlace s k p
 
 pub refusal-is : (s : List ℕ) (k p : ℕ) → readFile s ≡ refused k p → Overlong s k p ⊎ Within s k p
 refusal-is s k p e = go (leb (length s) mostBytes) refl (sym (file-is s) ∙ e)
