@@ -54,7 +54,7 @@ toldReply (verdict outside) = toldOf OUTSIDE 0 0 0
 toldReply (verdict (leaves c t w)) = toldOf LEAVES c t (length w)
 toldReply (verdict (bad b w)) = toldOf BAD b (length w) 0
 
-abbrev pub toldAnswer : Session.Reply → Told
+abbrev pub toldAnswer : Session.ReadReply → Told
 toldAnswer Session.read = toldOf READ 0 0 0
 toldAnswer (Session.refusal k p) = toldRefusal k p
 

@@ -7,7 +7,7 @@ use lib.Dec.{leb}
 use Rattle.numbers.specs.Limits.{mostBytes}
 use Rattle.tables.specs.Limits.{mostMachines, mostControls, mostQueues, mostMessages, mostTransitions, mostPool, mostBad}
 use Rattle.numbers.specs.Part.{Part, got, refused, provided, andThen}
-use Rattle.session.specs.Said.{Reply, saidAnswer, read, refusal}
+use Rattle.session.specs.Said.{ReadReply, saidAnswer, read, refusal}
 use Rattle.reading_model.specs.Model.{readModel}
 use Rattle.tables.specs.Pool.{poolArcs}
 use Rattle.reading_pool.specs.Pool.{readPool}
@@ -60,7 +60,7 @@ empty =
       bad = record { count = 0; rows = replicate (mostBad * 2) 0 };
     }
 
-abbrev pub replyOf : Part Tables → Reply
+abbrev pub replyOf : Part Tables → ReadReply
 replyOf (got T next) = read
 replyOf (refused k p) = refusal k p
 

@@ -5,10 +5,10 @@ use Rattle.session.specs.declared.reading.Answer.{Answer}
 use Rattle.session.specs.declared.reading.Answer.the-variants.{Read, Refused as AnswerRefused}
 
 -- the answer of reading: read, or a refusal's number and place
-pub data Reply : Type 0 where
-  read : Reply
-  refusal : ℕ → ℕ → Reply
+pub data ReadReply : Type 0 where
+  read : ReadReply
+  refusal : ℕ → ℕ → ReadReply
 
-abbrev pub saidAnswer : Answer → Reply
+abbrev pub saidAnswer : Answer → ReadReply
 saidAnswer Read = read
 saidAnswer (AnswerRefused why) = refusal (numberOf why) (placeOf why)

@@ -6,7 +6,7 @@ use mathlib.Core.List.{List}
 use lib.Dec.{eqb}
 use native.Mathlib.Omega.{arith}
 use Rattle.numbers.specs.Part.{Part, got, refused}
-use Rattle.session.specs.Said.{Reply, read, refusal, saidAnswer}
+use Rattle.session.specs.Said.{ReadReply, read, refusal, saidAnswer}
 use Rattle.session.specs.File.{readFile, empty, replyOf, tablesOf, Reads}
 use Rattle.tables.specs.Valid.{Valid}
 use Rattle.session.specs.Laws.Valid.{valid}
@@ -17,7 +17,7 @@ use Rattle.tables.specs.declared.tables.Tables.{Tables}
 use Rattle.session.specs.declared.reading.Reading.{Reading}
 
 -- the answer that says a reply
-unsaid : Reply → Answer
+unsaid : ReadReply → Answer
 unsaid read = Read
 unsaid (refusal k p) =
     cond (eqb k 1) (Refused TooLong)
