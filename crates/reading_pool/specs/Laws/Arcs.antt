@@ -30,9 +30,9 @@ putArcs row [] t = t
 putArcs row (arc ∷ rest) t = putArcs row rest (set t (row + arc .0) (arc .1 + 1))
 
 -- where the arc for message m leads
-unfoldable pub arcOf : List (ℕ × ℕ) → ℕ → Option ℕ
-arcOf [] m = none
-arcOf (arc ∷ rest) m = elim (eqb m (arc .0)) [ true ↦ some (arc .1) | false ↦ arcOf rest m ]
+unfoldable pub listedArc : List (ℕ × ℕ) → ℕ → Option ℕ
+listedArc [] m = none
+listedArc (arc ∷ rest) m = elim (eqb m (arc .0)) [ true ↦ some (arc .1) | false ↦ listedArc rest m ]
 
 -- messages ascend strictly, from least on and below sum, and targets are below n
 unfoldable pub Ascends : ℕ → ℕ → ℕ → List (ℕ × ℕ) → Type 0
@@ -72,11 +72,11 @@ module _ (s : List ℕ) (n sum : ℕ) where
 
 module _ (n sum : ℕ) where
   -- no arc of the list is for a message below its least
-  pub arc-not-below : (least : ℕ) (l : List (ℕ × ℕ)) (m : ℕ) → Ascends n sum least l → m < least → arcOf l m ≡ none
-  unfolding Ascends arcOf
+  pub arc-not-below : (least : ℕ) (l : List (ℕ × ℕ)) (m : ℕ) → Ascends n sum least l → m < least → listedArc l m ≡ none
+  unfolding Ascends listedArc
   arc-not-below least [] m h g = refl
   arc-not-below least (arc ∷ rest) m h g =
-      ap (λ b. elim b as (λ _. Option ℕ) [ true ↦ some (arc .1) | false ↦ arcOf rest m ])
+      ap (λ b. elim b as (λ _. Option ℕ) [ true ↦ some (arc .1) | false ↦ listedArc rest m ])
       (ne-eqb m (arc .0) (omega (arith, h .0)))
       ∙ arc-not-below (arc .0 + 1) rest m (h .3) (omega (arith, h .0))
 
@@ -95,8 +95,8 @@ module _ (n sum row : ℕ) where
 
   -- EVERY ARC OF THE LIST IS IN THE TABLE, and no other: a later arc overwrites none
   pub arcs-entered : (least : ℕ) (l : List (ℕ × ℕ)) (t : List ℕ) (m : ℕ) → Ascends n sum least l → row + sum ≤ length t
-      → getD (putArcs row l t) (row + m) 0 ≡ entryOf (arcOf l m) (getD t (row + m) 0)
-  unfolding Ascends putArcs arcOf
+      → getD (putArcs row l t) (row + m) 0 ≡ entryOf (listedArc l m) (getD t (row + m) 0)
+  unfolding Ascends putArcs listedArc
   arcs-entered least [] t m h long = refl
   arcs-entered least (arc ∷ rest) t m h long =
       arcs-entered (arc .0 + 1) rest t′ m (h .3) (omega (arith, length-set t (row + arc .0) (arc .1 + 1))) ∙ go (eqb m (arc .0)) refl
@@ -105,27 +105,27 @@ module _ (n sum row : ℕ) where
       t′ = set t (row + arc .0) (arc .1 + 1)
 
       go : (b : Bool) → eqb m (arc .0) ≡ b
-          → entryOf (arcOf rest m) (getD t′ (row + m) 0)
-          ≡ entryOf (elim b as (λ _. Option ℕ) [ true ↦ some (arc .1) | false ↦ arcOf rest m ]) (getD t (row + m) 0)
+          → entryOf (listedArc rest m) (getD t′ (row + m) 0)
+          ≡ entryOf (elim b as (λ _. Option ℕ) [ true ↦ some (arc .1) | false ↦ listedArc rest m ]) (getD t (row + m) 0)
       go true f =
           let e = eqb-true m (arc .0) f in
           ap (λ o. entryOf o (getD t′ (row + m) 0)) (arc-not-below n sum (arc .0 + 1) rest m (h .3) (omega arith))
           ∙ ap (λ k. getD t′ (row + k) 0) e
           ∙ getD-set-same t (row + arc .0) (arc .1 + 1) 0 (omega (arith, h .1))
       go false f =
-          ap (entryOf (arcOf rest m))
+          ap (entryOf (listedArc rest m))
           (getD-set-other t (row + arc .0) (row + m) (arc .1 + 1) 0 (λ c. eqb-false m (arc .0) f (omega arith)))
 
 -- the arcs of the list are what is found for their messages
-pub listed-found : (n sum least : ℕ) (l : List (ℕ × ℕ)) (m t : ℕ) → Ascends n sum least l → List·Memᴰ (m, t) l → arcOf l m ≡ some t
-unfolding Ascends arcOf
+pub listed-found : (n sum least : ℕ) (l : List (ℕ × ℕ)) (m t : ℕ) → Ascends n sum least l → List·Memᴰ (m, t) l → listedArc l m ≡ some t
+unfolding Ascends listedArc
 listed-found n sum least [] m t h i = absurd (List·Memᴰ·not-nil i)
 listed-found n sum least (arc ∷ rest) m t h i = go (listed-found n sum (arc .0 + 1) rest m t (h .3)) (List·Memᴰ·cases-cons i)
   where
     at-test : Bool → Option ℕ
-    at-test b = elim b [ true ↦ some (arc .1) | false ↦ arcOf rest m ]
+    at-test b = elim b [ true ↦ some (arc .1) | false ↦ listedArc rest m ]
 
-    go : (List·Memᴰ (m, t) rest → arcOf rest m ≡ some t) → ((m, t) ≡ arc) ⊎ List·Memᴰ (m, t) rest → at-test (eqb m (arc .0)) ≡ some t
+    go : (List·Memᴰ (m, t) rest → listedArc rest m ≡ some t) → ((m, t) ≡ arc) ⊎ List·Memᴰ (m, t) rest → at-test (eqb m (arc .0)) ≡ some t
     go later (inl e) = ap at-test (eq-eqb m (arc .0) (ap (λ x. x .0) e)) ∙ ap some (sym (ap (λ x. x .1) e))
     go later (inr j) = ap at-test (ne-eqb m (arc .0) apart) ∙ later j
       where
@@ -134,13 +134,13 @@ listed-found n sum least (arc ∷ rest) m t h i = go (listed-found n sum (arc .0
             let z : _≡_ {A = ℕ} 0 1 = cc (arc-not-below n sum (arc .0 + 1) rest m (h .3) (omega arith), later j) in
             omega arith
 
-pub found-listed : (l : List (ℕ × ℕ)) (m t : ℕ) → arcOf l m ≡ some t → List·Memᴰ (m, t) l
-unfolding arcOf
+pub found-listed : (l : List (ℕ × ℕ)) (m t : ℕ) → listedArc l m ≡ some t → List·Memᴰ (m, t) l
+unfolding listedArc
 found-listed [] m t e = let z : _≡_ {A = ℕ} 0 1 = cc in absurd (omega arith)
 found-listed (arc ∷ rest) m t e = go (found-listed rest m t) (eqb m (arc .0)) refl e
   where
-    go : (arcOf rest m ≡ some t → List·Memᴰ (m, t) rest) → (b : Bool) → eqb m (arc .0) ≡ b
-        → (elim b as (λ _. Option ℕ) [ true ↦ some (arc .1) | false ↦ arcOf rest m ]) ≡ some t → List·Memᴰ (m, t) (arc ∷ rest)
+    go : (listedArc rest m ≡ some t → List·Memᴰ (m, t) rest) → (b : Bool) → eqb m (arc .0) ≡ b
+        → (elim b as (λ _. Option ℕ) [ true ↦ some (arc .1) | false ↦ listedArc rest m ]) ≡ some t → List·Memᴰ (m, t) (arc ∷ rest)
     go later true f g =
         let p₀ : m ≡ arc .0 = eqb-true m (arc .0) f in
         let p₁ : t ≡ arc .1 = cc in
@@ -152,7 +152,7 @@ pub record ArcsThere (s : List ℕ) (n sum row left at least : ℕ) (before afte
   pub arcs : List (ℕ × ℕ)
   pub listed : listArcs s at n sum least left ≡ got arcs next
   pub ascend : Ascends n sum least arcs
-  pub entries : (m : ℕ) → getD after (row + m) 0 ≡ entryOf (arcOf arcs m) (getD before (row + m) 0)
+  pub entries : (m : ℕ) → getD after (row + m) 0 ≡ entryOf (listedArc arcs m) (getD before (row + m) 0)
 
 pub arcs-there : (s : List ℕ) (n sum row left at least : ℕ) (before : List ℕ) {after : List ℕ} {next : ℕ}
     → row + sum ≤ length before → readArcs s at n sum least row left before ≡ got after next

@@ -22,7 +22,7 @@ use Rattle.numbers.specs.Laws.Written.{Changed, zeros-hold}
 use Rattle.tables.specs.Valid.{PoolValid}
 use Rattle.reading_pool.specs.Laws.Pool.{pool-valid}
 use Rattle.tables.specs.Laws.Pool.{entry-arc}
-use Rattle.reading_pool.specs.Laws.Arcs.{listArcs, putArcs, arcOf, Ascends, entryOf, arcs-listed, arcs-ascend, arcs-changed, arcs-entered}
+use Rattle.reading_pool.specs.Laws.Arcs.{listArcs, putArcs, listedArc, Ascends, entryOf, arcs-listed, arcs-ascend, arcs-changed, arcs-entered}
 use Rattle.tables.specs.declared.tables.Pool.{Pool}
 
 -- a state as the file lists it: its final mark and its arcs
@@ -114,7 +114,7 @@ record Kept (i : ℕ) (x y : List ℕ × List ℕ) : Type 0 where
 record Stands (l : List Listed) (i : ℕ) (y : List ℕ × List ℕ) : Type 0 where
   finals : (j : ℕ) → j < length l → getD (y .0) (i + j) 0 ≡ getD l j noState .0
   arcs : (j m : ℕ) → j < length l → m < mostMessages
-      → getD (y .1) ((i + j) * mostMessages + m) 0 ≡ entryOf (arcOf (getD l j noState .1) m) 0
+      → getD (y .1) ((i + j) * mostMessages + m) 0 ≡ entryOf (listedArc (getD l j noState .1) m) 0
 
 module _ (n sum : ℕ) (few : sum ≤ mostMessages) where
   states-kept : (l : List Listed) (i : ℕ) (x : List ℕ × List ℕ) → ((j : ℕ) → Ascends n sum 0 (getD l j noState .1))
@@ -162,12 +162,12 @@ module _ (n sum : ℕ) (few : sum ≤ mostMessages) where
           ap (λ k. getD (putStates rest (i + 1) y .0) k 0) e ∙ later .finals j (omega arith)
 
       arcs : (j m : ℕ) → Stands rest (i + 1) (putStates rest (i + 1) y) → j < suc (length rest) → m < mostMessages
-          → getD (putStates rest (i + 1) y .1) ((i + j) * mostMessages + m) 0 ≡ entryOf (arcOf (getD (state ∷ rest) j noState .1) m) 0
+          → getD (putStates rest (i + 1) y .1) ((i + j) * mostMessages + m) 0 ≡ entryOf (listedArc (getD (state ∷ rest) j noState .1) m) 0
       arcs zero m later g l =
           ap (λ k. getD (putStates rest (i + 1) y .1) (k * mostMessages + m) 0) (add-zero i)
           ∙ kept .arcs (i * mostMessages + m) (omega arith)
           ∙ arcs-entered n sum (i * mostMessages) 0 (state .1) (x .1) m (h 0) (omega arith)
-          ∙ ap (entryOf (arcOf (state .1) m)) (blank (i * mostMessages + m) (omega arith))
+          ∙ ap (entryOf (listedArc (state .1) m)) (blank (i * mostMessages + m) (omega arith))
       arcs (suc j) m later g l =
           let e : i + suc j ≡ i + 1 + j = omega arith in
           ap (λ k. getD (putStates rest (i + 1) y .1) (k * mostMessages + m) 0) e ∙ later .arcs j m (omega arith) l
@@ -178,7 +178,7 @@ pub record PoolListed (s : List ℕ) (sum at : ℕ) (P : Pool) (next : ℕ) : Ty
   pub listed : listPool s at sum ≡ got states next
   pub count : length states ≡ P .count
   pub finals : (i : ℕ) → getD (P .finals) i 0 ≡ getD states i noState .0
-  pub arcs : (i m : ℕ) → m < mostMessages → arcAt (P .arcs) i m ≡ arcOf (getD states i noState .1) m
+  pub arcs : (i m : ℕ) → m < mostMessages → arcAt (P .arcs) i m ≡ listedArc (getD states i noState .1) m
   pub ascend : (i : ℕ) → Ascends (P .count) sum 0 (getD states i noState .1)
 
 -- a lookup in the table, by what its entry is
@@ -198,18 +198,18 @@ module _ (sum : ℕ) (P : Pool) (l : List Listed) (pool : PoolValid sum P) (long
           let h = ltb-false i (length l) f in
           pool .finalsRest i (omega arith) ∙ sym (ap (λ (state : Listed). state .0) (List·getD-eq-default l noState h))
 
-  arcs-stand : (i m : ℕ) → m < mostMessages → arcAt (P .arcs) i m ≡ arcOf (getD l i noState .1) m
-  unfolding arcOf
+  arcs-stand : (i m : ℕ) → m < mostMessages → arcAt (P .arcs) i m ≡ listedArc (getD l i noState .1) m
+  unfolding listedArc
   arcs-stand i m g = go (ltb i (length l)) refl
     where
-      go : (b : Bool) → ltb i (length l) ≡ b → arcAt (P .arcs) i m ≡ arcOf (getD l i noState .1) m
+      go : (b : Bool) → ltb i (length l) ≡ b → arcAt (P .arcs) i m ≡ listedArc (getD l i noState .1) m
       go true f =
-          arc-by-entry (P .arcs) i m (arcOf (getD l i noState .1) m)
+          arc-by-entry (P .arcs) i m (listedArc (getD l i noState .1) m)
           (ap (λ k. getD (P .arcs) (k * mostMessages + m) 0) (sym (zero-add i)) ∙ stands .arcs i m (ltb-true i (length l) f) g)
       go false f =
           let h = ltb-false i (length l) f in
           arc-by-entry (P .arcs) i m none (pool .arcsRest (i * mostMessages + m) (omega arith))
-          ∙ sym (ap (λ (state : Listed). arcOf (state .1) m) (List·getD-eq-default l noState h))
+          ∙ sym (ap (λ (state : Listed). listedArc (state .1) m) (List·getD-eq-default l noState h))
 
 abbrev tables : ℕ → List ℕ × List ℕ → Pool
 tables n x = record { count = n; finals = x .0; arcs = x .1 }
