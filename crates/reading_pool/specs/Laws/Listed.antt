@@ -26,30 +26,30 @@ use Rattle.reading_pool.specs.Laws.Arcs.{listArcs, putArcs, listedArc, A
 use Rattle.tables.specs.declared.tables.Pool.{Pool}
 
 -- a state as the file lists it: its final mark and its arcs
-abbrev pub Listed : Type 0
-Listed = ℕ × List (ℕ × ℕ)
+abbrev pub ListedState : Type 0
+ListedState = ℕ × List (ℕ × ℕ)
 
 -- what stands beyond the last state
-abbrev pub noState : Listed
+abbrev pub noState : ListedState
 noState = (0, [])
 
-unfoldable pub listState : List ℕ → ℕ → ℕ → ℕ → Part Listed
+unfoldable pub listState : List ℕ → ℕ → ℕ → ℕ → Part ListedState
 listState s n sum at =
     andThen (readBelow s at 2) (λ final p₁.
     andThen (readWithin s p₁ 0 sum) (λ count p₂.
     andThen (listArcs s p₂ n sum 0 count) (λ arcs p₃.
     got (final, arcs) p₃)))
 
-unfoldable pub listStates : List ℕ → ℕ → ℕ → ℕ → ℕ → Part (List Listed)
+unfoldable pub listStates : List ℕ → ℕ → ℕ → ℕ → ℕ → Part (List ListedState)
 listStates s at n sum zero = got [] at
 listStates s at n sum (suc left) =
     andThen (listState s n sum at) (λ state p₁. andThen (listStates s p₁ n sum left) (λ rest p₂. got (state ∷ rest) p₂))
 
-unfoldable pub listPool : List ℕ → ℕ → ℕ → Part (List Listed)
+unfoldable pub listPool : List ℕ → ℕ → ℕ → Part (List ListedState)
 listPool s at sum = andThen (readWithin s at 1 mostPool) (λ n p. listStates s p n sum n)
 
 -- listed states put into the two tables, from number i on
-unfoldable pub putStates : List Listed → ℕ → List ℕ × List ℕ → List ℕ × List ℕ
+unfoldable pub putStates : List ListedState → ℕ → List ℕ × List ℕ → List ℕ × List ℕ
 putStates [] i x = x
 putStates (state ∷ rest) i x = putStates rest (i + 1) (set (x .0) i (state .0), putArcs (i * mostMessages) (state .1) (x .1))
 
@@ -80,7 +80,7 @@ module _ (s : List ℕ) (n sum : ℕ) where
       ∙ sym (andThen-assoc (listStates s p₁ n sum left) _ _))
       ∙ sym (andThen-assoc (listState s n sum at) _ _)
 
-  state-ascends : (at : ℕ) {state : Listed} {next : ℕ} → listState s n sum at ≡ got state next → Ascends n sum 0 (state .1)
+  state-ascends : (at : ℕ) {state : ListedState} {next : ℕ} → listState s n sum at ≡ got state next → Ascends n sum 0 (state .1)
   unfolding listState
   state-ascends at e =
       let a = andThen-got (readBelow s at 2) e in
@@ -88,7 +88,7 @@ module _ (s : List ℕ) (n sum : ℕ) where
       let c = andThen-got (listArcs s (b .place) n sum 0 (b .value)) (b .then) in
       subst (λ state. Ascends n sum 0 (state .1)) (same-value (c .then)) (arcs-ascend s n sum (b .value) (b .place) 0 (c .first))
 
-  states-ascend : (left at : ℕ) {l : List Listed} {next : ℕ} → listStates s at n sum left ≡ got l next
+  states-ascend : (left at : ℕ) {l : List ListedState} {next : ℕ} → listStates s at n sum left ≡ got l next
       → (length l ≡ left) × ((i : ℕ) → Ascends n sum 0 (getD l i noState .1))
   unfolding listStates Ascends
   states-ascend zero at e =
@@ -100,7 +100,7 @@ module _ (s : List ℕ) (n sum : ℕ) where
       subst (λ l. (length l ≡ suc left) × ((i : ℕ) → Ascends n sum 0 (getD l i noState .1))) (same-value (u .then))
       (ap suc (rest .0), λ i. each (t .value) (u .value) i (state-ascends at (t .first)) (rest .1))
     where
-      each : (state : Listed) (l : List Listed) (i : ℕ) → Ascends n sum 0 (state .1) → ((j : ℕ) → Ascends n sum 0 (getD l j noState .1))
+      each : (state : ListedState) (l : List ListedState) (i : ℕ) → Ascends n sum 0 (state .1) → ((j : ℕ) → Ascends n sum 0 (getD l j noState .1))
           → Ascends n sum 0 (getD (state ∷ l) i noState .1)
       each state l zero h r = h
       each state l (suc j) h r = r j
@@ -111,13 +111,13 @@ record Kept (i : ℕ) (x y : List ℕ × List ℕ) : Type 0 where
   arcs : (k : ℕ) → k < i * mostMessages → getD (y .1) k 0 ≡ getD (x .1) k 0
 
 -- and each stands where it belongs
-record Stands (l : List Listed) (i : ℕ) (y : List ℕ × List ℕ) : Type 0 where
+record Stands (l : List ListedState) (i : ℕ) (y : List ℕ × List ℕ) : Type 0 where
   finals : (j : ℕ) → j < length l → getD (y .0) (i + j) 0 ≡ getD l j noState .0
   arcs : (j m : ℕ) → j < length l → m < mostMessages
       → getD (y .1) ((i + j) * mostMessages + m) 0 ≡ entryOf (listedArc (getD l j noState .1) m) 0
 
 module _ (n sum : ℕ) (few : sum ≤ mostMessages) where
-  states-kept : (l : List Listed) (i : ℕ) (x : List ℕ × List ℕ) → ((j : ℕ) → Ascends n sum 0 (getD l j noState .1))
+  states-kept : (l : List ListedState) (i : ℕ) (x : List ℕ × List ℕ) → ((j : ℕ) → Ascends n sum 0 (getD l j noState .1))
       → Kept i x (putStates l i x)
   unfolding putStates
   states-kept [] i x h = record { finals = λ k g. refl; arcs = λ k g. refl }
@@ -130,7 +130,7 @@ module _ (n sum : ℕ) (few : sum ≤ mostMessages) where
         arcs = λ k g. later .arcs k (omega arith) ∙ c .under k g;
       }
 
-  states-stand : (l : List Listed) (i : ℕ) (x : List ℕ × List ℕ) → ((j : ℕ) → Ascends n sum 0 (getD l j noState .1))
+  states-stand : (l : List ListedState) (i : ℕ) (x : List ℕ × List ℕ) → ((j : ℕ) → Ascends n sum 0 (getD l j noState .1))
       → i + length l ≤ length (x .0) → (i + length l) * mostMessages ≤ length (x .1)
       → ((k : ℕ) → i * mostMessages ≤ k → getD (x .1) k 0 ≡ 0) → Stands l i (putStates l i x)
   unfolding putStates
@@ -174,7 +174,7 @@ module _ (n sum : ℕ) (few : sum ≤ mostMessages) where
 
 -- the tables of the pool say what the file lists
 pub record PoolListed (s : List ℕ) (sum at : ℕ) (P : Pool) (next : ℕ) : Type 0 where
-  pub states : List Listed
+  pub states : List ListedState
   pub listed : listPool s at sum ≡ got states next
   pub count : length states ≡ P .count
   pub finals : (i : ℕ) → getD (P .finals) i 0 ≡ getD states i noState .0
@@ -187,7 +187,7 @@ arc-by-entry arcs i m none e =
     ap (λ b. cond b none (some (getD arcs (i * mostMessages + m) 0 - 1))) (eq-eqb (getD arcs (i * mostMessages + m) 0) 0 e)
 arc-by-entry arcs i m (some t) e = entry-arc arcs i m (omega arith)
 
-module _ (sum : ℕ) (P : Pool) (l : List Listed) (pool : PoolValid sum P) (long : length l ≡ P .count)
+module _ (sum : ℕ) (P : Pool) (l : List ListedState) (pool : PoolValid sum P) (long : length l ≡ P .count)
     (stands : Stands l 0 (P .finals, P .arcs)) where
   finals-stand : (i : ℕ) → getD (P .finals) i 0 ≡ getD l i noState .0
   finals-stand i = go (ltb i (length l)) refl
@@ -196,7 +196,7 @@ module _ (sum : ℕ) (P : Pool) (l : List Listed) (pool : PoolValid sum P) (long
       go true f = ap (λ k. getD (P .finals) k 0) (sym (zero-add i)) ∙ stands .finals i (ltb-true i (length l) f)
       go false f =
           let h = ltb-false i (length l) f in
-          pool .finalsRest i (omega arith) ∙ sym (ap (λ (state : Listed). state .0) (List·getD-eq-default l noState h))
+          pool .finalsRest i (omega arith) ∙ sym (ap (λ (state : ListedState). state .0) (List·getD-eq-default l noState h))
 
   arcs-stand : (i m : ℕ) → m < mostMessages → arcAt (P .arcs) i m ≡ listedArc (getD l i noState .1) m
   unfolding listedArc
@@ -209,7 +209,7 @@ module _ (sum : ℕ) (P : Pool) (l : List Listed) (pool : PoolValid sum P) (long
       go false f =
           let h = ltb-false i (length l) f in
           arc-by-entry (P .arcs) i m none (pool .arcsRest (i * mostMessages + m) (omega arith))
-          ∙ sym (ap (λ (state : Listed). listedArc (state .1) m) (List·getD-eq-default l noState h))
+          ∙ sym (ap (λ (state : ListedState). listedArc (state .1) m) (List·getD-eq-default l noState h))
 
 abbrev tables : ℕ → List ℕ × List ℕ → Pool
 tables n x = record { count = n; finals = x .0; arcs = x .1 }
@@ -229,7 +229,7 @@ pool-listed s sum at {P} {next} few e =
     pool : PoolValid sum P
     pool = pool-valid s sum at few e
 
-    built : (n p : ℕ) (l : List Listed) (q : ℕ) → readWithin s at 1 mostPool ≡ got n p → n ≤ mostPool → listStates s p n sum n ≡ got l q
+    built : (n p : ℕ) (l : List ListedState) (q : ℕ) → readWithin s at 1 mostPool ≡ got n p → n ≤ mostPool → listStates s p n sum n ≡ got l q
         → tables n (putStates l 0 x) ≡ P → q ≡ next → PoolListed s sum at P next
     built n p l q e₁ h e₂ same place =
         let asc = states-ascend s n sum n p e₂ in
