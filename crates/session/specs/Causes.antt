@@ -27,41 +27,41 @@ use Rattle.tables.specs.declared.tables.Pool.{Pool}
 use Rattle.tables.specs.declared.tables.Map.{Map}
 
 -- A FIELD, number by number, with what was read before it as far as it is held to that.
-pub data Field : Type 0 where
-  machineCount : Field
+pub data FileField : Type 0 where
+  machineCount : FileField
   -- of a machine; the product of the states of those before it
-  machineStates : ℕ → Field
+  machineStates : ℕ → FileField
   -- of a machine; its states
-  startingState : ℕ → Field
-  queueCount : Field
+  startingState : ℕ → FileField
+  queueCount : FileField
   -- of a queue; the sum of the messages of those before it
-  queueMessages : ℕ → Field
-  transitionCount : Field
+  queueMessages : ℕ → FileField
+  transitionCount : FileField
   -- of a transition; the machines, and for from and to its machine's states
-  machine : ℕ → Field
-  fromState : ℕ → Field
-  toState : ℕ → Field
-  kind : Field
+  machine : ℕ → FileField
+  fromState : ℕ → FileField
+  toState : ℕ → FileField
+  kind : FileField
   -- of a send or a receive; the queues, and for a message of its word the queue that it names
-  queue : ℕ → Field
-  wordLength : Field
-  wordMessage : Queues → ℕ → Field
-  poolCount : Field
+  queue : ℕ → FileField
+  wordLength : FileField
+  wordMessage : Queues → ℕ → FileField
+  poolCount : FileField
   -- of a pool state; the sum of all messages
-  final : Field
-  arcCount : ℕ → Field
+  final : FileField
+  arcCount : ℕ → FileField
   -- of an arc; the sum and the message of the state's arc before it; the pool states
-  arcMessage : ℕ → Option ℕ → Field
-  arcTarget : ℕ → Field
+  arcMessage : ℕ → Option ℕ → FileField
+  arcTarget : ℕ → FileField
   -- of a control state; the pool states
-  root : ℕ → Field
-  badCount : Field
+  root : ℕ → FileField
+  badCount : FileField
   -- of a bad entry; the control states; the pool states
-  badControl : ℕ → Field
-  badRoot : ℕ → Field
+  badControl : ℕ → FileField
+  badRoot : ℕ → FileField
 
 -- THE RANGE of each (document 01, "The session file")
-abbrev pub InRange : Field → ℕ → Type 0
+abbrev pub InRange : FileField → ℕ → Type 0
 InRange machineCount v = (1 ≤ v) × (v ≤ mostMachines)
 InRange (machineStates product) v = (1 ≤ v) × (v ≤ mostStates)
 InRange (startingState states) v = v < states
@@ -203,7 +203,7 @@ module _ (s : List ℕ) where
     pub read : readEntries s afterCount controls n entry 0 (replicate (mostBad * 2) 0) ≡ got rows p
 
   -- READING COMES TO A FIELD at a place
-  pub data Comes : Field → ℕ → Type 0 where
+  pub data Comes : FileField → ℕ → Type 0 where
     to-machine-count : Comes machineCount 0
     to-states : {count p₁ i product p : ℕ} {sizes : List ℕ} → readWithin s 0 1 mostMachines ≡ got count p₁ → i < count
         → readSizes s p₁ 1 i 0 (replicate mostMachines 0) ≡ got (product, sizes) p → Comes (machineStates product) p
@@ -251,20 +251,20 @@ module _ (s : List ℕ) where
     pub second : (getD s (at + 1) 0 ≡ 0) ⊎ (128 ≤ getD s (at + 1) 0)
 
   -- number v of field f stands at place p
-  pub record Stands (f : Field) (v p : ℕ) : Type 0 where
+  pub record NumberAt (f : FileField) (v p : ℕ) : Type 0 where
     pub comes : Comes f p
     pub next : ℕ
     pub number : readNumber s p ≡ got v next
 
 -- THE CAUSE of refusal k at place p
 pub data Cause (s : List ℕ) : ℕ → ℕ → Type 0 where
-  ends : {f : Field} {at : ℕ} → Comes s f at → Unfinished s at → Cause s 3 (length s)
-  malformed : {f : Field} {p : ℕ} → Comes s f p → Malformed s p → Cause s 4 p
-  outside : {f : Field} {v p : ℕ} → Stands s f v p → (InRange f v → ⊥) → Cause s 5 p
+  ends : {f : FileField} {at : ℕ} → Comes s f at → Unfinished s at → Cause s 3 (length s)
+  malformed : {f : FileField} {p : ℕ} → Comes s f p → Malformed s p → Cause s 4 p
+  outside : {f : FileField} {v p : ℕ} → NumberAt s f v p → (InRange f v → ⊥) → Cause s 5 p
   -- from here on the number is in range
-  product-passed : {product v p : ℕ} → Stands s (machineStates product) v p → InRange (machineStates product) v → mostControls < product * v
+  product-passed : {product v p : ℕ} → NumberAt s (machineStates product) v p → InRange (machineStates product) v → mostControls < product * v
       → Cause s 6 p
-  sum-passed : {sum v p : ℕ} → Stands s (queueMessages sum) v p → InRange (queueMessages sum) v → mostMessages < sum + v → Cause s 6 p
-  other-queue : {q : Queues} {i v p : ℕ} → Stands s (wordMessage q i) v p → InRange (wordMessage q i) v → (OfQueue q i v → ⊥) → Cause s 7 p
-  not-ascending : {sum before v p : ℕ} → Stands s (arcMessage sum (some before)) v p → InRange (arcMessage sum (some before)) v → v ≤ before
+  sum-passed : {sum v p : ℕ} → NumberAt s (queueMessages sum) v p → InRange (queueMessages sum) v → mostMessages < sum + v → Cause s 6 p
+  other-queue : {q : Queues} {i v p : ℕ} → NumberAt s (wordMessage q i) v p → InRange (wordMessage q i) v → (OfQueue q i v → ⊥) → Cause s 7 p
+  not-ascending : {sum before v p : ℕ} → NumberAt s (arcMessage sum (some before)) v p → InRange (arcMessage sum (some before)) v → v ≤ before
       → Cause s 8 p

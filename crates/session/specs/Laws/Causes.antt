@@ -29,10 +29,10 @@ use Rattle.reading_model.specs.Model.{readModel}
 use Rattle.session.specs.Sets.{readSets}
 use Rattle.reading_pool.specs.Lowest.{inQueueOrder}
 use Rattle.session.specs.File.{readFile}
-use Rattle.session.specs.Causes.{Field, machineStates, startingState, queueMessages, wordMessage, InRange}
+use Rattle.session.specs.Causes.{FileField, machineStates, startingState, queueMessages, wordMessage, InRange}
 use Rattle.session.specs.Causes.{ToTransitions, ToTransition, ToMove, ToAction, ToWord, ToState, ToArcs, leastAfter, ArcsRead, no-arc, one-arc-more, ToArc, ToSets, ToBad, ToEntry}
 use Rattle.session.specs.Causes.{Comes, to-machine-count, to-states, to-start, to-queue-count, to-messages, to-transition-count, to-machine, to-from, to-to, to-kind, to-queue, to-word-length, to-word, to-pool-count, to-final, to-arc-count, to-arc, to-target, to-root, to-bad-count, to-control, to-bad-root}
-use Rattle.session.specs.Causes.{Stands, Cause, ends, malformed, outside, product-passed, sum-passed, other-queue, not-ascending}
+use Rattle.session.specs.Causes.{NumberAt, Cause, ends, malformed, outside, product-passed, sum-passed, other-queue, not-ascending}
 use Rattle.reading_model.specs.Laws.Machines.{sizes-rounds, starts-rounds}
 use Rattle.reading_model.specs.Laws.Queues.{counts-rounds}
 use Rattle.reading_model.specs.Laws.Transitions.{word-rounds, rows-rounds}
@@ -86,7 +86,7 @@ module _ (s : List ℕ) where
     rounds-caused h = rounds-on n 0 i₀ at₀ x₀ (omega arith) (omega arith) (rounds .stop i₀ at₀ x₀) h
 
   -- NUMBERS, of a field that reading has come to
-  module _ {f : Field} {at : ℕ} (comes : Comes s f at) (h : at ≤ length s) where
+  module _ {f : FileField} {at : ℕ} (comes : Comes s f at) (h : at ≤ length s) where
     number-caused : Caused (readNumber s at)
     unfolding readNumber
     number-caused =
@@ -120,7 +120,7 @@ module _ (s : List ℕ) where
     unfolding readWithin
     within-caused least most range =
         caused-then at (readNumber s at) _ (number-fair s at h) number-caused (λ v next e _.
-        let stands : Stands s f v at = record { comes = comes; next = next; number = e } in
+        let stands : NumberAt s f v at = record { comes = comes; next = next; number = e } in
         caused-provided (leb least v) 5 at _
         (λ t. outside stands (λ r. let a = range v r in let b = leb-false least v t in omega (arith, a .0)))
         (λ _. caused-provided (leb v most) 5 at (got v next)
@@ -195,7 +195,7 @@ module _ (s : List ℕ) where
   unfolding readMessage
   message-caused q i at c h =
       caused-then at (readBelow s at (q .sum)) _ (below-fair s at (q .sum) h) (below-caused c h (q .sum) (λ v r. r)) (λ v next e _.
-      let stands : Stands s (wordMessage q i) v at = record { comes = c; next = next; number = below-number s at (q .sum) e } in
+      let stands : NumberAt s (wordMessage q i) v at = record { comes = c; next = next; number = below-number s at (q .sum) e } in
       let range = below-range s at (q .sum) e in
       caused-provided (leb (firstOf (q .messages) i) v) 7 at _
       (λ t. other-queue stands range (λ o. let b = leb-false (firstOf (q .messages) i) v t in omega (arith, o .from)))
