@@ -38,7 +38,7 @@ entriesFrom b (e ∷ es) = entry b e ∷ entriesFrom (suc b) es
 abbrev pub items : Session → List Item
 items S = start ∷ (stepsFrom (S .model) 0 (controls (S .model)) ++ entriesFrom 0 (S .bad))
 
--- WHAT SPEAKS AGAINST AN ITEM
+-- WHAT SPEAKS AGAINST AN ITEM: a configuration that is a counterexample to it
 -- contents of the control state allow the step, and it leads outside
 pub record Leaves (S : Session) (c t : ℕ) (γ : Configuration) : Type 0 where
   pub control : γ .control ≡ c
@@ -55,20 +55,20 @@ pub record Meets (S : Session) (e : ℕ × ℕ) (γ : Configuration) : Type 0 wh
   pub listed : Listed S e γ
 
 module _ (S : Session) where
-  abbrev pub Against : Item → Configuration → Type 0
-  Against start γ = (γ ≡ begin (S .model)) × Outside S γ
-  Against (step c t τ) γ = Leaves S c t γ
-  Against (entry b e) γ = Meets S e γ
+  abbrev pub Counterexample : Item → Configuration → Type 0
+  Counterexample start γ = (γ ≡ begin (S .model)) × Outside S γ
+  Counterexample (step c t τ) γ = Leaves S c t γ
+  Counterexample (entry b e) γ = Meets S e γ
 
   abbrev pub Passes : Item → Type 0
-  Passes i = (γ : Configuration) → Against i γ → ⊥
+  Passes i = (γ : Configuration) → Counterexample i γ → ⊥
 
 -- w is the shortest, and of those the lowest, of the contents that speak against the item
 pub record Fails (S : Session) (i : Item) (w : List ℕ) : Type 0 where
   pub shown : Configuration
-  pub against : Against S i shown
+  pub against : Counterexample S i shown
   pub contents : word (shown .queues) ≡ w
-  pub least : (γ : Configuration) → Against S i γ → AtMost w (word (γ .queues))
+  pub least : (γ : Configuration) → Counterexample S i γ → AtMost w (word (γ .queues))
 
 -- THE PAIRS: where the source and the target stand, before the step and after it; the target may be nowhere
 pub data Pair : Type 0 where

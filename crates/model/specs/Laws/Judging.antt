@@ -20,7 +20,7 @@ use Rattle.explore.specs.First.{first-has-it}
 use Rattle.model.specs.Model.{Configuration, messages}
 use Rattle.model.specs.Diagram.{word}
 use Rattle.model.specs.Session.{Session}
-use Rattle.model.specs.Verdict.{Item, Pair, before, after, Visited, Against, Passes, Fails, mostPairs}
+use Rattle.model.specs.Verdict.{Item, Pair, before, after, Visited, Counterexample, Passes, Fails, mostPairs}
 use Rattle.model.specs.Judge.{samePlace, same, Walk, go, wrong, contents, walked, Judged, passes, fails, look}
 use Rattle.model.specs.Laws.Basics.{and-is}
 use Rattle.model.specs.Laws.Walks.{walk, reach-walk, walk-reach}
@@ -53,8 +53,8 @@ same-equality x y = (same-is x y, λ e. subst (λ z. same x z ≡ true) e (is-sa
 pub record Faithful (S : Session) (i : Item) (W : Walk) (r : Pair) : Type 0 where
   pub visits : (z : List ℕ) (x : Pair) → walk S W (some r) z ≡ some x → Visited S i x
   pub visited : (x : Pair) → Visited S i x → (z : List ℕ) × (walk S W (some r) z ≡ some x)
-  pub shows : (z : List ℕ) (x : Pair) → walk S W (some r) z ≡ some x → wrong S W x ≡ true → (γ : Configuration) × Against S i γ × (word (γ .queues) ≡ contents S W z)
-  pub shown : (γ : Configuration) → Against S i γ → (z : List ℕ) × (x : Pair) × (walk S W (some r) z ≡ some x) × (wrong S W x ≡ true) × (contents S W z ≡ word (γ .queues))
+  pub shows : (z : List ℕ) (x : Pair) → walk S W (some r) z ≡ some x → wrong S W x ≡ true → (γ : Configuration) × Counterexample S i γ × (word (γ .queues) ≡ contents S W z)
+  pub shown : (γ : Configuration) → Counterexample S i γ → (z : List ℕ) × (x : Pair) × (walk S W (some r) z ≡ some x) × (wrong S W x ≡ true) × (contents S W z ≡ word (γ .queues))
   pub order : (z z′ : List ℕ) (x x′ : Pair) → walk S W (some r) z ≡ some x → wrong S W x ≡ true → walk S W (some r) z′ ≡ some x′ → wrong S W x′ ≡ true
       → AtMost z z′ → AtMost (contents S W z) (contents S W z′)
   pub short : (z : List ℕ) (x : Pair) → walk S W (some r) z ≡ some x → wrong S W x ≡ true → length (contents S W z) ≤ length z + length (W .out)
@@ -100,7 +100,7 @@ module _ (S : Session) (i : Item) (W : Walk) (r : Pair) (F : Faithful S i W r) w
       let (b, m) = first-has-it (λ e. wrong S W (e .at)) Q e f in
       (sym (reach-walk S W r (e .word)) ∙ sound-word M δ same same-equality r fuel e m, b)
 
-  first-least : (e : Entry Pair) → firstBy (λ e. wrong S W (e .at)) Q ≡ some e → (γ : Configuration) → Against S i γ
+  first-least : (e : Entry Pair) → firstBy (λ e. wrong S W (e .at)) Q ≡ some e → (γ : Configuration) → Counterexample S i γ
       → AtMost (contents S W (reverse (e .word))) (word (γ .queues))
   first-least e f γ a =
       let (way, b) = first-way e f in
