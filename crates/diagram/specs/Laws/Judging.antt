@@ -17,7 +17,8 @@ use Rattle.model.specs.Diagram.{Pool, along}
 use Rattle.meaning.specs.Tables.{poolOf}
 use Rattle.tables.specs.Lookup.{alongArc, finalAt}
 use Rattle.diagram.specs.Member.{Reply, refusal, answer, judge}
-use Rattle.diagram.specs.Laws.Tables.{messages-are, along-is, final-is}
+use Rattle.meaning.specs.Laws.Order.{messages-are}
+use Rattle.diagram.specs.Laws.Tables.{along-is, final-is}
 use Rattle.diagram.specs.Laws.Queues.{drop-all}
 
 -- the queues and the pool of the tables

@@ -1,4 +1,4 @@
--- The session of a file, asked by its tables: how many control states and messages, where an arc leads, what is final.
+-- The session of a file, asked by its tables: how many control states, where an arc leads, what is final.
 use Prim.Native.Nat.{ℕ, _<_}
 use mathlib.Core.Path.{_≡_, refl, sym, _∙_}
 use mathlib.Core.Option.{Option, none, some}
@@ -6,21 +6,17 @@ use lib.ListN.{take}
 use borrow.Author.Tests.{lt-ltb}
 use native.Mathlib.Omega.{arith}
 use Rattle.tables.specs.Limits.{mostMessages}
-use Rattle.tables.specs.Valid.{MachinesValid, QueuesValid}
+use Rattle.tables.specs.Valid.{MachinesValid}
 use Rattle.tables.specs.declared.tables.Machines.{Machines}
-use Rattle.tables.specs.declared.tables.Queues.{Queues}
 use Rattle.tables.specs.declared.tables.Pool.{Pool}
-use Rattle.model.specs.Model.{product, total}
+use Rattle.model.specs.Model.{product}
 use Rattle.model.specs.Diagram.{along, isFinal}
 use Rattle.meaning.specs.Tables.{arcOf, poolOf}
 use Rattle.tables.specs.Lookup.{alongArc, finalAt}
-use Rattle.meaning.specs.Laws.Counts.{product-is, total-is}
+use Rattle.meaning.specs.Laws.Counts.{product-is}
 
 pub controls-are : {m : Machines} → MachinesValid m → product (take (m .count) (m .states)) ≡ m .product
 controls-are {m} v = product-is (m .states) (m .count) (omega (arith, v .most, v .statesLong)) ∙ sym (v .product)
-
-pub messages-are : {q : Queues} → QueuesValid q → total (take (q .count) (q .messages)) ≡ q .sum
-messages-are {q} v = total-is (q .messages) (q .count) (omega (arith, v .most, v .long)) ∙ sym (v .sum)
 
 pub along-is : (P : Pool) (s : Option ℕ) (m : ℕ) → m < mostMessages → along (poolOf P) s m ≡ alongArc (P .arcs) s m
 along-is P none m h = refl

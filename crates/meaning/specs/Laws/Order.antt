@@ -32,12 +32,13 @@ arc-is P s m {t} e = go (ltb m mostMessages) refl e
     go true f e′ = (ltb-true m mostMessages f, e′)
     go false f e′ = none-not-some refl e′
 
+-- the messages of all queues are as many as the sum says
+pub messages-are : {q : Queues} → QueuesValid q → total (take (q .count) (q .messages)) ≡ q .sum
+messages-are {q} v = omega (arith, total-is (q .messages) (q .count) (omega (arith, v .most, v .long)), v .sum)
+
 module _ (q : Queues) (P : Declared.Pool) (Q : QueuesValid q) (G : PoolValid (q .sum) P) where
   pub arc-within : (s m t : ℕ) → arcOf (P .arcs) s m ≡ some t → ArcValid (q .sum) (P .count) s m t
   arc-within s m t e = let a = arc-is P s m e in arc-valid s m G (a .0) (a .1)
-
-  pub messages-are : total (take (q .count) (q .messages)) ≡ q .sum
-  messages-are = omega (arith, total-is (q .messages) (q .count) (omega (arith, Q .most, Q .long)), Q .sum)
 
   queue-of : (p m : ℕ) → OfQueue q p m → queueOf (take (q .count) (q .messages)) m ≡ p
   queue-of p m o =

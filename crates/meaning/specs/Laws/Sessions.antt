@@ -51,7 +51,7 @@ module _ (T : Tables) (ok : Valid T) where
             (pool-in-order (T .queues) (T .pool) Q (ok .pool) (ok .ordered))
             (λ s m s′ e.
             let a = arc-within (T .queues) (T .pool) Q (ok .pool) s m s′ e in
-            omega (arith, a .message, messages-are (T .queues) (T .pool) Q (ok .pool)))
+            omega (arith, a .message, messages-are Q))
             (rootOf (T .map .roots) c) u;
       }
 

@@ -111,7 +111,7 @@ shown-front r contents = take-append-seam (shownOf r) (drop (length (shownOf r))
 module _ (T : Tables) (ok : Valid T) where
   fails-below : (qs : List (List ℕ)) (w : List ℕ) → Contents (sessionOf T .model) qs → word qs ≡ w → Between 0 mostMessages w
   fails-below qs w c e =
-      let sum = messages-are (T .queues) (T .pool) (ok .queues) (ok .pool) in
+      let sum = messages-are (ok .queues) in
       subst (Between 0 mostMessages) e (between-wide (omega arith) (omega (arith, ok .queues .sumMost)) (word-between c))
 
   meaning-below : (v : Reply) → Means (sessionOf T) (items (sessionOf T)) v → Between 0 mostMessages (shownOf (verdict v))

@@ -55,7 +55,7 @@ module _ (T : Tables) (v : Valid T) where
   rows = T .transitions .rows
 
   sum-is : messages (S .model) ≡ T .queues .sum
-  sum-is = messages-are (T .queues) (T .pool) (v .queues) (v .pool)
+  sum-is = messages-are (v .queues)
 
   -- without a root nothing is visited
   pub step-nothing : (c row source t : ℕ) → RootAt (T .map .roots) c source → source ≡ mostPool
