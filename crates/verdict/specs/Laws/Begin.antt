@@ -3,24 +3,20 @@ use Prim.Native.Nat.{ℕ}
 use mathlib.Core.Path.{_≡_, refl, sym, ap, _∙_}
 use mathlib.Core.Bool.{Bool, true, false}
 use mathlib.Core.Option.{Option, none, some}
-use mathlib.Core.List.{List, [], _∷_, map}
+use mathlib.Core.List.{List, [], _∷_}
 use native.Mathlib.Nat.{zero-add}
 use Rattle.tables.specs.declared.tables.Tables.{Tables}
 use Rattle.model.specs.Model.{number, begin}
-use Rattle.model.specs.Diagram.{word, accepts}
+use Rattle.model.specs.Diagram.{accepts}
 use Rattle.model.specs.Session.{inside}
 use Rattle.model.specs.Verdict.{Item, start, outside}
 use Rattle.model.specs.Judge.{decide, judge}
+use Rattle.model.specs.Laws.Queues.{word-empty}
 use Rattle.model.specs.Laws.Deciding.{decide-passes, decide-fails}
 use Rattle.meaning.specs.Tables.{sessionOf}
 use Rattle.tables.specs.Kinds.{reachedOf}
 use Rattle.tables.specs.Lookup.{rootOf, finalAt, RootAt}
 use Rattle.controls.specs.Controls.{sizesOf, startsOf}
-
--- empty queues have no messages
-word-empty : (ns : List ℕ) → word (map (λ n. []) ns) ≡ []
-word-empty [] = refl
-word-empty (n ∷ ns) = word-empty ns
 
 -- the start is inside if the root of its control state is final
 pub begin-inside : (T : Tables) → inside (sessionOf T) (begin (sessionOf T .model))
