@@ -4,6 +4,7 @@ use native.Mathlib.Nat.{add-sub-cancel-left}
 use Rattle.numbers.specs.Said.{saidField}
 use Rattle.numbers.specs.Laws.Ranges.{below-number, within-number, within-range}
 use Rattle.numbers.specs.Laws.Reader.{two-first-below, two-second-within, two-place}
+use Rattle.tables.specs.Limits.{mostWord}
 use Rattle.reading_model.specs.Transitions.{readAction}
 use borrow.Author.Needs.{needs}
 use Rattle.reading_model.proofs.transitions.read_action.Statement.{statement}
@@ -86,8 +87,8 @@ read-word-requires : tie.Need-read-word-requires
 read-word-requires c κs =
     let two = c .before .before .before .before .before .before .before .before .before .before .before .before .before .two-at .ensures in
     let x = two-first-below two _ (sym (c .before .before .before .before .before .before .before .before .before .before .before .below .ensures) ∙ ap saidField (c .before .before .before .before .before .before .before .before .before .queue .given .1)) in
-    let y = two-second-within two (below-number _ _ _ x) 0 4 (sym (c .before .before .before .before .before .before .before .within .ensures) ∙ ap saidField (c .before .before .before .before .before .length .given .1)) in
-    let h = within-range _ _ 0 4 y in
+    let y = two-second-within two (below-number _ _ _ x) 0 mostWord (sym (c .before .before .before .before .before .before .before .within .ensures) ∙ ap saidField (c .before .before .before .before .before .length .given .1)) in
+    let h = within-range _ _ 0 mostWord y in
     (omega arith, omega arith)
 
 -- src/transitions.rt:82:1
