@@ -7,7 +7,7 @@ use mathlib.Core.List.{List, _++_}
 use lib.ListN.{length, drop}
 use lib.Dec.{leb}
 use Rattle.numbers.specs.Part.{Part, got, refused}
-use Rattle.session.specs.File.{readFile, replyOf}
+use Rattle.session.specs.File.{readFile, readReplyOf}
 use Rattle.tables.specs.declared.tables.Tables.{Tables}
 use Rattle.meaning.specs.Checking.{checkOf}
 use Rattle.diagram.specs.Member.{memberOf}
@@ -34,9 +34,9 @@ spaceAfter (got T next) space = flat T ++ drop tablesLeast space
 spaceAfter (refused k p) space = space
 
 pub record ReadCall (file space₀ reply₀ : List ℕ) (r : ℕ) (space₁ reply₁ : List ℕ) : Type 0 where
-  pub kind : r ≡ kindIf (leb tablesLeast (length space₀) && replyFits reply₀) (toldAnswer (replyOf (readFile file)))
+  pub kind : r ≡ kindIf (leb tablesLeast (length space₀) && replyFits reply₀) (toldAnswer (readReplyOf (readFile file)))
   pub space : space₁ ≡ keepUnless (leb tablesLeast (length space₀) && replyFits reply₀) (spaceAfter (readFile file) space₀) space₀
-  pub reply : reply₁ ≡ keepUnless (leb tablesLeast (length space₀) && replyFits reply₀) (replyAfter (toldAnswer (replyOf (readFile file))) reply₀) reply₀
+  pub reply : reply₁ ≡ keepUnless (leb tablesLeast (length space₀) && replyFits reply₀) (replyAfter (toldAnswer (readReplyOf (readFile file))) reply₀) reply₀
 
 pub record MemberCall (file : List ℕ) (control : ℕ) (contents reply₀ : List ℕ) (r : ℕ) (reply₁ : List ℕ) : Type 0 where
   pub kind : r ≡ kindIf (replyFits reply₀) (toldMember (memberOf file control contents))

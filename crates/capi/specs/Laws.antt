@@ -9,7 +9,7 @@ use borrow.Author.Tests.{le-leb, lt-leb}
 use native.Mathlib.Omega.{arith}
 use Rattle.numbers.specs.Part.{Part, got, refused}
 use Rattle.session.specs.Said.{ReadReply, read, refusal, saidAnswer}
-use Rattle.session.specs.File.{readFile, replyOf, tablesOf, Reads}
+use Rattle.session.specs.File.{readFile, readReplyOf, tablesOf, Reads}
 use Rattle.tables.specs.Valid.{Valid}
 use Rattle.tables.specs.declared.tables.Tables.{Tables}
 use Rattle.session.specs.declared.reading.Reading.{Reading}
@@ -99,12 +99,12 @@ second-none false b e = refl
 
 -- READING
 -- after a refusal the space is as it was
-unread : (y : Part Tables) (space : List ℕ) {k p : ℕ} → refusal k p ≡ replyOf y → space ≡ spaceAfter y space
+unread : (y : Part Tables) (space : List ℕ) {k p : ℕ} → refusal k p ≡ readReplyOf y → space ≡ spaceAfter y space
 unread (got T next) space e = absurd (let z : _≡_ {A = ℕ} 0 1 = cc in omega arith)
 unread (refused k p) space e = refl
 
 -- the tables of a file that is read
-filled : (y : Part Tables) {space space₁ : List ℕ} {z : ℕ} (T : Tables) → Valid T → T ≡ tablesOf y → read ≡ replyOf y
+filled : (y : Part Tables) {space space₁ : List ℕ} {z : ℕ} (T : Tables) → Valid T → T ≡ tablesOf y → read ≡ readReplyOf y
     → tablesLeast ≤ length space → Put space 0 tablesLeast (flat T) space₁ z → space₁ ≡ spaceAfter y space
 filled (refused k p) T v same e h w = absurd (let z : _≡_ {A = ℕ} 0 1 = cc in omega arith)
 filled (got own next) {space} T v same e h w = flat-front T v h w ∙ ap (λ (x : Tables). flat x ++ drop tablesLeast space) same
@@ -116,9 +116,9 @@ module _ (file space reply : List ℕ) where
   read-none : room space reply ≡ false → ReadCall file space reply NO-ROOM space reply
   read-none e =
       record {
-        kind = kind-none (room space reply) (toldAnswer (replyOf (readFile file))) e;
+        kind = kind-none (room space reply) (toldAnswer (readReplyOf (readFile file))) e;
         space = kept (room space reply) space (spaceAfter (readFile file) space) e;
-        reply = kept (room space reply) reply (replyAfter (toldAnswer (replyOf (readFile file))) reply) e;
+        reply = kept (room space reply) reply (replyAfter (toldAnswer (readReplyOf (readFile file))) reply) e;
       }
 
   pub read-short : length space < tablesLeast → ReadCall file space reply NO-ROOM space reply

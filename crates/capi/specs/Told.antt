@@ -58,7 +58,7 @@ abbrev pub toldAnswer : Session.ReadReply → Told
 toldAnswer Session.read = toldOf READ 0 0 0
 toldAnswer (Session.refusal k p) = toldRefusal k p
 
-abbrev pub toldMember : Member.Reply → Told
+abbrev pub toldMember : Member.MemberReply → Told
 toldMember Member.yes = toldOf YES 0 0 0
 toldMember Member.no = toldOf NO 0 0 0
 toldMember (Member.refusal k p) = toldRefusal k p

@@ -5,7 +5,7 @@ use mathlib.Core.List.{List, [], _∷_}
 use Rattle.numbers.specs.Number.{readNumber, readWithin, readBelow, readTwo}
 use Rattle.reading_model.specs.Machines.{readFactor, readSizes, readStarts, countedMachines, readMachines}
 use Rattle.reading_model.specs.Queues.{readTerm, readCounts, readQueues}
-use Rattle.tables.specs.Queues.{firstOf}
+use Rattle.tables.specs.Queues.{firstMessage}
 use Rattle.reading_model.specs.Transitions.{readMessage, readWord, readAction, readTransition, readRows, readTransitions}
 use Rattle.reading_pool.specs.Pool.{readAscending, readArc, readArcs, readState, readStates, readPool}
 use Rattle.reading_pool.specs.Lowest.{lowest, lowests, arcsOrdered, statesOrdered, queuesOrdered, inQueueOrder}
@@ -43,7 +43,7 @@ unfolding
     memberOf ask judge readFile readModel readSets
     readNumber readWithin readBelow readTwo
     readFactor readSizes readStarts countedMachines readMachines
-    readTerm readCounts readQueues firstOf
+    readTerm readCounts readQueues firstMessage
     readMessage readWord readAction readTransition readRows readTransitions
     readAscending readArc readArcs readState readStates readPool
     lowest lowests arcsOrdered statesOrdered queuesOrdered inQueueOrder

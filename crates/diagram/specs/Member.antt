@@ -12,18 +12,18 @@ use Rattle.model.specs.Session.{Session}
 use Rattle.meaning.specs.Tables.{sessionOf}
 
 -- yes, no, or a refusal: its number in document 01 and its place
-pub data Reply : Type 0 where
-  yes : Reply
-  no : Reply
-  refusal : ℕ → ℕ → Reply
+pub data MemberReply : Type 0 where
+  yes : MemberReply
+  no : MemberReply
+  refusal : ℕ → ℕ → MemberReply
 
-abbrev pub answer : Bool → Reply
+abbrev pub answer : Bool → MemberReply
 answer true = yes
 answer false = no
 
 -- the contents from a place on: the message before them is of this queue, and has led to s. Each message is held to its number and
 -- then to its queue, wherever the diagram stands
-unfoldable pub judge : List ℕ → Pool → ℕ → ℕ → Option ℕ → List ℕ → Reply
+unfoldable pub judge : List ℕ → Pool → ℕ → ℕ → Option ℕ → List ℕ → MemberReply
 judge ns P place queue s [] = answer (isFinal P s)
 judge ns P place queue s (m ∷ u) =
     elim (ltb m (total ns)) [
@@ -35,7 +35,7 @@ judge ns P place queue s (m ∷ u) =
     ]
 
 -- the question put to a session
-unfoldable pub ask : Session → ℕ → List ℕ → Reply
+unfoldable pub ask : Session → ℕ → List ℕ → MemberReply
 ask S c contents =
     elim (ltb c (controls (S .model))) [
       | false ↦ refusal 11 0
@@ -43,5 +43,5 @@ ask S c contents =
     ]
 
 -- and to a file, which is read first
-unfoldable pub memberOf : List ℕ → ℕ → List ℕ → Reply
+unfoldable pub memberOf : List ℕ → ℕ → List ℕ → MemberReply
 memberOf file c contents = elim (readFile file) [ refused k p ↦ refusal k p | got T next ↦ ask (sessionOf T) c contents ]

@@ -1,10 +1,10 @@
 -- What the code's enums say: for each case the number and the values of document 01.
 use Rattle.numbers.specs.Said.{numberOf, placeOf}
-use Rattle.diagram.specs.Member.{Reply, yes, no, refusal}
+use Rattle.diagram.specs.Member.{MemberReply, yes, no, refusal}
 use Rattle.diagram.specs.declared.reply.Member.{Member}
 use Rattle.diagram.specs.declared.reply.Member.the-variants.{Yes, No, Unread, NoControl, NoMessage, EarlierQueue}
 
-abbrev pub saidMember : Member → Reply
+abbrev pub saidMember : Member → MemberReply
 saidMember Yes = yes
 saidMember No = no
 saidMember (Unread why) = refusal (numberOf why) (placeOf why)

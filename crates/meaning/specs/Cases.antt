@@ -13,7 +13,7 @@ use Rattle.numbers.specs.Part.{Part, got, refused}
 use Rattle.numbers.specs.Number.{readNumber, readWithin, readBelow, readTwo}
 use Rattle.reading_model.specs.Machines.{readFactor, readSizes, readStarts, countedMachines, readMachines}
 use Rattle.reading_model.specs.Queues.{readTerm, readCounts, readQueues}
-use Rattle.tables.specs.Queues.{firstOf}
+use Rattle.tables.specs.Queues.{firstMessage}
 use Rattle.reading_model.specs.Transitions.{readMessage, readWord, readAction, readTransition, readRows, readTransitions}
 use Rattle.reading_pool.specs.Pool.{readAscending, readArc, readArcs, readState, readStates, readPool}
 use Rattle.reading_pool.specs.Lowest.{lowest, lowests, arcsOrdered, statesOrdered, queuesOrdered, inQueueOrder}
@@ -204,7 +204,7 @@ unfolding
     replyOf readFile readModel readSets
     readNumber readWithin readBelow readTwo
     readFactor readSizes readStarts countedMachines readMachines
-    readTerm readCounts readQueues firstOf
+    readTerm readCounts readQueues firstMessage
     readMessage readWord readAction readTransition readRows readTransitions
     readAscending readArc readArcs readState readStates readPool
     lowest lowests arcsOrdered statesOrdered queuesOrdered inQueueOrder

@@ -55,9 +55,9 @@ abbrev pub poolOf : Declared.Pool → Pool
 poolOf P = record { states = P .count; final = λ s. finalAt (P .finals) (some s); arc = arcOf (P .arcs) }
 
 -- so many bad entries from number b on
-abbrev pub entriesFrom : List ℕ → ℕ → ℕ → List (ℕ × ℕ)
-entriesFrom rows zero b = []
-entriesFrom rows (suc left) b = (getD rows (b * 2) 0, getD rows (b * 2 + 1) 0) ∷ entriesFrom rows left (suc b)
+abbrev pub badFrom : List ℕ → ℕ → ℕ → List (ℕ × ℕ)
+badFrom rows zero b = []
+badFrom rows (suc left) b = (getD rows (b * 2) 0, getD rows (b * 2 + 1) 0) ∷ badFrom rows left (suc b)
 
 -- THE SESSION of a file that was read
 abbrev pub sessionOf : Tables → Session
@@ -66,5 +66,5 @@ sessionOf T =
       model = modelOf (T .machines) (T .queues) (T .transitions);
       pool = poolOf (T .pool);
       root = rootOf (T .map .roots);
-      bad = entriesFrom (T .bad .rows) (T .bad .count) 0;
+      bad = badFrom (T .bad .rows) (T .bad .count) 0;
     }

@@ -4,6 +4,7 @@ pub mod Lists
 pub mod Ranges
 pub mod Rounds
 pub mod Written
+pub mod Asks
 pub mod Places
 pub mod Put
 pub mod Reader

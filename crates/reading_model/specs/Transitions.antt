@@ -7,7 +7,7 @@ use lib.Dec.{ltb, leb, eqb}
 use Rattle.tables.specs.Limits.{mostTransitions, mostWord}
 use Rattle.numbers.specs.Part.{Part, got, provided, andThen}
 use Rattle.numbers.specs.Number.{readWithin, readBelow, readTwo}
-use Rattle.tables.specs.Queues.{firstOf}
+use Rattle.tables.specs.Queues.{firstMessage}
 use Rattle.tables.specs.declared.tables.Machines.{Machines}
 use Rattle.tables.specs.declared.tables.Queues.{Queues}
 use Rattle.tables.specs.declared.tables.Transitions.{Transitions}
@@ -29,7 +29,7 @@ unfoldable pub readAction : List ℕ → ℕ → Queues → ℕ → List ℕ →
 readAction s at q row rows =
     andThen (readBelow s at (q .count)) (λ queue p₁.
     andThen (readWithin s p₁ 0 mostWord) (λ len p₂.
-    readWord s p₂ (q .sum) (firstOf (q .messages) queue) (firstOf (q .messages) (suc queue)) len (wordEntry row)
+    readWord s p₂ (q .sum) (firstMessage (q .messages) queue) (firstMessage (q .messages) (suc queue)) len (wordEntry row)
     (set (set rows (queueEntry row) queue) (lengthEntry row) len)))
 
 -- one transition, into the row that begins at entry row: machine, from and to, kind; kind 0, local, has nothing more

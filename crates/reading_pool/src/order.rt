@@ -11,7 +11,7 @@ use tables::tables::Queues;
 ghost use mathlib.Core.Path.{_≡_};
 ghost use Prim.Native.Nat.{_-_, _≤_};
 ghost use Rattle.tables.specs.Limits.{mostPool, mostQueues, mostMessages};
-ghost use Rattle.tables.specs.Queues.{firstOf};
+ghost use Rattle.tables.specs.Queues.{firstMessage};
 ghost use Rattle.reading_pool.specs.Lowest.{lowest, lowests, arcsOrdered, statesOrdered, queuesOrdered, inQueueOrder};
 
 // The lowest message that a state has an arc for, or the sum.
@@ -82,7 +82,7 @@ fn queues_ordered(
     count: u8,
 ) -> bool
     requires { ⌜ count ≤ mostQueues ⌝ }
-    requires { ⌜ firstOf counts count ≤ mostMessages ⌝ }
+    requires { ⌜ firstMessage counts count ≤ mostMessages ⌝ }
     ensures { λ r. ⌜ r ≡ queuesOrdered (now (arcs .entry)) (now (lows .entry)) n counts count 0 0 ⌝ }
 {
     let mut first: u8 = 0;
@@ -102,7 +102,7 @@ fn queues_ordered(
 pub fn in_queue_order(q: Queues, pool: Pool) -> bool
     requires { ⌜ pool .count ≤ mostPool ⌝ }
     requires { ⌜ q .count ≤ mostQueues ⌝ }
-    requires { ⌜ firstOf (q .messages) (q .count) ≤ mostMessages ⌝ }
+    requires { ⌜ firstMessage (q .messages) (q .count) ≤ mostMessages ⌝ }
     ensures { λ r. ⌜ r ≡ inQueueOrder q pool ⌝ }
 {
     let arcs = pool.arcs;

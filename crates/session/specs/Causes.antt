@@ -11,7 +11,7 @@ use Rattle.numbers.specs.Part.{got}
 use Rattle.numbers.specs.Number.{readNumber, readWithin, readBelow, readTwo}
 use Rattle.reading_model.specs.Machines.{readSizes, readStarts, readMachines}
 use Rattle.reading_model.specs.Queues.{readCounts, readQueues}
-use Rattle.tables.specs.Queues.{firstOf, OfQueue}
+use Rattle.tables.specs.Queues.{firstMessage, OfQueue}
 use Rattle.reading_model.specs.Transitions.{readWord, readRows}
 use Rattle.reading_model.specs.Model.{readModel}
 use Rattle.tables.specs.Pool.{poolArcs}
@@ -226,7 +226,7 @@ module _ (s : List ℕ) where
     -- the table that the messages are put into is of no account here
     to-word : {q : Queues} {i p₁ len p₂ j p : ℕ} {rows′ : List ℕ} (e : ℕ) (rows : List ℕ) → ToWord q i p₁
         → readWithin s p₁ 0 mostWord ≡ got len p₂ → j < len
-        → readWord s p₂ (q .sum) (firstOf (q .messages) i) (firstOf (q .messages) (suc i)) j e rows ≡ got rows′ p
+        → readWord s p₂ (q .sum) (firstMessage (q .messages) i) (firstMessage (q .messages) (suc i)) j e rows ≡ got rows′ p
         → Comes (wordMessage q i) p
     to-pool-count : {M : ModelTables} {p : ℕ} → readModel s 0 ≡ got M p → Comes poolCount p
     to-final : {sum n i p : ℕ} → ToState sum n i p → Comes final p

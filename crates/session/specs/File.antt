@@ -60,9 +60,9 @@ empty =
       bad = record { count = 0; rows = replicate (mostBad * 2) 0 };
     }
 
-abbrev pub replyOf : Part Tables → ReadReply
-replyOf (got T next) = read
-replyOf (refused k p) = refusal k p
+abbrev pub readReplyOf : Part Tables → ReadReply
+readReplyOf (got T next) = read
+readReplyOf (refused k p) = refusal k p
 
 -- the tables handed back: all entries 0 after a refusal
 abbrev pub tablesOf : Part Tables → Tables
@@ -71,5 +71,5 @@ tablesOf (refused k p) = empty
 
 -- WHAT READING PROMISES of part x of a file: the reply and the whole tables
 pub record Reads (x : Part Tables) (r : Reading) : Type 0 where
-  pub reply : saidAnswer (r .answer) ≡ replyOf x
+  pub reply : saidAnswer (r .answer) ≡ readReplyOf x
   pub tables : r .tables ≡ tablesOf x

@@ -6,7 +6,7 @@ use mathlib.Core.List.{List}
 use lib.ListN.{length, getD}
 use Rattle.tables.specs.Limits.{mostMachines, mostStates, mostControls, mostQueues, mostMessages, mostTransitions, mostWord, mostPool, mostBad}
 use Rattle.tables.specs.Rows.{rowLength, rowsLength, wordEntry, machineAt, fromAt, toAt, kindAt, queueAt, lengthAt}
-use Rattle.tables.specs.Queues.{firstOf, OfQueue}
+use Rattle.tables.specs.Queues.{firstMessage, OfQueue}
 use Rattle.tables.specs.Pool.{poolArcs}
 use Rattle.tables.specs.Order.{QueueOrdered}
 use Rattle.tables.specs.declared.tables.Machines.{Machines}
@@ -43,7 +43,7 @@ pub record QueuesValid (q : Queues) : Type 0 where
   pub long : length (q .messages) ≡ mostQueues
   pub messages : (i : ℕ) → i < q .count → (1 ≤ getD (q .messages) i 0) × (getD (q .messages) i 0 ≤ mostMessages)
   pub rest : (i : ℕ) → q .count ≤ i → getD (q .messages) i 0 ≡ 0
-  pub sum : q .sum ≡ firstOf (q .messages) (q .count)
+  pub sum : q .sum ≡ firstMessage (q .messages) (q .count)
   pub sumLeast : 1 ≤ q .sum
   pub sumMost : q .sum ≤ mostMessages
 

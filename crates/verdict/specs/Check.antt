@@ -3,7 +3,7 @@ use Prim.Native.Nat.{ℕ, _≤_}
 use mathlib.Core.Path.{_≡_}
 use mathlib.Core.List.{List}
 use lib.ListN.{length, take, replicate}
-use Rattle.walk.specs.Pairs.{mostPairs}
+use Rattle.walk.specs.Pairs.{mostCodes}
 use Rattle.numbers.specs.Said.{numberOf, placeOf}
 use Rattle.tables.specs.declared.tables.Tables.{Tables}
 use Rattle.model.specs.Verdict.{closed, outside, leaves, bad}
@@ -47,7 +47,7 @@ concluded (Progress.Meets number shown) = Bad number shown
 
 -- memory enough is lent, and the scratch tables are 0
 pub record Room (n : ℕ) (seen queue contents : List ℕ) : Type 0 where
-  pub front : n ≡ mostPairs
+  pub front : n ≡ mostCodes
   pub seenLong : n ≤ length seen
   pub queueLong : n ≤ length queue
   pub contentsLong : contentsLeast ≤ length contents

@@ -5,14 +5,14 @@ use mathlib.Core.List.{List}
 use lib.ListN.{length, getD, take, drop}
 use Rattle.model.specs.Judge as Model
 use Rattle.model.specs.Laws.Items.{IsItem}
-use Rattle.meaning.specs.Tables.{sessionOf, transitionAt, transitionsFrom, entriesFrom}
+use Rattle.meaning.specs.Tables.{sessionOf, transitionAt, transitionsFrom, badFrom}
 use Rattle.tables.specs.Limits.{mostTransitions, mostBad}
 use Rattle.tables.specs.Valid.{Valid}
 use Rattle.tables.specs.declared.tables.Machines.{Machines}
 use Rattle.tables.specs.declared.tables.Queues.{Queues}
 use Rattle.tables.specs.declared.tables.Tables.{Tables}
 use Rattle.model.specs.Verdict.{step, entry, Reply, closed, leaves, bad}
-use Rattle.walk.specs.Pairs.{mostPairs}
+use Rattle.walk.specs.Pairs.{mostCodes}
 use Rattle.walk.specs.Marks.{Blank}
 use Rattle.walk.specs.Judged.{saidJudged, shownBy}
 use Rattle.walk.specs.declared.judge.Judged.{Judged}
@@ -23,7 +23,7 @@ use Rattle.tables.specs.Rows.{rowLength}
 
 -- the most pairs of the steps of one control state
 abbrev pub mostAtControl : ℕ
-mostAtControl = mostTransitions * mostPairs
+mostAtControl = mostTransitions * mostCodes
 
 -- more pairs than any session has (document 01: at most 1,066,385,472), so that every sum on the way stays within a machine number
 abbrev pub amplePairs : ℕ
@@ -41,14 +41,14 @@ pub record Kept (n : ℕ) (contents₀ contents₁ : List ℕ) : Type 0 where
 
 -- scratch tables as a walk wants them and leaves them
 pub record Scratch (seen queue : List ℕ) : Type 0 where
-  pub seenLong : length seen ≡ mostPairs
-  pub queueLong : length queue ≡ mostPairs
+  pub seenLong : length seen ≡ mostCodes
+  pub queueLong : length queue ≡ mostCodes
   pub blank : Blank seen queue
 
 -- ONE ITEM: the judgement for all tables with what was lent of them, the buffer and the scratch tables
 pub record Judging (P : Tables → Type 0) (o : Tables → Model.Judged) (contents₀ : List ℕ) (r : Judged) (contents₁ seen₁ queue₁ : List ℕ) : Type 0 where
   pub is : (T : Tables) → P T → saidJudged r contents₁ ≡ o T
-  pub few : pairsOf r ≤ mostPairs
+  pub few : pairsOf r ≤ mostCodes
   pub kept : Kept (shownBy r) contents₀ contents₁
   pub scratch : Scratch seen₁ queue₁
 
@@ -95,7 +95,7 @@ pub record EntryParts (T : Tables) (q : Queues) (rows arcs finals roots : List �
 
 -- the bad entries of the tables
 abbrev pub AllBad : List ℕ → ℕ → Tables → Type 0
-AllBad entries count T = sessionOf T .bad ≡ entriesFrom entries count 0
+AllBad entries count T = sessionOf T .bad ≡ badFrom entries count 0
 
 -- bad entry b, and all transitions of the tables
 abbrev pub entryAt : List ℕ → ℕ → ℕ × ℕ

@@ -12,7 +12,7 @@ use Rattle.model.specs.Judge.{decide}
 use Rattle.model.specs.Searched.{judgeBySearch}
 use Rattle.meaning.specs.Tables.{sessionOf, transitionAt, transitionsFrom}
 use Rattle.meaning.specs.Tables as Tables
-use Rattle.walk.specs.Pairs.{mostPairs}
+use Rattle.walk.specs.Pairs.{mostCodes}
 use Rattle.walk.specs.declared.judge.Judged.{Judged}
 use Rattle.verdict.specs.Judging.{amplePairs, mostAtControl, Judging, Judges, Parts, EntryParts, AllBad, AllIn, AllParts, entryAt}
 use Rattle.verdict.specs.Check.{Concludes}
@@ -57,18 +57,18 @@ AllWhose m D entries count many T =
 -- ONE STEP of control state c, whose row begins here; ONE BAD ENTRY
 abbrev pub StepJudged : Machines → Diagrams → ℕ → ℕ → List ℕ → Judged → Memory → Type 0
 StepJudged m D c row contents r M =
-    Judging (Whose m D 0) (λ T. judgeBySearch (sessionOf T) mostPairs (step c 0 (transitionAt (D .rows) row))) contents r (M .contents)
+    Judging (Whose m D 0) (λ T. judgeBySearch (sessionOf T) mostCodes (step c 0 (transitionAt (D .rows) row))) contents r (M .contents)
     (M .seen) (M .queue)
 
 abbrev pub EntryJudged : Diagrams → ℕ → ℕ → List ℕ → Judged → Memory → Type 0
 EntryJudged D control root contents r M =
     Judging (λ T. EntryParts T (D .queues) (D .rows) (D .arcs) (D .finals) (D .roots))
-    (λ T. judgeBySearch (sessionOf T) mostPairs (entry 0 (control, root))) contents r (M .contents) (M .seen) (M .queue)
+    (λ T. judgeBySearch (sessionOf T) mostCodes (entry 0 (control, root))) contents r (M .contents) (M .seen) (M .queue)
 
 -- TRANSITION i at control state c, an item or none, after items with so many pairs
 abbrev pub TurnJudged : Machines → Diagrams → ℕ → ℕ → ℕ → List ℕ → Progress → Memory → Type 0
 TurnJudged m D c i pairs contents r M =
-    Judges (Whose m D (i + 1)) (pairs + mostPairs)
+    Judges (Whose m D (i + 1)) (pairs + mostCodes)
     (λ T. decide (sessionOf T) (stepsAt (sessionOf T .model) c i (transitionAt (D .rows) (i * rowLength) ∷ [])) pairs) contents r
     (M .contents) (M .seen) (M .queue)
 
@@ -88,19 +88,19 @@ StepsJudged m D count contents r M =
 -- BAD ENTRY b, and ALL BAD ENTRIES, after items with so many pairs
 abbrev pub OneJudged : Diagrams → List ℕ → ℕ → ℕ → ℕ → List ℕ → Progress → Memory → Type 0
 OneJudged D entries count b pairs contents r M =
-    Judges (EntriesWhose D entries count) (pairs + mostPairs) (λ T. decide (sessionOf T) (entry b (entryAt entries b) ∷ []) pairs) contents
+    Judges (EntriesWhose D entries count) (pairs + mostCodes) (λ T. decide (sessionOf T) (entry b (entryAt entries b) ∷ []) pairs) contents
     r (M .contents) (M .seen) (M .queue)
 
 abbrev pub EntriesJudged : Diagrams → List ℕ → ℕ → ℕ → List ℕ → Progress → Memory → Type 0
 EntriesJudged D entries count pairs contents r M =
-    Judges (EntriesWhose D entries count) amplePairs (λ T. decide (sessionOf T) (entriesFrom 0 (Tables.entriesFrom entries count 0)) pairs)
+    Judges (EntriesWhose D entries count) amplePairs (λ T. decide (sessionOf T) (entriesFrom 0 (Tables.badFrom entries count 0)) pairs)
     contents r (M .contents) (M .seen) (M .queue)
 
 -- ALL ITEMS after the start, and the verdict on them
 abbrev pub ItemsJudged : Machines → Diagrams → List ℕ → ℕ → ℕ → List ℕ → Progress → Memory → Type 0
 ItemsJudged m D entries count many contents r M =
     Judges (AllWhose m D entries count many) amplePairs
-    (λ T. decide (sessionOf T) (stepsFrom (sessionOf T .model) 0 (m .product) ++ entriesFrom 0 (Tables.entriesFrom entries many 0)) 0)
+    (λ T. decide (sessionOf T) (stepsFrom (sessionOf T .model) 0 (m .product) ++ entriesFrom 0 (Tables.badFrom entries many 0)) 0)
     contents r (M .contents) (M .seen) (M .queue)
 
 abbrev pub VerdictFound : Machines → Diagrams → List ℕ → ℕ → ℕ → Memory → Verdict → Memory → Type 0

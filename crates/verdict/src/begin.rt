@@ -11,7 +11,7 @@ ghost use Rattle.verdict.specs.Begin.{RootsIn};
 ghost use Rattle.tables.specs.Valid.{MachinesValid};
 
 // Whether empty queues are in the set of the control state that the machines start in.
-pub fn begins_inside(m: Machines, roots: &[u8], finals: &[u8]) -> bool
+pub(crate) fn begins_inside(m: Machines, roots: &[u8], finals: &[u8]) -> bool
     requires { ⌜ MachinesValid m ⌝ }
     requires { ⌜ RootsIn (now roots) (now finals) ⌝ }
     ensures { λ r. ⌜ r ≡ finalAt (now (finals .entry)) (rootOf (now (roots .entry)) (number (sizesOf m) (startsOf m))) ⌝ }

@@ -56,7 +56,7 @@ fn judge_one(
     }
 }
 
-pub fn judge_entries(
+pub(crate) fn judge_entries(
     q: Queues,
     rows: &[u8],
     arcs: &[u8],

@@ -21,7 +21,7 @@ ghost use Rattle.meaning.specs.Checking.{contentsLeast};
 ghost use Rattle.verdict.specs.Promises.{diagrams, memory, EntryJudged, StepJudged};
 
 // The step of a transition from a control state.
-pub fn judge_step(
+pub(crate) fn judge_step(
     m: Machines,
     q: Queues,
     rows: &[u8],
@@ -63,7 +63,7 @@ pub fn judge_step(
 }
 
 // A bad entry: contents of its control state that lead from its root to a final state.
-pub fn judge_entry(
+pub(crate) fn judge_entry(
     q: Queues,
     rows: &[u8],
     arcs: &[u8],

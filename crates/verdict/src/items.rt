@@ -10,7 +10,7 @@ ghost use Rattle.verdict.specs.Judging.{Scratch, AllAsked};
 ghost use Rattle.meaning.specs.Checking.{contentsLeast};
 ghost use Rattle.verdict.specs.Promises.{diagrams, memory, ItemsJudged};
 
-pub fn judge_items(
+pub(crate) fn judge_items(
     m: Machines,
     q: Queues,
     rows: &[u8],

@@ -22,7 +22,7 @@ pub struct Cut {
 }
 
 // The action of the transition whose row begins here.
-pub fn cut_of(q: Queues, rows: &[u8], row: usize) -> Cut
+pub(crate) fn cut_of(q: Queues, rows: &[u8], row: usize) -> Cut
     requires { ⌜ QueuesValid q ⌝ }
     requires { ⌜ row + rowLength ≤ length (now rows) ⌝ }
     requires { ⌜ queueAt (now rows) row < q .count ⌝ }

@@ -105,7 +105,7 @@ fn judge_control(
 }
 
 // The steps of all control states.
-pub fn judge_steps(
+pub(crate) fn judge_steps(
     m: Machines,
     q: Queues,
     rows: &[u8],

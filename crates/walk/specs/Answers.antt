@@ -14,9 +14,9 @@ tailOf (Found k tail) = tail
 tailOf (Finished tail) = tail
 
 -- the answer over the tables that the search left
-abbrev pub said : Outcome → List ℕ → List ℕ → Search.Outcome Pair
-said (Found k tail) seen queue = Search.found k (view seen queue tail)
-said (Finished tail) seen queue = Search.finished (view seen queue tail)
+abbrev pub saidOutcome : Outcome → List ℕ → List ℕ → Search.Outcome Pair
+saidOutcome (Found k tail) seen queue = Search.found k (view seen queue tail)
+saidOutcome (Finished tail) seen queue = Search.finished (view seen queue tail)
 
 -- a failing pair was found
 abbrev pub Within : Outcome → Type 0
@@ -25,6 +25,6 @@ Within (Finished tail) = Unit {0}
 
 -- the answer is that of the definition, and the tables show the list that it speaks of
 pub record Answered (seen queue : List ℕ) (r : Outcome) (o : Search.Outcome Pair) : Type 0 where
-  pub is : said r seen queue ≡ o
+  pub is : saidOutcome r seen queue ≡ o
   pub tables : Tables seen queue (tailOf r)
   pub within : Within r

@@ -52,7 +52,7 @@ shownBy (Passes n) = 0
 shownBy (Fails n) = n
 
 -- THE ANSWER is the definition's, the tables are all 0 again, and the contents shown fill the front of the buffer
-pub record Judges (arcs finals rows : List ℕ) (w : Walk) (root : Pair) (contents seen′ queue′ contents′ : List ℕ) (r : Judged) : Type 0 where
+pub record WalkJudged (arcs finals rows : List ℕ) (w : Walk) (root : Pair) (contents seen′ queue′ contents′ : List ℕ) (r : Judged) : Type 0 where
   pub reply : saidJudged r contents′ ≡ judgedOver arcs finals rows w root
   pub blank : Blank seen′ queue′
   pub number : shownBy r ≡ length (shownOf (judgedOver arcs finals rows w root))

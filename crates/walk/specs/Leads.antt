@@ -5,14 +5,14 @@ use Prim.Native.Nat.{_<_}
 use Rattle.model.specs.Verdict.{Pair}
 use Rattle.walk.specs.declared.moves.Next.{Next}
 use Rattle.walk.specs.declared.moves.Next.the-variants as Answer
-use Rattle.walk.specs.Pairs.{mostPairs, decode}
+use Rattle.walk.specs.Pairs.{mostCodes, decode}
 
 abbrev pub saidNext : Next → Option Pair
 saidNext (Answer.Pair c) = some (decode c)
 saidNext Answer.Nowhere = none
 
 abbrev pub Small : Next → Type 0
-Small (Answer.Pair c) = c < mostPairs
+Small (Answer.Pair c) = c < mostCodes
 Small Answer.Nowhere = Unit {0}
 
 pub record LeadsTo (r : Next) (o : Option Pair) : Type 0 where

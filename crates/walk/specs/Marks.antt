@@ -10,7 +10,7 @@ use lib.ListN.{length, getD, take, replicate}
 use Rattle.explore.specs.Search.{Found, push, sweep}
 use Rattle.model.specs.Verdict.{Pair}
 use Rattle.model.specs.Judge.{same}
-use Rattle.walk.specs.Pairs.{mostPairs, decode}
+use Rattle.walk.specs.Pairs.{mostCodes, decode}
 
 -- the pair of a number, with its parent's place
 abbrev pub foundAt : List ℕ → ℕ → Found Pair
@@ -30,12 +30,12 @@ count [] = 0
 count (x ∷ l) = elim (eqb x 0) [ true ↦ count l | false ↦ suc (count l) ]
 
 pub record Tables (seen queue : List ℕ) (tail : ℕ) : Type 0 where
-  pub seenLong : length seen ≡ mostPairs
-  pub queueLong : length queue ≡ mostPairs
+  pub seenLong : length seen ≡ mostCodes
+  pub queueLong : length queue ≡ mostCodes
   -- each mark has its place in the queue, so there is room as long as an entry of seen is 0
   pub counted : tail ≡ count seen
   pub known : (c : ℕ) → mem c (take tail queue) ≡ not (eqb (getD seen c 0) 0)
-  pub codes : (k : ℕ) → getD queue k 0 < mostPairs
+  pub codes : (k : ℕ) → getD queue k 0 < mostCodes
   pub rest : (k : ℕ) → tail ≤ k → getD queue k 0 ≡ 0
   -- parents stand earlier
   pub earlier : (k : ℕ) → 0 < k → k < tail → getD seen (getD queue k 0) 0 ≤ k

@@ -19,7 +19,7 @@ use Rattle.model.specs.Judge.{same, pair}
 use Rattle.walk.specs.declared.pairs.Walk.{Walk}
 use Rattle.walk.specs.declared.pairs.Node.{Node}
 use Rattle.tables.specs.Kinds.{reachedOf}
-use Rattle.walk.specs.Pairs.{mostPairs, afterSide, sideOf}
+use Rattle.walk.specs.Pairs.{mostCodes, afterSide, sideOf}
 
 -- the states and arcs alone; which are final is asked when a pair is judged
 abbrev pub poolOver : List ℕ → Pool
@@ -72,7 +72,7 @@ wrongOver finals entry (after s t) =
 -- THE SEARCH that the code makes; there are no more pairs than numbers, so the fuel is enough
 abbrev pub searchOver : List ℕ → List ℕ → List ℕ → Walk → Pair → Outcome Pair
 searchOver arcs finals rows w root =
-    searchFrom (suc (w .sum)) (goOver arcs rows w) same (wrongOver finals (w .entry)) root mostPairs
+    searchFrom (suc (w .sum)) (goOver arcs rows w) same (wrongOver finals (w .entry)) root mostCodes
 
 -- a session of these arcs, final states and messages
 pub record Over (arcs finals : List ℕ) (sum : ℕ) (S : Session) : Type 0 where
@@ -95,7 +95,7 @@ pub record Lent (arcs rows : List ℕ) (w : Walk) : Type 0 where
 
 -- WHAT THE PARTS OF THE CODE SAY
 -- the number r stands for where t leads by a message, and by so many messages of a word
-pub record Reads (arcs : List ℕ) (t m r : ℕ) : Type 0 where
+pub record MessageRead (arcs : List ℕ) (t m r : ℕ) : Type 0 where
   pub is : reachedOf r ≡ along (poolOver arcs) (reachedOf t) m
   pub most : r ≤ mostPool
 

@@ -1,4 +1,4 @@
--- The pairs of a walk as numbers: the side's first, then source · stride + target. All numbers below mostPairs are of pairs: 32,512.
+-- The pairs of a walk as numbers: the side's first, then source · stride + target. All numbers below mostCodes are of pairs: 32,512.
 use mathlib.Core.Path.{_≡_}
 use mathlib.Core.Logic.{_⊎_}
 use mathlib.Core.Bool.{true, false}
@@ -21,8 +21,8 @@ stride = mostPool + 1
 abbrev pub afterSide : ℕ
 afterSide = mostPool * stride
 
-abbrev pub mostPairs : ℕ
-mostPairs = 2 * afterSide
+abbrev pub mostCodes : ℕ
+mostCodes = 2 * afterSide
 
 abbrev pub sideOf : ℕ → ℕ → Option ℕ → Pair
 sideOf zero s t = before s t
@@ -54,7 +54,7 @@ pub record NodeFits (x : Node) : Type 0 where
 
 -- what stands for a node
 pub record Coded (x : Node) (c : ℕ) : Type 0 where
-  pub small : c < mostPairs
+  pub small : c < mostCodes
   pub is : decode c ≡ pairOf x
 
 pub record NodeOf (c : ℕ) (x : Node) : Type 0 where

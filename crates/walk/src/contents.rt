@@ -80,7 +80,7 @@ fn turn(contents: &mut [u8], n: usize)
 }
 
 // The contents of the pair at place k of the queue fill the front of the buffer. Returns their number.
-pub fn show(
+pub(crate) fn show(
     arcs: &[u8],
     rows: &[u8],
     w: Walk,

@@ -13,7 +13,7 @@ ghost use Rattle.tables.specs.Limits.{mostMessages};
 ghost use Rattle.tables.specs.Lookup.{ArcsSmall};
 ghost use Rattle.explore.specs.Search.{leadsTo, lowestFrom};
 ghost use Rattle.model.specs.Judge.{same};
-ghost use Rattle.walk.specs.Pairs.{mostPairs, pairOf, decode, NodeFits};
+ghost use Rattle.walk.specs.Pairs.{mostCodes, pairOf, decode, NodeFits};
 ghost use Rattle.walk.specs.Over.{readFrom, Lent};
 ghost use Rattle.walk.specs.Leads.{saidNext};
 ghost use Rattle.walk.specs.Shown.{letterOver, Placed, EdgeOf};
@@ -54,7 +54,7 @@ fn message_to(arcs: &[u8], entry: bool, x: Node, first: u8, end: u8, code: usize
 // The lowest letter that leads from one pair to the other, or one past them all. Only those of the pair's side are tried.
 fn letter_of(arcs: &[u8], rows: &[u8], w: Walk, from: usize, code: usize) -> u8
     requires { ⌜ Lent (now arcs) (now rows) w ⌝ }
-    requires { ⌜ from < mostPairs ⌝ }
+    requires { ⌜ from < mostCodes ⌝ }
     ensures { λ r. ⌜ r ≡ letterOver (now (arcs .entry)) (now (rows .entry)) w from code ⌝ }
 {
     let x = node_of(from);
@@ -76,7 +76,14 @@ fn letter_of(arcs: &[u8], rows: &[u8], w: Walk, from: usize, code: usize) -> u8
 }
 
 // The edge that a pair was found along; the first pair has none.
-pub fn edge_to(arcs: &[u8], rows: &[u8], w: Walk, seen: &[u16], queue: &[u16], k: usize) -> Edge
+pub(crate) fn edge_to(
+    arcs: &[u8],
+    rows: &[u8],
+    w: Walk,
+    seen: &[u16],
+    queue: &[u16],
+    k: usize,
+) -> Edge
     requires { ⌜ Lent (now arcs) (now rows) w ⌝ }
     requires { ⌜ Placed (now seen) (now queue) k ⌝ }
     requires { ⌜ 0 < k ⌝ }

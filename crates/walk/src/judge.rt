@@ -9,10 +9,10 @@ ghost use mathlib.Core.Path.{_≡_};
 ghost use Prim.Native.Nat.{_≤_};
 ghost use lib.ListN.{length};
 ghost use Rattle.tables.specs.Limits.{mostPool};
-ghost use Rattle.walk.specs.Pairs.{mostPairs, pairOf, NodeFits};
+ghost use Rattle.walk.specs.Pairs.{mostCodes, pairOf, NodeFits};
 ghost use Rattle.walk.specs.Marks.{Blank};
 ghost use Rattle.walk.specs.Over.{Lent};
-ghost use Rattle.walk.specs.Judged.{ShownFits, Judges, Counts};
+ghost use Rattle.walk.specs.Judged.{ShownFits, WalkJudged, Counts};
 ghost use Rattle.meaning.specs.Checking.{contentsLeast};
 
 // No pair fails, and so many there are; or so many messages are shown.
@@ -35,11 +35,11 @@ pub fn judge(
     requires { ⌜ length (now finals) ≡ mostPool ⌝ }
     requires { ⌜ NodeFits root ⌝ }
     requires { ⌜ Blank (now seen) (now queue) ⌝ }
-    requires { ⌜ length (now seen) ≡ mostPairs ⌝ }
-    requires { ⌜ length (now queue) ≡ mostPairs ⌝ }
+    requires { ⌜ length (now seen) ≡ mostCodes ⌝ }
+    requires { ⌜ length (now queue) ≡ mostCodes ⌝ }
     requires { ⌜ ShownFits (now arcs) (now finals) (now rows) w (pairOf root) ⌝ }
     requires { ⌜ contentsLeast ≤ length (now contents) ⌝ }
-    ensures { λ r. ⌜ Judges (now (arcs .entry)) (now (finals .entry)) (now (rows .entry)) w (pairOf root) (now (contents .entry)) (now (seen .exit)) (now (queue .exit)) (now (contents .exit)) r ⌝ }
+    ensures { λ r. ⌜ WalkJudged (now (arcs .entry)) (now (finals .entry)) (now (rows .entry)) w (pairOf root) (now (contents .entry)) (now (seen .exit)) (now (queue .exit)) (now (contents .exit)) r ⌝ }
     ensures counts { λ r. ⌜ Counts (now (arcs .entry)) (now (finals .entry)) (now (rows .entry)) w (pairOf root) r ⌝ }
 {
     match search(arcs, finals, rows, w, root, seen, queue) {

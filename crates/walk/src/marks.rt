@@ -3,20 +3,26 @@ ghost use mathlib.Core.Path.{_≡_};
 ghost use mathlib.Core.Option.{some};
 ghost use Prim.Native.Nat.{_-_, _≤_, _<_};
 ghost use lib.ListN.{length};
-ghost use Rattle.walk.specs.Pairs.{mostPairs, decode};
+ghost use Rattle.walk.specs.Pairs.{mostCodes, decode};
 ghost use Rattle.walk.specs.Marks.{Tables, Pushed, Zeros, ZerosFrom, Blank};
 
-pub fn wide(x: u16) -> usize
+pub(crate) fn wide(x: u16) -> usize
     ensures { λ r. ⌜ r ≡ x ⌝ }
 {
     x as usize
 }
 
 // A pair found from the place from goes to the queue's end, unless it was found before. Returns how many are found now.
-pub fn mark(seen: &mut [u16], queue: &mut [u16], tail: usize, from: usize, code: usize) -> usize
+pub(crate) fn mark(
+    seen: &mut [u16],
+    queue: &mut [u16],
+    tail: usize,
+    from: usize,
+    code: usize,
+) -> usize
     requires { ⌜ Tables (now seen) (now queue) tail ⌝ }
     requires { ⌜ from ≤ tail - 1 ⌝ }
-    requires { ⌜ code < mostPairs ⌝ }
+    requires { ⌜ code < mostCodes ⌝ }
     ensures { λ r. ⌜ Pushed (now (seen .entry)) (now (queue .entry)) tail from (some (decode code)) (now (seen .exit)) (now (queue .exit)) r ⌝ }
 {
     if seen[code] != 0 {
@@ -55,7 +61,7 @@ fn empty(queue: &mut [u16], tail: usize)
 
 // Only what was marked is visited, so clearing costs no more than the walk did. Each table has a loop of its own: one for both is
 // slower.
-pub fn clear(seen: &mut [u16], queue: &mut [u16], tail: usize)
+pub(crate) fn clear(seen: &mut [u16], queue: &mut [u16], tail: usize)
     requires { ⌜ Tables (now seen) (now queue) tail ⌝ }
     ensures { λ r. ⌜ Blank (now (seen .exit)) (now (queue .exit)) ⌝ }
 {

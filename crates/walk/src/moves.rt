@@ -35,7 +35,7 @@ fn message_at(rows: &[u8], i: usize) -> Message
 }
 
 // Where so many messages more lead, those of the word at this entry of the table of transitions.
-pub fn follow(arcs: &[u8], rows: &[u8], at: usize, n: usize, from: Reached) -> Reached
+pub(crate) fn follow(arcs: &[u8], rows: &[u8], at: usize, n: usize, from: Reached) -> Reached
     requires { ⌜ ArcsSmall (now arcs) ⌝ }
     requires { ⌜ WordWithin (now rows) at n ⌝ }
     requires { ⌜ from .0 ≤ mostPool ⌝ }
@@ -67,7 +67,7 @@ fn pair_to(entry: bool, y: Node) -> Next
 }
 
 // Both places read a message. The pair is dropped where the source has nowhere to go.
-pub fn read(arcs: &[u8], entry: bool, x: Node, m: Message) -> Next
+pub(crate) fn read(arcs: &[u8], entry: bool, x: Node, m: Message) -> Next
     requires { ⌜ ArcsSmall (now arcs) ⌝ }
     requires { ⌜ NodeFits x ⌝ }
     requires { ⌜ m .0 < mostMessages ⌝ }
@@ -86,7 +86,7 @@ pub fn read(arcs: &[u8], entry: bool, x: Node, m: Message) -> Next
 }
 
 // The step: the source reads what is taken out, the target what is put in.
-pub fn step(arcs: &[u8], rows: &[u8], w: Walk, x: Node) -> Next
+pub(crate) fn step(arcs: &[u8], rows: &[u8], w: Walk, x: Node) -> Next
     requires { ⌜ Lent (now arcs) (now rows) w ⌝ }
     requires { ⌜ NodeFits x ⌝ }
     ensures { λ r. ⌜ LeadsTo r (jumpOver (now (arcs .entry)) (now (rows .entry)) w (x .source .0) (reachedOf (x .target .0))) ⌝ }

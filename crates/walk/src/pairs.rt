@@ -3,7 +3,7 @@ use numbers::number::wide;
 use tables::kinds::DiagramState;
 use tables::kinds::Reached;
 ghost use Prim.Native.Nat.{_<_};
-ghost use Rattle.walk.specs.Pairs.{mostPairs, NodeOf, NodeFits, Coded};
+ghost use Rattle.walk.specs.Pairs.{mostCodes, NodeOf, NodeFits, Coded};
 
 // What a walk needs of its step or bad entry. Before it only messages below the cut are read, after it only those from the cut on.
 pub struct Walk {
@@ -41,7 +41,7 @@ pub(crate) fn code_of(x: Node) -> usize
 }
 
 pub(crate) fn node_of(code: usize) -> Node
-    requires { ⌜ code < mostPairs ⌝ }
+    requires { ⌜ code < mostCodes ⌝ }
     ensures { λ r. ⌜ NodeOf code r ⌝ }
 {
     if code < AFTER {

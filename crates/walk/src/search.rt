@@ -18,7 +18,7 @@ ghost use Rattle.explore.specs.Search.{search as searched};
 ghost use Rattle.tables.specs.Limits.{mostPool, mostMessages};
 ghost use Rattle.tables.specs.Lookup.{ArcsSmall};
 ghost use Rattle.model.specs.Judge.{same};
-ghost use Rattle.walk.specs.Pairs.{mostPairs, pairOf, NodeFits};
+ghost use Rattle.walk.specs.Pairs.{mostCodes, pairOf, NodeFits};
 ghost use Rattle.walk.specs.Marks.{view, Tables, Pushed, Swept, Blank};
 ghost use Rattle.walk.specs.Over.{goOver, wrongOver, searchOver, readFrom, Lent};
 ghost use Rattle.walk.specs.Leads.{saidNext, Small};
@@ -132,7 +132,7 @@ fn explore(
     requires { ⌜ Lent (now arcs) (now rows) w ⌝ }
     requires { ⌜ length (now finals) ≡ mostPool ⌝ }
     requires { ⌜ Tables (now seen) (now queue) found ⌝ }
-    ensures { λ r. ⌜ Answered (now (seen .exit)) (now (queue .exit)) r (searched (suc (w .sum)) (goOver (now (arcs .entry)) (now (rows .entry)) w) same (wrongOver (now (finals .entry)) (w .entry)) mostPairs 0 (view (now (seen .entry)) (now (queue .entry)) found)) ⌝ }
+    ensures { λ r. ⌜ Answered (now (seen .exit)) (now (queue .exit)) r (searched (suc (w .sum)) (goOver (now (arcs .entry)) (now (rows .entry)) w) same (wrongOver (now (finals .entry)) (w .entry)) mostCodes 0 (view (now (seen .entry)) (now (queue .entry)) found)) ⌝ }
 {
     let mut tail = found;
     let mut k: usize = 0;
@@ -148,7 +148,7 @@ fn explore(
 }
 
 // The walk from its first pair, over tables that are all 0. There is room for every pair.
-pub fn search(
+pub(crate) fn search(
     arcs: &[u8],
     finals: &[u8],
     rows: &[u8],
@@ -161,8 +161,8 @@ pub fn search(
     requires { ⌜ length (now finals) ≡ mostPool ⌝ }
     requires { ⌜ NodeFits root ⌝ }
     requires { ⌜ Blank (now seen) (now queue) ⌝ }
-    requires { ⌜ length (now seen) ≡ mostPairs ⌝ }
-    requires { ⌜ length (now queue) ≡ mostPairs ⌝ }
+    requires { ⌜ length (now seen) ≡ mostCodes ⌝ }
+    requires { ⌜ length (now queue) ≡ mostCodes ⌝ }
     ensures { λ r. ⌜ Answered (now (seen .exit)) (now (queue .exit)) r (searchOver (now (arcs .entry)) (now (finals .entry)) (now (rows .entry)) w (pairOf root)) ⌝ }
 {
     let code = code_of(root);

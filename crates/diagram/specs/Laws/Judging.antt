@@ -16,7 +16,7 @@ use Rattle.model.specs.Model.{total, queueOf}
 use Rattle.model.specs.Diagram.{Pool, along}
 use Rattle.meaning.specs.Tables.{poolOf}
 use Rattle.tables.specs.Lookup.{alongArc, finalAt}
-use Rattle.diagram.specs.Member.{Reply, refusal, answer, judge}
+use Rattle.diagram.specs.Member.{MemberReply, refusal, answer, judge}
 use Rattle.meaning.specs.Laws.Order.{messages-are}
 use Rattle.diagram.specs.Laws.Tables.{along-is, final-is}
 use Rattle.diagram.specs.Laws.Queues.{drop-all}
@@ -31,7 +31,7 @@ poolTables n finals arcs = record { count = n; finals = finals; arcs = arcs }
 abbrev poolOver : ℕ → List ℕ → List ℕ → Pool
 poolOver n finals arcs = poolOf (poolTables n finals arcs)
 
-abbrev pub judgeOver : Queues → List ℕ → List ℕ → ℕ → ℕ → ℕ → Option ℕ → List ℕ → Reply
+abbrev pub judgeOver : Queues → List ℕ → List ℕ → ℕ → ℕ → ℕ → Option ℕ → List ℕ → MemberReply
 judgeOver q finals arcs n place queue s u = judge (countsOf q) (poolOver n finals arcs) place queue s u
 
 -- A MESSAGE, by what is found of it

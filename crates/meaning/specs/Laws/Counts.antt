@@ -34,13 +34,13 @@ total-is-first : (ns : List ℕ) → total ns ≡ firstOf ns (length ns)
 total-is-first [] = refl
 total-is-first (n ∷ ns) = ap (λ (x : ℕ). n + x) (total-is-first ns)
 
-pub first-is : (t : List ℕ) (n q : ℕ) → q ≤ n → firstOf (take n t) q ≡ Table.firstOf t q
-unfolding Table.firstOf
+pub first-is : (t : List ℕ) (n q : ℕ) → q ≤ n → firstOf (take n t) q ≡ Table.firstMessage t q
+unfolding Table.firstMessage
 first-is t n zero h = first-zero (take n t)
 first-is t n (suc q) h =
     first-next (take n t) q ∙ ap₂ (λ (x y : ℕ). x + y) (first-is t n q (omega arith)) (getD-take n t q 0 h)
 
-pub total-is : (t : List ℕ) (n : ℕ) → n ≤ length t → total (take n t) ≡ Table.firstOf t n
+pub total-is : (t : List ℕ) (n : ℕ) → n ≤ length t → total (take n t) ≡ Table.firstMessage t n
 total-is t n h =
     total-is-first (take n t) ∙ ap (firstOf (take n t)) (length-take-le n t h) ∙ first-is t n n (omega arith)
 

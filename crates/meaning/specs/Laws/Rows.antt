@@ -14,7 +14,7 @@ use Rattle.tables.specs.declared.tables.BadList.{BadList}
 use Rattle.explore.specs.Mem.{Mem, here, there}
 use Rattle.model.specs.Model.{Transition, first, Between}
 use Rattle.model.specs.Session.{OwnWord}
-use Rattle.meaning.specs.Tables.{actionOf, transitionAt, transitionsFrom, modelOf, entriesFrom}
+use Rattle.meaning.specs.Tables.{actionOf, transitionAt, transitionsFrom, modelOf, badFrom}
 use Rattle.meaning.specs.Laws.Counts.{first-is, between-take}
 use Rattle.tables.specs.Rows.{rowLength, wordEntry, queueAt, lengthAt, wordAt}
 
@@ -22,7 +22,7 @@ pub transitions-length : (rows : List ℕ) (left t : ℕ) → length (transition
 transitions-length rows zero t = refl
 transitions-length rows (suc left) t = ap suc (transitions-length rows left (suc t))
 
-pub entries-length : (rows : List ℕ) (left b : ℕ) → length (entriesFrom rows left b) ≡ left
+pub entries-length : (rows : List ℕ) (left b : ℕ) → length (badFrom rows left b) ≡ left
 entries-length rows zero b = refl
 entries-length rows (suc left) b = ap suc (entries-length rows left (suc b))
 
@@ -42,7 +42,7 @@ transition-row rows (suc left) t τ (here e) = (t, omega arith, e)
 transition-row rows (suc left) t τ (there m) = let (j, l, e) = transition-row rows left (suc t) τ m in (j, omega arith, e)
 
 -- and which a bad entry is
-pub entry-row : (rows : List ℕ) (left b : ℕ) (e : ℕ × ℕ) → Mem e (entriesFrom rows left b)
+pub entry-row : (rows : List ℕ) (left b : ℕ) (e : ℕ × ℕ) → Mem e (badFrom rows left b)
     → (j : ℕ) × (j < b + left) × (e ≡ (getD rows (j * 2) 0, getD rows (j * 2 + 1) 0))
 entry-row rows zero b e m = absurd (List·Memᴰ·not-nil m)
 entry-row rows (suc left) b e (here p) = (b, omega arith, p)
@@ -89,7 +89,7 @@ module _ (m : Machines) (q : Queues) (τ : Transitions) (Q : QueuesValid q) wher
       subst (λ ρ. ρ .to < getD (modelOf m q τ .sizes) (ρ .machine) 0) (sym e) (omega (arith, same, r .to))
 
 -- the root of a bad entry is a state of the pool
-pub entries-within : (product n : ℕ) (B : BadList) → BadValid product n B → (e : ℕ × ℕ) → Mem e (entriesFrom (B .rows) (B .count) 0) → e .1 < n
+pub entries-within : (product n : ℕ) (B : BadList) → BadValid product n B → (e : ℕ × ℕ) → Mem e (badFrom (B .rows) (B .count) 0) → e .1 < n
 entries-within product n B v e h =
     let (j, l, p) = entry-row (B .rows) (B .count) 0 e h in
     subst (λ x. x .1 < n) (sym p) (v .root j (omega arith))

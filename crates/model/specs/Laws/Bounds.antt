@@ -8,7 +8,7 @@ use native.Mathlib.Nat.{le-trans, mul-le-mul, suc-mul}
 use lib.ListN.{length, length-append}
 use Rattle.explore.specs.Mem.{Mem, here, there}
 use Rattle.explore.specs.Size.{Size}
-use Rattle.explore.specs.SizeLaws.{size-at-most}
+use Rattle.explore.specs.Laws.Size.{size-at-most}
 use Rattle.model.specs.Model.{Action, local, send, receive, Transition, Model, controls, isAt}
 use Rattle.model.specs.Diagram.{along, follow}
 use Rattle.model.specs.Session.{Session, WellFormed}

@@ -12,11 +12,11 @@ use lib.ListN.{length}
 use borrow.Author.Tests.{eqb-true, eq-eqb}
 use Rattle.explore.specs.Mem.{Mem}
 use Rattle.explore.specs.Size.{Size}
-use Rattle.explore.specs.SizeLaws.{size-same}
+use Rattle.explore.specs.Laws.Size.{size-same}
 use Rattle.explore.specs.Order.{AtMost}
 use Rattle.explore.specs.Explore.{Entry, explore, firstBy, ReachedFrom, IsEquality}
-use Rattle.explore.specs.Meaning.{enough-from, sound-word, size-from, least-word, none-from}
-use Rattle.explore.specs.First.{first-has-it}
+use Rattle.explore.specs.Laws.Meaning.{enough-from, sound-word, size-from, least-word, none-from}
+use Rattle.explore.specs.Laws.First.{first-has-it}
 use Rattle.model.specs.Model.{Configuration, messages}
 use Rattle.model.specs.Diagram.{word}
 use Rattle.model.specs.Session.{Session}

@@ -8,10 +8,10 @@ use native.Mathlib.Omega.{arith}
 use native.Mathlib.Nat.{le-refl}
 use lib.ListN.{length, getElem?, length-append, length-reverse}
 use Rattle.explore.specs.Explore.{Entry, explore, firstBy}
-use Rattle.explore.specs.Places.{place-below}
+use Rattle.explore.specs.Laws.Places.{place-below}
 use Rattle.explore.specs.Search.{Found, Outcome, found, finished, searchFrom, lowest, traceFrom, trace}
-use Rattle.explore.specs.Agree.{agree-length}
-use Rattle.explore.specs.SearchLaws.{Answers, search-is as search-answers}
+use Rattle.explore.specs.Laws.Agree.{agree-length}
+use Rattle.explore.specs.Laws.Search.{Answers, search-is as search-answers}
 use Rattle.model.specs.Model.{messages, begin}
 use Rattle.model.specs.Session.{Session, inside, WellFormed}
 use Rattle.model.specs.Verdict.{Item, start, step, entry, Pair, mostPairs}

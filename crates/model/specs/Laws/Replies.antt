@@ -5,9 +5,9 @@ use mathlib.Core.List.{List, [], _∷_, _++_, Memᴰ·append-right, head-eq-of-c
 use Prim.Native.Nat.{ℕ}
 use native.Mathlib.Omega.{arith}
 use Rattle.explore.specs.Mem.{Mem, here, there}
-use Rattle.explore.specs.SizeLaws.{size-unique}
+use Rattle.explore.specs.Laws.Size.{size-unique}
 use Rattle.explore.specs.Order.{AtMost}
-use Rattle.explore.specs.OrderLaws.{at-most-antisymmetric}
+use Rattle.explore.specs.Laws.Order.{at-most-antisymmetric}
 use Rattle.model.specs.Session.{Session}
 use Rattle.model.specs.Verdict.{Item, start, step, entry, Passes, Fails, Sum, First, Means, Reply, closed, outside, leaves, bad}
 use Rattle.model.specs.Judge.{reply}

@@ -5,10 +5,10 @@ use mathlib.Core.List.{List, [], _∷_, reverse}
 use Prim.Native.Nat.{ℕ, suc, _≤_}
 use native.Mathlib.Nat.{le-refl}
 use Rattle.explore.specs.Explore.{Entry, explore}
-use Rattle.explore.specs.Fuel.{more-fuel}
+use Rattle.explore.specs.Laws.Fuel.{more-fuel}
 use Rattle.explore.specs.Search.{Outcome, found, finished, searchFrom}
-use Rattle.explore.specs.Agree.{agree-length}
-use Rattle.explore.specs.SearchLaws.{Answers, search-is as search-answers}
+use Rattle.explore.specs.Laws.Agree.{agree-length}
+use Rattle.explore.specs.Laws.Search.{Answers, search-is as search-answers}
 use Rattle.model.specs.Model.{messages}
 use Rattle.model.specs.Session.{Session, WellFormed}
 use Rattle.model.specs.Verdict.{Item, start, step, entry, Pair, mostPairs}

@@ -91,16 +91,16 @@ module _ {S B : Type 0} where
       (λ v next h′. rounds-fair s top r f left (i + 1) next (put i v x) h′))
 
 -- how a number is read or refused: 3 at the end of the input, 4 at its first byte
-abbrev Told : List ℕ → ℕ → Part ℕ → Type 0
+abbrev pub Told : List ℕ → ℕ → Part ℕ → Type 0
 Told s at (got v next) = (at ≤ next) × (next ≤ length s)
 Told s at (refused k p) = ((k ≡ 3) × (p ≡ length s)) ⊎ ((k ≡ 4) × (p ≡ at))
 
-told-provided : (s : List ℕ) (at : ℕ) (b : Bool) (k p : ℕ) (x : Part ℕ) → ((k ≡ 3) × (p ≡ length s)) ⊎ ((k ≡ 4) × (p ≡ at))
+pub told-provided : (s : List ℕ) (at : ℕ) (b : Bool) (k p : ℕ) (x : Part ℕ) → ((k ≡ 3) × (p ≡ length s)) ⊎ ((k ≡ 4) × (p ≡ at))
     → (b ≡ true → Told s at x) → Told s at (provided b k p x)
 told-provided s at true k p x h f = f refl
 told-provided s at false k p x h f = h
 
-told-cond : (s : List ℕ) (at : ℕ) (b : Bool) (x y : Part ℕ) → Told s at x → Told s at y → Told s at (cond b x y)
+pub told-cond : (s : List ℕ) (at : ℕ) (b : Bool) (x y : Part ℕ) → Told s at x → Told s at y → Told s at (cond b x y)
 told-cond s at true x y f g = f
 told-cond s at false x y f g = g
 

@@ -9,7 +9,7 @@ use Rattle.numbers.specs.Part.{got}
 use Rattle.numbers.specs.Number.{readWithin, readBelow, readTwo}
 use Rattle.reading_model.specs.Machines.{readFactor, readSizes, readStarts, countedMachines, readMachines}
 use Rattle.reading_model.specs.Queues.{readTerm, readCounts, readQueues}
-use Rattle.tables.specs.Queues.{firstOf}
+use Rattle.tables.specs.Queues.{firstMessage}
 use Rattle.reading_model.specs.Transitions.{readMessage, readAction, readTransition, readRows, readTransitions}
 use Rattle.numbers.specs.Laws.Ranges.{below-number, within-number}
 use Rattle.reading_model.specs.Model.{readModel}
@@ -67,8 +67,8 @@ module _ (s : List ℕ) where
   action-fair q row at rows h =
       fair-then s 8 at (readBelow s at (q .count)) _ (below-fair s at (q .count) h) (λ queue p₁ h₁.
       fair-then s 8 p₁ (readWithin s p₁ 0 mostWord) _ (within-fair s p₁ 0 mostWord h₁) (λ len p₂ h₂.
-      rounds-fair s 8 (word-rounds s (q .sum) (firstOf (q .messages) queue) (firstOf (q .messages) (suc queue)))
-      (λ j at′ x h′. message-fair at′ (q .sum) (firstOf (q .messages) queue) (firstOf (q .messages) (suc queue)) h′) len (wordEntry row) p₂
+      rounds-fair s 8 (word-rounds s (q .sum) (firstMessage (q .messages) queue) (firstMessage (q .messages) (suc queue)))
+      (λ j at′ x h′. message-fair at′ (q .sum) (firstMessage (q .messages) queue) (firstMessage (q .messages) (suc queue)) h′) len (wordEntry row) p₂
       (set (set rows (queueEntry row) queue) (lengthEntry row) len) h₂))
 
   pub transition-fair : (m : Machines) (q : Queues) (row at : ℕ) (rows : List ℕ) → at ≤ length s

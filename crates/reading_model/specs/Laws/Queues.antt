@@ -10,7 +10,7 @@ use Rattle.numbers.specs.Part.{got}
 use Rattle.numbers.specs.Laws.Parts.{andThen-got, same-value}
 use Rattle.numbers.specs.Number.{readWithin}
 use Rattle.reading_model.specs.Queues.{readTerm, readCounts, readQueues}
-use Rattle.tables.specs.Queues.{firstOf}
+use Rattle.tables.specs.Queues.{firstMessage}
 use Rattle.numbers.specs.Laws.Ranges.{within-range}
 use Rattle.tables.specs.Valid.{QueuesValid}
 use Rattle.reading_model.specs.Laws.Ranges.{term-within, term-range}
@@ -22,7 +22,7 @@ use Rattle.tables.specs.Laws.Queues.{first-set}
 -- of the queues before number i: their messages, over the table as it was, and their sum
 record Counted (before : List ℕ) (i : ℕ) (x : ℕ × List ℕ) : Type 0 where
   entries : Entries (λ k v. (1 ≤ v) × (v ≤ mostMessages)) 0 i before (x .1)
-  sum : x .0 ≡ firstOf (x .1) i
+  sum : x .0 ≡ firstMessage (x .1) i
   least : i ≤ x .0
   most : x .0 ≤ mostMessages
 
@@ -45,7 +45,7 @@ module _ (s : List ℕ) where
 
   counts-read : (count at : ℕ) {x : ℕ × List ℕ} {next : ℕ} → count ≤ mostQueues
       → readCounts s at 0 count 0 (replicate mostQueues 0) ≡ got x next → Counted (replicate mostQueues 0) count x
-  unfolding firstOf
+  unfolding firstMessage
   counts-read count at h e =
       rounds-keep counts-rounds (Counted (replicate mostQueues 0)) count
       (λ i at′ x v next l. counts-step (replicate mostQueues 0) i at′ x v next (omega arith)) count 0 at (0, replicate mostQueues 0)

@@ -13,7 +13,7 @@ use Rattle.tables.specs.Limits.{mostTransitions, mostWord}
 use Rattle.numbers.specs.Part.{got, andThen}
 use Rattle.numbers.specs.Laws.Parts.{andThen-got, same-value}
 use Rattle.numbers.specs.Number.{readWithin, readBelow, readTwo}
-use Rattle.tables.specs.Queues.{firstOf, OfQueue}
+use Rattle.tables.specs.Queues.{firstMessage, OfQueue}
 use Rattle.reading_model.specs.Transitions.{readMessage, readWord, readAction, readTransition, readRows, readTransitions}
 use Rattle.numbers.specs.Laws.Ranges.{below-range, within-range, two-range}
 use Rattle.tables.specs.Valid.{MoveValid, ActionValid, RowValid, TransitionsValid}
@@ -54,17 +54,17 @@ row-same m q row t u same r =
     }
 
 -- the first four entries of a row, written
-abbrev moved : List ℕ → ℕ → ℕ → ℕ → ℕ → ℕ → List ℕ
+abbrev pub moved : List ℕ → ℕ → ℕ → ℕ → ℕ → ℕ → List ℕ
 moved rows row a b c d = set (set (set (set rows row a) (fromEntry row) b) (toEntry row) c) (kindEntry row) d
 
-record Moved (before : List ℕ) (row a b c d : ℕ) (after : List ℕ) : Type 0 where
-  changed : Changed row (queueEntry row) before after
-  machine : machineAt after row ≡ a
-  from : fromAt after row ≡ b
-  to : toAt after row ≡ c
-  kind : kindAt after row ≡ d
+pub record Moved (before : List ℕ) (row a b c d : ℕ) (after : List ℕ) : Type 0 where
+  pub changed : Changed row (queueEntry row) before after
+  pub machine : machineAt after row ≡ a
+  pub from : fromAt after row ≡ b
+  pub to : toAt after row ≡ c
+  pub kind : kindAt after row ≡ d
 
-moved-written : (t : List ℕ) (row a b c d : ℕ) → row + rowLength ≤ length t → Moved t row a b c d (moved t row a b c d)
+pub moved-written : (t : List ℕ) (row a b c d : ℕ) → row + rowLength ≤ length t → Moved t row a b c d (moved t row a b c d)
 moved-written t row a b c d h =
     let t₁ = set t row a in
     let t₂ = set t₁ (fromEntry row) b in
@@ -148,7 +148,7 @@ module _ (s : List ℕ) where
       let l₁ = length-set before (queueEntry row) queue in
       let l₂ = length-set b₁ (lengthEntry row) len in
       let z =
-      word-read (q .sum) (firstOf (q .messages) queue) (firstOf (q .messages) (suc queue)) len (wordEntry row) (u .place) b₂ (omega arith)
+      word-read (q .sum) (firstMessage (q .messages) queue) (firstMessage (q .messages) (suc queue)) len (wordEntry row) (u .place) b₂ (omega arith)
       (u .then)
       in
       let c = z .changed in

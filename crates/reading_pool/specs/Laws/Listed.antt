@@ -182,7 +182,7 @@ pub record PoolListed (s : List ℕ) (sum at : ℕ) (P : Pool) (next : ℕ) : Ty
   pub ascend : (i : ℕ) → Ascends (P .count) sum 0 (getD states i noState .1)
 
 -- a lookup in the table, by what its entry is
-arc-by-entry : (arcs : List ℕ) (i m : ℕ) (o : Option ℕ) → getD arcs (i * mostMessages + m) 0 ≡ entryOf o 0 → arcAt arcs i m ≡ o
+pub arc-by-entry : (arcs : List ℕ) (i m : ℕ) (o : Option ℕ) → getD arcs (i * mostMessages + m) 0 ≡ entryOf o 0 → arcAt arcs i m ≡ o
 arc-by-entry arcs i m none e =
     ap (λ b. cond b none (some (getD arcs (i * mostMessages + m) 0 - 1))) (eq-eqb (getD arcs (i * mostMessages + m) 0) 0 e)
 arc-by-entry arcs i m (some t) e = entry-arc arcs i m (omega arith)

@@ -12,44 +12,17 @@ use borrow.Author.Tests.{leb-true, leb-false, le-leb, ltb-true, ltb-false}
 use native.Mathlib.Omega.{arith}
 use native.Mathlib.Numerals.{add-one}
 use Rattle.tables.specs.Limits.{mostPool}
-use Rattle.tables.specs.Queues.{firstOf, OfQueue}
+use Rattle.tables.specs.Queues.{firstMessage, OfQueue}
 use Rattle.tables.specs.Pool.{arcAt}
 use Rattle.reading_pool.specs.Lowest.{lowest, lowests, arcsOrdered, statesOrdered, queuesOrdered, inQueueOrder}
 use Rattle.tables.specs.Order.{QueueOrdered}
 use Rattle.numbers.specs.Laws.Written.{at-or-other}
+use Rattle.numbers.specs.Laws.Asks.{ifHolds, Asks, asks-holds, holds-asks}
 use Rattle.tables.specs.Valid.{QueuesValid, PoolValid}
 use Rattle.tables.specs.Laws.Queues.{first-ascends, of-queue-below-sum, below-sum-of-queue}
 use Rattle.tables.specs.Laws.Pool.{arc-valid}
 use Rattle.tables.specs.declared.tables.Queues.{Queues}
 use Rattle.tables.specs.declared.tables.Pool.{Pool}
-
--- go on with b if the test holds
-abbrev ifHolds : Bool → Bool → Bool
-ifHolds test b = elim test [ true ↦ b | false ↦ false ]
-
--- a loop that asks a test of each number from i on, and stops where it fails
-record Asks (loop : ℕ → ℕ → Bool) (test : ℕ → Bool) : Type 0 where
-  stop : (i : ℕ) → loop zero i ≡ true
-  round : (left i : ℕ) → loop (suc left) i ≡ ifHolds (test i) (loop left (i + 1))
-
-module _ {loop : ℕ → ℕ → Bool} {test : ℕ → Bool} (asks : Asks loop test) where
-  asks-holds : (left i : ℕ) → loop left i ≡ true → (k : ℕ) → i ≤ k → k < i + left → test k ≡ true
-  asks-holds zero i e k l h = absurd (omega arith)
-  asks-holds (suc left) i e k l h = go (asks-holds left (i + 1)) (test i) refl (sym (asks .round left i) ∙ e)
-    where
-      go : (loop left (i + 1) ≡ true → (j : ℕ) → i + 1 ≤ j → j < i + 1 + left → test j ≡ true) → (b : Bool) → test i ≡ b
-          → ifHolds b (loop left (i + 1)) ≡ true → test k ≡ true
-      go later true f g =
-          at-or-other (λ j. i ≤ j → j < i + suc left → test j ≡ true) i k (λ _ _. f)
-          (λ d l′ h′. later g k (omega arith) (omega arith)) l h
-      go later false f g = cc
-
-  holds-asks : (left i : ℕ) → ((k : ℕ) → i ≤ k → k < i + left → test k ≡ true) → loop left i ≡ true
-  holds-asks zero i h = asks .stop i
-  holds-asks (suc left) i h =
-      asks .round left i
-      ∙ ap (λ b. ifHolds b (loop left (i + 1))) (h i (omega arith) (omega arith))
-      ∙ holds-asks left (i + 1) (λ k l g. h k (omega arith) (omega arith))
 
 -- what the lowest message is that a state has an arc for, of the messages from m on
 record Lowest (arcs : List ℕ) (s m left low : ℕ) : Type 0 where
@@ -119,17 +92,17 @@ module _ (arcs lows : List ℕ) where
   states-asks first width = record { stop = λ i. refl; round = λ left s. refl }
 
   queues-asks : (n : ℕ) (counts : List ℕ)
-      → Asks (λ left q. queuesOrdered arcs lows n counts left q (firstOf counts q))
-      (λ q. statesOrdered arcs lows (firstOf counts q) (getD counts q 0) n 0)
-  unfolding queuesOrdered firstOf
+      → Asks (λ left q. queuesOrdered arcs lows n counts left q (firstMessage counts q))
+      (λ q. statesOrdered arcs lows (firstMessage counts q) (getD counts q 0) n 0)
+  unfolding queuesOrdered firstMessage
   queues-asks n counts =
       record {
         stop = λ i. refl;
         round =
             λ left q.
             ap
-            (λ first. ifHolds (statesOrdered arcs lows (firstOf counts q) (getD counts q 0) n 0) (queuesOrdered arcs lows n counts left (q + 1) first))
-            (ap (firstOf counts) (sym (add-one q)));
+            (λ first. ifHolds (statesOrdered arcs lows (firstMessage counts q) (getD counts q 0) n 0) (queuesOrdered arcs lows n counts left (q + 1) first))
+            (ap (firstMessage counts) (sym (add-one q)));
       }
 
 abbrev lowsOf : Queues → Pool → List ℕ
@@ -138,7 +111,7 @@ lowsOf q P = lowests (P .arcs) (q .sum) (P .count) 0 (replicate mostPool 0)
 -- every arc of a queue leads to a state with no arc for a message below the queue's first
 abbrev Leads : Queues → Pool → Type 0
 Leads q P =
-    (p s a t : ℕ) → OfQueue q p a → arcAt (P .arcs) s a ≡ some t → firstOf (q .messages) p ≤ lowest (P .arcs) t (q .sum) 0
+    (p s a t : ℕ) → OfQueue q p a → arcAt (P .arcs) s a ≡ some t → firstMessage (q .messages) p ≤ lowest (P .arcs) t (q .sum) 0
 
 module _ (q : Queues) (P : Pool) (queues : QueuesValid q) (pool : PoolValid (q .sum) P) where
   low-is : (t : ℕ) → t < P .count → getD (lowsOf q P) t 0 ≡ lowest (P .arcs) t (q .sum) 0
@@ -147,10 +120,10 @@ module _ (q : Queues) (P : Pool) (queues : QueuesValid q) (pool : PoolValid (q .
       lows-hold (P .arcs) (q .sum) (P .count) 0 (replicate mostPool 0) t (omega (arith, pool .most)) (omega arith) (omega arith)
 
   test-leads : inQueueOrder q P ≡ true → Leads q P
-  unfolding inQueueOrder firstOf
+  unfolding inQueueOrder firstMessage
   test-leads e p s a t o f =
       let v = arc-valid s a pool (omega (arith, of-queue-below-sum q p a queues o, queues .sumMost)) f in
-      let first = firstOf (q .messages) p in
+      let first = firstMessage (q .messages) p in
       let width = getD (q .messages) p 0 in
       let lows = lowsOf q P in
       let e₁ = asks-holds (queues-asks (P .arcs) lows (P .count) (q .messages)) (q .count) 0 e p (omega arith) (omega (arith, o .queue)) in
@@ -160,22 +133,22 @@ module _ (q : Queues) (P : Pool) (queues : QueuesValid q) (pool : PoolValid (q .
       omega (arith, leb-true first (getD lows t 0) e₄, low-is t (v .to))
 
   leads-test : Leads q P → inQueueOrder q P ≡ true
-  unfolding inQueueOrder firstOf
+  unfolding inQueueOrder firstMessage
   leads-test leads =
       holds-asks (queues-asks (P .arcs) (lowsOf q P) (P .count) (q .messages)) (q .count) 0
       (λ p _ hp.
-      holds-asks (states-asks (P .arcs) (lowsOf q P) (firstOf (q .messages) p) (getD (q .messages) p 0)) (P .count) 0
+      holds-asks (states-asks (P .arcs) (lowsOf q P) (firstMessage (q .messages) p) (getD (q .messages) p 0)) (P .count) 0
       (λ s _ hs.
-      holds-asks (arcs-asks (P .arcs) (lowsOf q P) (firstOf (q .messages) p) s) (getD (q .messages) p 0) (firstOf (q .messages) p)
+      holds-asks (arcs-asks (P .arcs) (lowsOf q P) (firstMessage (q .messages) p) s) (getD (q .messages) p 0) (firstMessage (q .messages) p)
       (λ a l h.
       one p s a (record { queue = omega arith; from = l; below = h }) (arcAt (P .arcs) s a) refl)))
     where
       one : (p s a : ℕ) → OfQueue q p a → (o : Option ℕ) → arcAt (P .arcs) s a ≡ o
-          → arcOrdered (P .arcs) (lowsOf q P) (firstOf (q .messages) p) o ≡ true
+          → arcOrdered (P .arcs) (lowsOf q P) (firstMessage (q .messages) p) o ≡ true
       one p s a o none f = refl
       one p s a o (some t) f =
           let v = arc-valid s a pool (omega (arith, of-queue-below-sum q p a queues o, queues .sumMost)) f in
-          le-leb (firstOf (q .messages) p) (getD (lowsOf q P) t 0) (omega (arith, leads p s a t o f, low-is t (v .to)))
+          le-leb (firstMessage (q .messages) p) (getD (lowsOf q P) t 0) (omega (arith, leads p s a t o f, low-is t (v .to)))
 
   leads-ordered : Leads q P → QueueOrdered q P
   leads-ordered leads s t u a b p r oa ob f g = go (leb p r) refl
@@ -204,7 +177,7 @@ module _ (q : Queues) (P : Pool) (queues : QueuesValid q) (pool : PoolValid (q .
           ))
 
   ordered-leads : QueueOrdered q P → Leads q P
-  ordered-leads ordered p s a t o f = go (leb (firstOf (q .messages) p) low) refl
+  ordered-leads ordered p s a t o f = go (leb (firstMessage (q .messages) p) low) refl
     where
       low : ℕ
       low = lowest (P .arcs) t (q .sum) 0
@@ -212,10 +185,10 @@ module _ (q : Queues) (P : Pool) (queues : QueuesValid q) (pool : PoolValid (q .
       z : Lowest (P .arcs) t 0 (q .sum) low
       z = lowest-is (P .arcs) t (q .sum) 0
 
-      go : (c : Bool) → leb (firstOf (q .messages) p) low ≡ c → firstOf (q .messages) p ≤ low
-      go true e = leb-true (firstOf (q .messages) p) low e
+      go : (c : Bool) → leb (firstMessage (q .messages) p) low ≡ c → firstMessage (q .messages) p ≤ low
+      go true e = leb-true (firstMessage (q .messages) p) low e
       go false e =
-          let h = leb-false (firstOf (q .messages) p) low e in
+          let h = leb-false (firstMessage (q .messages) p) low e in
           let d : low < q .sum = omega (arith, of-queue-below-sum q p a queues o, o .from) in
           let u = z .arc (omega arith) in
           let r = below-sum-of-queue q low queues d in

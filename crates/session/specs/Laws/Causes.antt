@@ -19,7 +19,7 @@ use Rattle.numbers.specs.Laws.Rounds.{Rounds, rounds-more}
 use Rattle.numbers.specs.Laws.Places.{Fair, rounds-fair, number-fair, within-fair, below-fair, two-fair}
 use Rattle.reading_model.specs.Machines.{readFactor, readSizes, readStarts, countedMachines, readMachines}
 use Rattle.reading_model.specs.Queues.{readTerm, readCounts, readQueues}
-use Rattle.tables.specs.Queues.{firstOf}
+use Rattle.tables.specs.Queues.{firstMessage}
 use Rattle.reading_model.specs.Transitions.{readMessage, readAction, readTransition, readRows, readTransitions}
 use Rattle.tables.specs.Pool.{poolArcs}
 use Rattle.reading_pool.specs.Pool.{readAscending, readArc, readArcs, readState, readStates, readPool}
@@ -191,16 +191,16 @@ module _ (s : List ℕ) where
 
   -- FIELD 3
   message-caused : (q : Queues) (i at : ℕ) → Comes s (wordMessage q i) at → at ≤ length s
-      → Caused (readMessage s at (q .sum) (firstOf (q .messages) i) (firstOf (q .messages) (suc i)))
+      → Caused (readMessage s at (q .sum) (firstMessage (q .messages) i) (firstMessage (q .messages) (suc i)))
   unfolding readMessage
   message-caused q i at c h =
       caused-then at (readBelow s at (q .sum)) _ (below-fair s at (q .sum) h) (below-caused c h (q .sum) (λ v r. r)) (λ v next e _.
       let stands : NumberAt s (wordMessage q i) v at = record { comes = c; next = next; number = below-number s at (q .sum) e } in
       let range = below-range s at (q .sum) e in
-      caused-provided (leb (firstOf (q .messages) i) v) 7 at _
-      (λ t. other-queue stands range (λ o. let b = leb-false (firstOf (q .messages) i) v t in omega (arith, o .from)))
-      (λ _. caused-provided (ltb v (firstOf (q .messages) (suc i))) 7 at (got v next)
-      (λ t. other-queue stands range (λ o. let b = ltb-false v (firstOf (q .messages) (suc i)) t in omega (arith, o .below)))
+      caused-provided (leb (firstMessage (q .messages) i) v) 7 at _
+      (λ t. other-queue stands range (λ o. let b = leb-false (firstMessage (q .messages) i) v t in omega (arith, o .from)))
+      (λ _. caused-provided (ltb v (firstMessage (q .messages) (suc i))) 7 at (got v next)
+      (λ t. other-queue stands range (λ o. let b = ltb-false v (firstMessage (q .messages) (suc i)) t in omega (arith, o .below)))
       (λ _. tt)))
 
   action-caused : (q : Queues) (row at : ℕ) (rows : List ℕ) → ToAction s q at → at ≤ length s → Caused (readAction s at q row rows)
@@ -211,8 +211,8 @@ module _ (s : List ℕ) where
       let rows′ : ℕ → List ℕ = λ len. set (set rows (queueEntry row) i) (lengthEntry row) len in
       caused-then p₁ (readWithin s p₁ 0 mostWord) _ (within-fair s p₁ 0 mostWord h₁)
       (within-caused (to-word-length to) h₁ 0 mostWord (λ v r. (omega arith, r))) (λ len p₂ e₂ h₂.
-      rounds-caused (word-rounds s (q .sum) (firstOf (q .messages) i) (firstOf (q .messages) (suc i)))
-      (λ j at′ x h′. message-fair s at′ (q .sum) (firstOf (q .messages) i) (firstOf (q .messages) (suc i)) h′) (wordEntry row) p₂ (rows′ len) len
+      rounds-caused (word-rounds s (q .sum) (firstMessage (q .messages) i) (firstMessage (q .messages) (suc i)))
+      (λ j at′ x h′. message-fair s at′ (q .sum) (firstMessage (q .messages) i) (firstMessage (q .messages) (suc i)) h′) (wordEntry row) p₂ (rows′ len) len
       (λ j e at′ x l n f h′. message-caused q i at′ (to-word (wordEntry row) (rows′ len) to e₂ l f) h′) h₂))
 
   -- from and to of a transition

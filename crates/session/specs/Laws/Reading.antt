@@ -7,7 +7,7 @@ use lib.Dec.{eqb}
 use native.Mathlib.Omega.{arith}
 use Rattle.numbers.specs.Part.{Part, got, refused}
 use Rattle.session.specs.Said.{ReadReply, read, refusal, saidAnswer}
-use Rattle.session.specs.File.{readFile, empty, replyOf, tablesOf, Reads}
+use Rattle.session.specs.File.{readFile, empty, readReplyOf, tablesOf, Reads}
 use Rattle.tables.specs.Valid.{Valid}
 use Rattle.session.specs.Laws.Valid.{valid}
 use Rattle.numbers.specs.declared.refusal.Refusal.the-variants.{TooLong, Ends, NotShortest, OutOfRange, PassesLimit, OtherQueue, NotAscending, NotInQueueOrder, Trailing}
@@ -65,14 +65,14 @@ module _ (x : Part Tables) (r : Reading) (h : Reads x r) where
   pub answer-refused : (k p : ℕ) → saidAnswer (r .answer) ≡ refusal k p → x ≡ refused k p
   answer-refused k p e = go x (sym (h .reply) ∙ e)
     where
-      go : (y : Part Tables) → replyOf y ≡ refusal k p → y ≡ refused k p
+      go : (y : Part Tables) → readReplyOf y ≡ refusal k p → y ≡ refused k p
       go (got T next) f = cc
       go (refused j q) f = cc
 
   pub answer-read : saidAnswer (r .answer) ≡ read → (next : ℕ) × (x ≡ got (r .tables) next)
   answer-read e = go x (sym (h .reply) ∙ e) (h .tables)
     where
-      go : (y : Part Tables) → replyOf y ≡ read → r .tables ≡ tablesOf y → (next : ℕ) × (y ≡ got (r .tables) next)
+      go : (y : Part Tables) → readReplyOf y ≡ read → r .tables ≡ tablesOf y → (next : ℕ) × (y ≡ got (r .tables) next)
       go (got T next) f g = (next, ap (λ t. got t next) (sym g))
       go (refused j q) f g = let z : _≡_ {A = ℕ} 0 1 = cc in absurd (omega arith)
 

@@ -17,10 +17,10 @@ use Rattle.model.specs.Session.{Session, inside}
 use Rattle.model.specs.Verdict.{Reply, outside, stepsFrom, entriesFrom}
 use Rattle.model.specs.Judge as Model
 use Rattle.model.specs.Judge.{decide}
-use Rattle.meaning.specs.Tables.{sessionOf, entriesFrom as entriesIn}
+use Rattle.meaning.specs.Tables.{sessionOf, badFrom as entriesIn}
 use Rattle.tables.specs.Lookup.{rootOf, finalAt}
 use Rattle.meaning.specs.Reply.{FileReply, verdict}
-use Rattle.walk.specs.Pairs.{mostPairs}
+use Rattle.walk.specs.Pairs.{mostCodes}
 use Rattle.walk.specs.Marks.{Blank}
 use Rattle.controls.specs.Controls.{sizesOf, startsOf}
 use Rattle.verdict.specs.Begin.{RootsIn}
@@ -73,7 +73,7 @@ room-scratch {n} {seen} {queue} r =
     }
 
 -- a front that is 0 again leaves the table as it was
-pub front-again : (t front : List ℕ) (n : ℕ) → n ≡ mostPairs → n ≤ length t → t ≡ replicate (length t) 0 → length front ≡ mostPairs
+pub front-again : (t front : List ℕ) (n : ℕ) → n ≡ mostCodes → n ≤ length t → t ≡ replicate (length t) 0 → length front ≡ mostCodes
     → front ≡ replicate (length front) 0 → front ++ drop n t ≡ t
 front-again t front n k h e l b =
     ap (λ f. f ++ drop n t) (b ∙ ap (λ j. replicate j 0) (l ∙ sym k) ∙ sym (front-zeros t n h e)) ∙ take-append-drop n t

@@ -13,15 +13,15 @@ use Rattle.model.specs.Judge as Model
 use Rattle.model.specs.Judge.{decide}
 use Rattle.model.specs.Searched.{judgeBySearch}
 use Rattle.model.specs.Laws.Deciding.{decide-passes, decide-fails}
-use Rattle.meaning.specs.Tables.{sessionOf, entriesFrom}
-use Rattle.walk.specs.Pairs.{mostPairs}
+use Rattle.meaning.specs.Tables.{sessionOf, badFrom}
+use Rattle.walk.specs.Pairs.{mostCodes}
 use Rattle.verdict.specs.Judging.{Judging, Judges, EntryAsked, EntriesAsked, EntryParts, AllBad, entryAt}
 use Rattle.verdict.specs.Laws.Turns.{judged-item}
 use Rattle.walk.specs.declared.judge.Judged.{Judged}
 use Rattle.walk.specs.declared.judge.Judged.the-variants.{Passes, Fails}
 use Rattle.verdict.specs.declared.judged.Progress.the-variants.{Passed, Meets}
 
-pub entry-at : (entries : List ℕ) (left t i : ℕ) → i < left → getElem? (entriesFrom entries left t) i ≡ some (entryAt entries (t + i))
+pub entry-at : (entries : List ℕ) (left t i : ℕ) → i < left → getElem? (badFrom entries left t) i ≡ some (entryAt entries (t + i))
 entry-at entries zero t i h = absurd (omega arith)
 entry-at entries (suc left) t zero h = ap (λ n. some (entryAt entries n)) (omega arith)
 entry-at entries (suc left) t (suc i) h =
@@ -56,7 +56,7 @@ module _ (q : Queues) (rows arcs finals roots entries : List ℕ) (count b pairs
 
   abbrev Judge : ℕ → ℕ → Judged → Type 0
   Judge control root r =
-      Judging (λ T. EntryParts T q rows arcs finals roots) (λ T. judgeBySearch (sessionOf T) mostPairs (entry 0 (control, root))) contents r contents₁ seen₁ queue₁
+      Judging (λ T. EntryParts T q rows arcs finals roots) (λ T. judgeBySearch (sessionOf T) mostCodes (entry 0 (control, root))) contents r contents₁ seen₁ queue₁
 
   judged-entry : {control root : ℕ} → control ≡ getD entries (b * 2) 0 → root ≡ getD entries (b * 2 + 1) 0 → {r s : Judged} → r ≡ s
       → Judge control root r → Judge (getD entries (b * 2) 0) (getD entries (b * 2 + 1) 0) s
@@ -65,7 +65,7 @@ module _ (q : Queues) (rows arcs finals roots entries : List ℕ) (count b pairs
 
   pub entry-more : {control root : ℕ} → control ≡ getD entries (b * 2) 0 → root ≡ getD entries (b * 2 + 1) 0
       → (r : Judged) (more : ℕ) → r ≡ Passes more → Judge control root r
-      → Judges Over (pairs + mostPairs) after contents (Passed (pairs + more)) contents₁ seen₁ queue₁
+      → Judges Over (pairs + mostCodes) after contents (Passed (pairs + more)) contents₁ seen₁ queue₁
   unfolding judgeBySearch decide
   entry-more e f r more z j =
       let k = judged-entry e f z j in
@@ -78,7 +78,7 @@ module _ (q : Queues) (rows arcs finals roots entries : List ℕ) (count b pairs
 
   pub entry-shown : {control root : ℕ} → control ≡ getD entries (b * 2) 0 → root ≡ getD entries (b * 2 + 1) 0
       → (r : Judged) (shown : ℕ) → r ≡ Fails shown → Judge control root r
-      → Judges Over (pairs + mostPairs) after contents (Meets b shown) contents₁ seen₁ queue₁
+      → Judges Over (pairs + mostCodes) after contents (Meets b shown) contents₁ seen₁ queue₁
   unfolding judgeBySearch decide
   entry-shown e f r shown z j =
       let k = judged-entry e f z j in

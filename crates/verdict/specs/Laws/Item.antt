@@ -25,7 +25,7 @@ use Rattle.tables.specs.declared.kinds.DiagramState.{DiagramState}
 use Rattle.tables.specs.declared.kinds.Reached.{Reached}
 use Rattle.meaning.specs.Laws.Sessions.{well-formed}
 use Rattle.meaning.specs.Laws.Order.{messages-are}
-use Rattle.walk.specs.Pairs.{mostPairs, afterSide, pairOf}
+use Rattle.walk.specs.Pairs.{mostCodes, afterSide, pairOf}
 use Rattle.walk.specs.Over.{Over, walkOver, wordOver}
 use Rattle.walk.specs.Judged.{judgedOver, ShownFits}
 use Rattle.walk.specs.Laws.Judged.{judged-is}
@@ -59,10 +59,10 @@ module _ (T : Tables) (v : Valid T) where
 
   -- without a root nothing is visited
   pub step-nothing : (c row source t : ℕ) → RootAt (T .map .roots) c source → source ≡ mostPool
-      → judgeBySearch S mostPairs (step c t (transitionAt rows row)) ≡ passes 0
+      → judgeBySearch S mostCodes (step c t (transitionAt rows row)) ≡ passes 0
   unfolding judgeBySearch
   step-nothing c row source t here e =
-      ap (λ o. searchWalk S mostPairs (Option·map (beginStep S c (transitionAt rows row)) o)) (sym (here .is) ∙ reached-nowhere e)
+      ap (λ o. searchWalk S mostCodes (Option·map (beginStep S c (transitionAt rows row)) o)) (sym (here .is) ∙ reached-nowhere e)
 
   module _ (c row : ℕ) (source : DiagramState) (target : Reached) (to : ℕ) (k : Cut) (here : RootAt (T .map .roots) c (source .0))
       (goes : Moved (T .machines) rows row c to) (there : RootAt (T .map .roots) to (target .0)) (cuts : Cuts (T .queues) rows row k) where
@@ -88,11 +88,11 @@ module _ (T : Tables) (v : Valid T) where
         ∙ ap₂ (λ W r. some (record { walk = W; root = r })) (sym walk-is) (sym pair-is)
 
     pub step-judged : (t : ℕ) → (source .0 ≡ mostPool → ⊥)
-        → judgedOver (T .pool .arcs) (T .pool .finals) rows w (pairOf x) ≡ judgeBySearch S mostPairs (step c t (transitionAt rows row))
+        → judgedOver (T .pool .arcs) (T .pool .finals) rows w (pairOf x) ≡ judgeBySearch S mostCodes (step c t (transitionAt rows row))
     unfolding judgeBySearch
     step-judged t e =
         judged-is (T .pool .arcs) (T .pool .finals) rows w S (over-session T sum-is) (pairOf x)
-        ∙ ap (searchWalk S mostPairs) (sym (begun t e))
+        ∙ ap (searchWalk S mostCodes) (sym (begun t e))
 
     pub step-fits : (t : ℕ) → (source .0 ≡ mostPool → ⊥) → IsItem S (step c t (transitionAt rows row)) → lengthAt rows row ≤ mostWord
         → ShownFits (T .pool .arcs) (T .pool .finals) rows w (pairOf x)
@@ -103,10 +103,10 @@ module _ (T : Tables) (v : Valid T) where
 
   -- A BAD ENTRY
   pub entry-nothing : (control root source b : ℕ) → RootAt (T .map .roots) control source → source ≡ mostPool
-      → judgeBySearch S mostPairs (entry b (control, root)) ≡ passes 0
+      → judgeBySearch S mostCodes (entry b (control, root)) ≡ passes 0
   unfolding judgeBySearch
   entry-nothing control root source b here e =
-      ap (λ o. searchWalk S mostPairs (Option·map (beginEntry S (control, root)) o)) (sym (here .is) ∙ reached-nowhere e)
+      ap (λ o. searchWalk S mostCodes (Option·map (beginEntry S (control, root)) o)) (sym (here .is) ∙ reached-nowhere e)
 
   module _ (control root : ℕ) (source : DiagramState) (target : Reached) (same : target .0 ≡ root)
       (here : RootAt (T .map .roots) control (source .0)) where
@@ -123,11 +123,11 @@ module _ (T : Tables) (v : Valid T) where
         ∙ ap (λ t. some (record { walk = entryWalk S; root = Model.after (source .0) t })) (sym (ap reachedOf same ∙ reached-small h))
 
     pub entry-judged : (b : ℕ) → (source .0 ≡ mostPool → ⊥) → root < mostPool
-        → judgedOver (T .pool .arcs) (T .pool .finals) rows entry-walk (pairOf entry-pair) ≡ judgeBySearch S mostPairs (entry b (control, root))
+        → judgedOver (T .pool .arcs) (T .pool .finals) rows entry-walk (pairOf entry-pair) ≡ judgeBySearch S mostCodes (entry b (control, root))
     unfolding judgeBySearch
     entry-judged b e h =
         judged-is (T .pool .arcs) (T .pool .finals) rows entry-walk S (over-session T sum-is) (pairOf entry-pair)
-        ∙ ap (searchWalk S mostPairs) (sym (entry-begun b e h))
+        ∙ ap (searchWalk S mostCodes) (sym (entry-begun b e h))
 
     pub entry-fits : (b : ℕ) → (source .0 ≡ mostPool → ⊥) → root < mostPool → IsItem S (entry b (control, root))
         → ShownFits (T .pool .arcs) (T .pool .finals) rows entry-walk (pairOf entry-pair)

@@ -21,7 +21,7 @@ use Rattle.model.specs.Searched.{judgeBySearch}
 use Rattle.model.specs.Laws.Items.{IsItem}
 use Rattle.meaning.specs.Tables.{sessionOf, transitionAt}
 use Rattle.meaning.specs.Laws.Rows.{transition-at}
-use Rattle.walk.specs.Pairs.{mostPairs}
+use Rattle.walk.specs.Pairs.{mostCodes}
 use Rattle.controls.specs.Controls.{sizesOf, IsAt}
 use Rattle.verdict.specs.Judging.{Kept, Scratch, Judging, saidSoFar, Judges, StepsAsked, StepAsked, Parts}
 use Rattle.controls.specs.Laws.Parting.{sizes-product}
@@ -111,7 +111,7 @@ module _ (m : Machines) (q : Queues) (rows arcs finals roots : List ℕ) (c : Co
   kept-all = record { long = refl; within = omega arith; rest = refl }
 
   pub turn-none : IsAt m rows (i * rowLength) (c .0) false → Scratch seen queue
-      → Judges Over (pairs + mostPairs) after contents (Passed pairs) contents seen queue
+      → Judges Over (pairs + mostCodes) after contents (Passed pairs) contents seen queue
   turn-none e s =
       record {
         is = λ T p. sym (turn-skips T (p .valid) (c .0) i (transitionAt rows (i * rowLength)) pairs (at-is (c .0) i p false e));
@@ -124,10 +124,10 @@ module _ (m : Machines) (q : Queues) (rows arcs finals roots : List ℕ) (c : Co
     abbrev Judge : Judged → Type 0
     Judge r =
         Judging (λ T. Parts T m q rows arcs finals roots 0)
-        (λ T. judgeBySearch (sessionOf T) mostPairs (step (c .0) 0 (transitionAt rows (i * rowLength)))) contents r contents₁ seen₁ queue₁
+        (λ T. judgeBySearch (sessionOf T) mostCodes (step (c .0) 0 (transitionAt rows (i * rowLength)))) contents r contents₁ seen₁ queue₁
 
     pub turn-more : (r : Judged) (more : ℕ) → r ≡ Passes more → Judge r
-        → Judges Over (pairs + mostPairs) after contents (Passed (pairs + more)) contents₁ seen₁ queue₁
+        → Judges Over (pairs + mostCodes) after contents (Passed (pairs + more)) contents₁ seen₁ queue₁
     turn-more r more z j =
         let k = subst Judge z j in
         record {
@@ -138,7 +138,7 @@ module _ (m : Machines) (q : Queues) (rows arcs finals roots : List ℕ) (c : Co
         }
 
     pub turn-shown : (r : Judged) (shown : ℕ) → r ≡ Fails shown → Judge r
-        → Judges Over (pairs + mostPairs) after contents (Leaves c i shown) contents₁ seen₁ queue₁
+        → Judges Over (pairs + mostCodes) after contents (Leaves c i shown) contents₁ seen₁ queue₁
     turn-shown r shown z j =
         let k = subst Judge z j in
         record {

@@ -13,7 +13,7 @@ use Rattle.model.specs.Session.{Session}
 use Rattle.model.specs.Verdict.{Item, entry, stepsAt, stepsFrom, entriesFrom, Reply, closed}
 use Rattle.model.specs.Judge.{decide}
 use Rattle.model.specs.Laws.Deciding.{decide-append, unlessFailed}
-use Rattle.meaning.specs.Tables.{sessionOf, transitionAt, transitionsFrom, entriesFrom as entriesIn}
+use Rattle.meaning.specs.Tables.{sessionOf, transitionAt, transitionsFrom, badFrom as entriesIn}
 use Rattle.verdict.specs.Judging.{Kept, Scratch, saidSoFar, Judges, AllIn}
 use Rattle.verdict.specs.Laws.Turns.{steps-split}
 use Rattle.verdict.specs.declared.judged.Progress.{Progress}

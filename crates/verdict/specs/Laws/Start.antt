@@ -43,17 +43,17 @@ module _ (q : Queues) (rows : List ℕ) (row : ℕ) where
 
   module _ (v : QueuesValid q) (h : queue < q .count) (length : ℕ) (l : length ≡ lengthAt rows row) where
     -- the ends of the queue lie within the sum
-    pub queue-within : Table.firstOf (q .messages) (suc queue) ≤ q .sum
+    pub queue-within : Table.firstMessage (q .messages) (suc queue) ≤ q .sum
     queue-within = omega (arith, first-ascends (q .messages) (suc queue) (q .count) h, v .sum)
 
-    pub first-within : Table.firstOf (q .messages) queue ≤ q .sum
+    pub first-within : Table.firstMessage (q .messages) queue ≤ q .sum
     first-within = omega (arith, first-ascends (q .messages) queue (q .count) (omega arith), v .sum)
 
     word : wordOver rows (wordEntry row) length ≡ wordAt rows row
     word = ap (wordOver rows (wordEntry row)) l
 
     -- a send puts its word in after the messages of its queue
-    pub cuts-send : kindAt rows row ≡ 1 → (cut : ℕ) → cut ≡ Table.firstOf (q .messages) (suc queue)
+    pub cuts-send : kindAt rows row ≡ 1 → (cut : ℕ) → cut ≡ Table.firstMessage (q .messages) (suc queue)
         → Cuts q rows row (record { side = 0; cut = cut; out = 0; into = length })
     cuts-send e cut c =
         record {
@@ -67,7 +67,7 @@ module _ (q : Queues) (rows : List ℕ) (row : ℕ) where
 
     -- a receive takes its word out before the messages of its queue
     pub cuts-receive : (kindAt rows row ≡ 0 → ⊥) → (kindAt rows row ≡ 1 → ⊥) → (cut : ℕ)
-        → cut ≡ Table.firstOf (q .messages) queue → Cuts q rows row (record { side = 0; cut = cut; out = length; into = 0 })
+        → cut ≡ Table.firstMessage (q .messages) queue → Cuts q rows row (record { side = 0; cut = cut; out = length; into = 0 })
     cuts-receive x y cut c =
         record {
           cut = c ∙ sym (first-is (q .messages) (q .count) queue (omega arith)) ∙ sym (ap (λ k. cutOf ns (of k)) e);

@@ -33,15 +33,15 @@ module _ (T : Tables) (v : Valid T) where
   abbrev S : Session
   S = sessionOf T
 
-  pub few-pairs : mostPairs (S .pool .states) ≤ Walk.mostPairs
+  pub few-pairs : mostPairs (S .pool .states) ≤ Walk.mostCodes
   few-pairs =
       let n : T .pool .count ≤ mostPool = v .pool .most in
       let p : T .pool .count * (T .pool .count + 1) ≤ mostPool * Walk.stride = mul-le-mul {n₁ = T .pool .count} {m₁ = T .pool .count + 1} {n₂ = mostPool} {m₂ = Walk.stride} n (omega arith) in
       omega arith
 
   -- the judgement of the code is the judgement of the item
-  pub judged-item : (i : Item) → IsItem S i → judge S i ≡ judgeBySearch S Walk.mostPairs i
-  judged-item i item = sym (search-is S (well-formed T v) Walk.mostPairs few-pairs i item)
+  pub judged-item : (i : Item) → IsItem S i → judge S i ≡ judgeBySearch S Walk.mostCodes i
+  judged-item i item = sym (search-is S (well-formed T v) Walk.mostCodes few-pairs i item)
 
   module _ (c i : ℕ) (τ : Transition) (n : ℕ) where
     pub turn-skips : isAt (S .model) c τ ≡ false → decide S (stepsAt (S .model) c i (τ ∷ [])) n ≡ closed n
@@ -49,14 +49,14 @@ module _ (T : Tables) (v : Valid T) where
     turn-skips e = ap (λ is. decide S is n) (step-not-here (S .model) c i τ [] e)
 
     module _ (item : IsItem S (step c i τ)) (e : isAt (S .model) c τ ≡ true) where
-      pub turn-passes : (k : ℕ) → judgeBySearch S Walk.mostPairs (step c 0 τ) ≡ passes k
+      pub turn-passes : (k : ℕ) → judgeBySearch S Walk.mostCodes (step c 0 τ) ≡ passes k
           → decide S (stepsAt (S .model) c i (τ ∷ [])) n ≡ closed (n + k)
       unfolding decide judgeBySearch
       turn-passes k j =
           ap (λ is. decide S is n) (step-here (S .model) c i τ [] e)
           ∙ decide-passes S (step c i τ) [] n k (judged-item (step c i τ) item ∙ j)
 
-      pub turn-fails : (w : List ℕ) → judgeBySearch S Walk.mostPairs (step c 0 τ) ≡ fails w
+      pub turn-fails : (w : List ℕ) → judgeBySearch S Walk.mostCodes (step c 0 τ) ≡ fails w
           → decide S (stepsAt (S .model) c i (τ ∷ [])) n ≡ leaves c i w
       unfolding decide judgeBySearch
       turn-fails w j =

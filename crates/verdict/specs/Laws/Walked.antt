@@ -21,10 +21,10 @@ use Rattle.model.specs.Laws.Items.{IsItem, is-item, at-place}
 use Rattle.model.specs.Laws.Deciding.{judge-bound}
 use Rattle.meaning.specs.Tables.{sessionOf, transitionAt}
 use Rattle.meaning.specs.Laws.Sessions.{well-formed}
-use Rattle.walk.specs.Pairs.{mostPairs, pairOf, NodeFits, afterSide}
+use Rattle.walk.specs.Pairs.{mostCodes, pairOf, NodeFits, afterSide}
 use Rattle.walk.specs.Marks.{Blank}
 use Rattle.walk.specs.Over.{Lent, WordWithin}
-use Rattle.walk.specs.Judged.{judgedOver, ShownFits, Judges, shownOf, saidJudged, shownBy}
+use Rattle.walk.specs.Judged.{judgedOver, ShownFits, WalkJudged, shownOf, saidJudged, shownBy}
 use Rattle.tables.specs.Limits.{mostPool, mostWord}
 use Rattle.tables.specs.Lookup.{RootAt}
 use Rattle.tables.specs.Laws.Lookup.{arcs-small, state-below}
@@ -55,14 +55,14 @@ kept-front u contents contents′ n e is long =
 
 -- so many pairs and no more
 few-passed : (T : Tables) (p : Valid T) (i : Item) → IsItem (sessionOf T) i → (r : Judged) (contents : List ℕ)
-    → saidJudged r contents ≡ judgeBySearch (sessionOf T) mostPairs i → most (sessionOf T) i ≤ mostPairs → pairsOf r ≤ mostPairs
+    → saidJudged r contents ≡ judgeBySearch (sessionOf T) mostCodes i → most (sessionOf T) i ≤ mostCodes → pairsOf r ≤ mostCodes
 few-passed T v i item r contents e m = go r e
   where
-    go : (r : Judged) → saidJudged r contents ≡ judgeBySearch (sessionOf T) mostPairs i → pairsOf r ≤ mostPairs
+    go : (r : Judged) → saidJudged r contents ≡ judgeBySearch (sessionOf T) mostCodes i → pairsOf r ≤ mostCodes
     go (Passes n) e = omega (arith, judge-bound (sessionOf T) (well-formed T v) i (is-item (sessionOf T) i item) n (judged-item T v i item ∙ sym e), m)
     go (Fails n) e = omega arith
 
-entry-few : (T : Tables) → Valid T → T .pool .count * T .pool .count ≤ mostPairs
+entry-few : (T : Tables) → Valid T → T .pool .count * T .pool .count ≤ mostCodes
 entry-few T v =
     let p : T .pool .count * T .pool .count ≤ mostPool * mostPool = mul-le-mul (v .pool .most) (v .pool .most) in
     omega arith
@@ -140,13 +140,13 @@ begins to here e same goes there cuts =
 
 module _ {m : Machines} {q : Queues} {rows arcs finals roots : List ℕ} {c : ℕ} (row : ℕ) where
   pub nothing-is : {T : Tables} {count source : ℕ} → Parts T m q rows arcs finals roots count → RootAt roots c source → source ≡ mostPool → (t : ℕ)
-      → judgeBySearch (sessionOf T) mostPairs (step c t (transitionAt rows row)) ≡ passes 0
+      → judgeBySearch (sessionOf T) mostCodes (step c t (transitionAt rows row)) ≡ passes 0
   nothing-is {T} {source = source} p here e t =
-      over-parts (λ m q rows arcs finals roots. RootAt roots c source → judgeBySearch (sessionOf T) mostPairs (step c t (transitionAt rows row)) ≡ passes 0)
+      over-parts (λ m q rows arcs finals roots. RootAt roots c source → judgeBySearch (sessionOf T) mostCodes (step c t (transitionAt rows row)) ≡ passes 0)
       p (λ here. step-nothing T (p .valid) c row source t here e) here
 
   pub step-none : (a : StepAsked m q rows arcs finals roots c row) {source : ℕ} → RootAt roots c source → source ≡ mostPool → {contents seen queue : List ℕ} → Scratch seen queue
-      → Judging (λ T. Parts T m q rows arcs finals roots 0) (λ T. judgeBySearch (sessionOf T) mostPairs (step c 0 (transitionAt rows row)))
+      → Judging (λ T. Parts T m q rows arcs finals roots 0) (λ T. judgeBySearch (sessionOf T) mostCodes (step c 0 (transitionAt rows row)))
       contents (Passes 0) contents seen queue
   step-none a here e s =
       record {
@@ -160,12 +160,12 @@ module _ {m : Machines} {q : Queues} {rows arcs finals roots : List ℕ} {c : �
       (b : Begins m q rows roots c row source target k) where
     pub step-is : {T : Tables} {count : ℕ} → Parts T m q rows arcs finals roots count → (t : ℕ)
         → judgedOver arcs finals rows (walkOf q row k) (pairOf (nodeOf k source target))
-        ≡ judgeBySearch (sessionOf T) mostPairs (step c t (transitionAt rows row))
+        ≡ judgeBySearch (sessionOf T) mostCodes (step c t (transitionAt rows row))
     step-is {T} p t =
         over-parts
         (λ m q rows arcs finals roots. Begins m q rows roots c row source target k
         → judgedOver arcs finals rows (walkOf q row k) (pairOf (nodeOf k source target))
-        ≡ judgeBySearch (sessionOf T) mostPairs (step c t (transitionAt rows row)))
+        ≡ judgeBySearch (sessionOf T) mostCodes (step c t (transitionAt rows row)))
         p (λ b. step-judged T (p .valid) c row source target (b .to) k (b .here) (b .goes) (b .there) (b .cuts) t (b .somewhere)) b
 
     pub step-shown : ShownFits arcs finals rows (walkOf q row k) (pairOf (nodeOf k source target))
@@ -210,9 +210,9 @@ module _ {m : Machines} {q : Queues} {rows arcs finals roots : List ℕ} {c : �
 
     -- the walk's answer is the judgement of the step
     pub step-walked : {contents contents′ seen′ queue′ : List ℕ} {r : Judged}
-        → Judges arcs finals rows (walkOf q row k) (pairOf (nodeOf k source target)) contents seen′ queue′ contents′ r
-        → length seen′ ≡ mostPairs → length queue′ ≡ mostPairs → length contents′ ≡ length contents
-        → Judging (λ T. Parts T m q rows arcs finals roots 0) (λ T. judgeBySearch (sessionOf T) mostPairs (step c 0 (transitionAt rows row)))
+        → WalkJudged arcs finals rows (walkOf q row k) (pairOf (nodeOf k source target)) contents seen′ queue′ contents′ r
+        → length seen′ ≡ mostCodes → length queue′ ≡ mostCodes → length contents′ ≡ length contents
+        → Judging (λ T. Parts T m q rows arcs finals roots 0) (λ T. judgeBySearch (sessionOf T) mostCodes (step c 0 (transitionAt rows row)))
         contents r contents′ seen′ queue′
     step-walked {contents} {contents′} {seen′} {queue′} {r} j ls lq lc =
         record {
@@ -255,7 +255,7 @@ module _ {q : Queues} {rows arcs finals roots : List ℕ} {control root : ℕ} (
   Over T = EntryParts T q rows arcs finals roots
 
   abbrev judged : Tables → Model.Judged
-  judged T = judgeBySearch (sessionOf T) mostPairs (entry 0 (control, root))
+  judged T = judgeBySearch (sessionOf T) mostCodes (entry 0 (control, root))
 
   pub entry-none : {source : ℕ} → RootAt roots control source → source ≡ mostPool → {contents seen queue : List ℕ} → Scratch seen queue
       → Judging Over judged contents (Passes 0) contents seen queue
@@ -271,11 +271,11 @@ module _ {q : Queues} {rows arcs finals roots : List ℕ} {control root : ℕ} (
   module _ {source : DiagramState} {target : Reached} (here : RootAt roots control (source .0)) (e : source .0 ≡ mostPool → ⊥)
       (same : target .0 ≡ root) where
     pub entry-is : {T : Tables} → EntryParts T q rows arcs finals roots → (b : ℕ)
-        → judgedOver arcs finals rows (entryWalkOf q) (pairOf (entryNodeOf source target)) ≡ judgeBySearch (sessionOf T) mostPairs (entry b (control, root))
+        → judgedOver arcs finals rows (entryWalkOf q) (pairOf (entryNodeOf source target)) ≡ judgeBySearch (sessionOf T) mostCodes (entry b (control, root))
     entry-is {T} p b =
         over-entry
         (λ q rows arcs finals roots. RootAt roots control (source .0)
-        → judgedOver arcs finals rows (entryWalkOf q) (pairOf (entryNodeOf source target)) ≡ judgeBySearch (sessionOf T) mostPairs (entry b (control, root)))
+        → judgedOver arcs finals rows (entryWalkOf q) (pairOf (entryNodeOf source target)) ≡ judgeBySearch (sessionOf T) mostCodes (entry b (control, root)))
         p (λ here. entry-judged T (p .valid) control root source target same here b e entry-root) here
 
     pub entry-shown : ShownFits arcs finals rows (entryWalkOf q) (pairOf (entryNodeOf source target))
@@ -302,8 +302,8 @@ module _ {q : Queues} {rows arcs finals roots : List ℕ} {control root : ℕ} (
     entry-finals = subst (λ l. length l ≡ mostPool) (a .parts .sameFinals) (a .parts .valid .pool .finalsLong)
 
     pub entry-walked : {contents contents′ seen′ queue′ : List ℕ} {r : Judged}
-        → Judges arcs finals rows (entryWalkOf q) (pairOf (entryNodeOf source target)) contents seen′ queue′ contents′ r
-        → length seen′ ≡ mostPairs → length queue′ ≡ mostPairs → length contents′ ≡ length contents
+        → WalkJudged arcs finals rows (entryWalkOf q) (pairOf (entryNodeOf source target)) contents seen′ queue′ contents′ r
+        → length seen′ ≡ mostCodes → length queue′ ≡ mostCodes → length contents′ ≡ length contents
         → Judging Over judged contents r contents′ seen′ queue′
     entry-walked {contents} {contents′} {seen′} {queue′} {r} j ls lq lc =
         record {

@@ -12,7 +12,7 @@ use Rattle.tables.specs.declared.tables.Tables.{Tables}
 use Rattle.model.specs.Verdict.{Reply, stepsFrom, entriesFrom}
 use Rattle.model.specs.Judge.{decide}
 use Rattle.model.specs.Laws.Deciding.{decide-append, unlessFailed}
-use Rattle.meaning.specs.Tables.{sessionOf, transitionsFrom, entriesFrom as entriesIn}
+use Rattle.meaning.specs.Tables.{sessionOf, transitionsFrom, badFrom as entriesIn}
 use Rattle.verdict.specs.Judging.{mostAtControl, Kept, Scratch, shownSoFar, Judges, Parts, EntryParts, AllBad, StepsAsked, EntriesAsked, AllParts, AllAsked}
 use Rattle.verdict.specs.Judging.{AllIn}
 use Rattle.verdict.specs.Laws.Sequence.{Going, goes-on}

@@ -9,7 +9,7 @@ use lib.Dec.{eqb}
 use lib.ListN.{length, getD, set, take, replicate, length-set, length-replicate, getD-replicate}
 use lib.Seq.{getD-set-same, getD-set-other, ext-getD}
 use borrow.Author.Tests.{eqb-true, eqb-false}
-use Rattle.walk.specs.Pairs.{mostPairs}
+use Rattle.walk.specs.Pairs.{mostCodes}
 use Rattle.walk.specs.Marks.{mem, Tables, Zeros, ZerosFrom, Blank, count}
 
 all-zero : (l : List ℕ) → ((c : ℕ) → getD l c 0 ≡ 0) → l ≡ replicate (length l) 0
@@ -19,7 +19,7 @@ all-zero l e =
 
 -- THE MARKS of the places below k are left
 pub record Unmarking (seen queue : List ℕ) (k : ℕ) : Type 0 where
-  pub long : length seen ≡ mostPairs
+  pub long : length seen ≡ mostCodes
   pub marks : (c : ℕ) → (getD seen c 0 ≡ 0) ⊎ ((j : ℕ) × (j < k) × (getD queue j 0 ≡ c))
 
 -- a member of the front has its place there
@@ -41,7 +41,7 @@ unmark-begin {seen} {queue} {tail} T = record { long = T .seenLong; marks = λ c
     byTest c false t = inr (mem-place c tail queue (T .known c ∙ ap not t))
 
 module _ {seen queue : List ℕ} {k : ℕ} (U : Unmarking seen queue k) where
-  pub unmark-next : {code : ℕ} → 0 < k → code ≡ getD queue (k - 1) 0 → code < mostPairs → Unmarking (set seen code 0) queue (k - 1)
+  pub unmark-next : {code : ℕ} → 0 < k → code ≡ getD queue (k - 1) 0 → code < mostCodes → Unmarking (set seen code 0) queue (k - 1)
   unmark-next {code} l e small =
       record { long = length-set seen code 0 ∙ U .long; marks = λ c. byTest c (eqb c code) refl }
     where
@@ -103,7 +103,7 @@ count-zeros : (n : ℕ) → count (replicate n 0) ≡ 0
 count-zeros zero = refl
 count-zeros (suc n) = count-zeros n
 
-pub tables-blank : {seen queue : List ℕ} → Blank seen queue → length seen ≡ mostPairs → length queue ≡ mostPairs → Tables seen queue 0
+pub tables-blank : {seen queue : List ℕ} → Blank seen queue → length seen ≡ mostCodes → length queue ≡ mostCodes → Tables seen queue 0
 tables-blank {seen} {queue} B s q =
     record {
       seenLong = s;

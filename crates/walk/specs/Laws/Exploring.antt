@@ -10,7 +10,7 @@ use native.Mathlib.Numerals.{add-one}
 use lib.ListN.{length, getD, getElem?}
 use Rattle.explore.specs.Search as Search
 use Rattle.explore.specs.Search.{Found, search, sweep}
-use Rattle.explore.specs.SearchLaws.{search-end, search-found, search-on}
+use Rattle.explore.specs.Laws.Search.{search-end, search-found, search-on}
 use Rattle.numbers.specs.Laws.Parts.{one-more}
 use Rattle.model.specs.Verdict.{Pair}
 use Rattle.model.specs.Judge.{same}
@@ -19,7 +19,7 @@ use Rattle.walk.specs.declared.pairs.Node.{Node}
 use Rattle.walk.specs.declared.search.Outcome.{Outcome}
 use Rattle.walk.specs.declared.search.Outcome.the-variants as Answer
 use Rattle.tables.specs.Kinds.{reachedOf}
-use Rattle.walk.specs.Pairs.{mostPairs, sideOf, decode, pairOf, NodeFits}
+use Rattle.walk.specs.Pairs.{mostCodes, sideOf, decode, pairOf, NodeFits}
 use Rattle.tables.specs.Laws.Lookup.{reached-small}
 use Rattle.walk.specs.Laws.Pairs.{after-side}
 use Rattle.walk.specs.Marks.{foundAt, view, Tables, Pushed, Swept}
@@ -37,18 +37,18 @@ view-place seen (c ∷ queue) (suc tail) (suc k) h g = view-place seen queue tai
 pub record Exploring (M : ℕ) (δ : Pair → ℕ → Option Pair) (p : Pair → Bool) (seen queue : List ℕ) (tail k : ℕ) (o : Search.Outcome Pair) : Type 0 where
   pub tables : Tables seen queue tail
   pub taken : k ≤ tail
-  pub is : search M δ same p (mostPairs - k) k (view seen queue tail) ≡ o
+  pub is : search M δ same p (mostCodes - k) k (view seen queue tail) ≡ o
 
 module _ {M : ℕ} {δ : Pair → ℕ → Option Pair} {p : Pair → Bool} {seen queue : List ℕ} {tail : ℕ} where
-  pub exploring-begin : Tables seen queue tail → Exploring M δ p seen queue tail 0 (search M δ same p mostPairs 0 (view seen queue tail))
-  exploring-begin T = record { tables = T; taken = omega arith; is = ap (λ n. search M δ same p n 0 (view seen queue tail)) (sub-zero mostPairs) }
+  pub exploring-begin : Tables seen queue tail → Exploring M δ p seen queue tail 0 (search M δ same p mostCodes 0 (view seen queue tail))
+  exploring-begin T = record { tables = T; taken = omega arith; is = ap (λ n. search M δ same p n 0 (view seen queue tail)) (sub-zero mostCodes) }
 
   module _ {k : ℕ} {o : Search.Outcome Pair} (E : Exploring M δ p seen queue tail k o) where
     pub exploring-end : tail ≤ k → Answered seen queue (Answer.Finished tail) o
     exploring-end h =
         record {
           is =
-              sym (search-end M δ same p (mostPairs - k) k (view seen queue tail) (omega (arith, view-length (E .tables)))) ∙ E .is;
+              sym (search-end M δ same p (mostCodes - k) k (view seen queue tail) (omega (arith, view-length (E .tables)))) ∙ E .is;
           tables = E .tables;
           within = tt;
         }
@@ -60,7 +60,7 @@ module _ {M : ℕ} {δ : Pair → ℕ → Option Pair} {p : Pair → Bool} {seen
       at-place : getElem? (view seen queue tail) k ≡ some f
       at-place = view-place seen queue tail k h (omega (arith, tables-most (E .tables), E .tables .queueLong))
 
-      fuel : mostPairs - k ≡ suc (mostPairs - (k + 1))
+      fuel : mostCodes - k ≡ suc (mostCodes - (k + 1))
       fuel = one-more (omega (arith, tables-most (E .tables)))
 
       pub exploring-found : p (decode (getD queue k 0)) ≡ true → Answered seen queue (Answer.Found k tail) o
@@ -68,7 +68,7 @@ module _ {M : ℕ} {δ : Pair → ℕ → Option Pair} {p : Pair → Bool} {seen
           record {
             is =
                 sym (ap (λ n. search M δ same p n k (view seen queue tail)) fuel
-                ∙ search-found M δ same p (mostPairs - (k + 1)) k (view seen queue tail) f at-place t)
+                ∙ search-found M δ same p (mostCodes - (k + 1)) k (view seen queue tail) f at-place t)
                 ∙ E .is;
             tables = E .tables;
             within = h;
@@ -81,10 +81,10 @@ module _ {M : ℕ} {δ : Pair → ℕ → Option Pair} {p : Pair → Bool} {seen
             tables = w .shows .tables;
             taken = omega (arith, swept-more (E .tables) w);
             is =
-                ap (search M δ same p (mostPairs - (k + 1)) (k + 1)) (w .shows .is)
-                ∙ ap (λ n. search M δ same p (mostPairs - (k + 1)) n (sweep δ same (decode (getD queue k 0)) k M 0 (view seen queue tail))) (add-one k)
+                ap (search M δ same p (mostCodes - (k + 1)) (k + 1)) (w .shows .is)
+                ∙ ap (λ n. search M δ same p (mostCodes - (k + 1)) n (sweep δ same (decode (getD queue k 0)) k M 0 (view seen queue tail))) (add-one k)
                 ∙ sym (ap (λ n. search M δ same p n k (view seen queue tail)) fuel
-                ∙ search-on M δ same p (mostPairs - (k + 1)) k (view seen queue tail) f at-place t)
+                ∙ search-on M δ same p (mostCodes - (k + 1)) k (view seen queue tail) f at-place t)
                 ∙ E .is;
           }
 

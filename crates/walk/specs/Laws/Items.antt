@@ -19,25 +19,25 @@ use Rattle.model.specs.Laws.Searches.{search-is}
 use Rattle.model.specs.Laws.Lengths.{taken, shown-bound}
 use Rattle.walk.specs.declared.pairs.Walk.{Walk}
 use Rattle.walk.specs.declared.judge.Judged.{Judged}
-use Rattle.walk.specs.Pairs.{stride, mostPairs}
+use Rattle.walk.specs.Pairs.{stride, mostCodes}
 use Rattle.walk.specs.Over.{walkOver, Over}
-use Rattle.walk.specs.Judged.{judgedOver, ShownFits, saidJudged, Judges, Counts}
+use Rattle.walk.specs.Judged.{judgedOver, ShownFits, saidJudged, WalkJudged, Counts}
 use Rattle.walk.specs.Laws.Judged.{judged-is}
 use Rattle.meaning.specs.Checking.{contentsLeast}
 
 -- so many states have no more pairs than there are numbers
-pairs-fit : (n : ℕ) → n ≤ mostPool → Verdict.mostPairs n ≤ mostPairs
+pairs-fit : (n : ℕ) → n ≤ mostPool → Verdict.mostPairs n ≤ mostCodes
 pairs-fit n h =
     let g : n + 1 ≤ stride = omega arith in
     let z : n * (n + 1) ≤ mostPool * stride = mul-le-mul h g in
     omega arith
 
 -- an item that has a walk is judged by it
-walk-judges : (S : Session) (i : Item) (B : Begun) → walkOf S i ≡ some B → searchWalk S mostPairs (some B) ≡ judgeBySearch S mostPairs i
+walk-judges : (S : Session) (i : Item) (B : Begun) → walkOf S i ≡ some B → searchWalk S mostCodes (some B) ≡ judgeBySearch S mostCodes i
 unfolding judgeBySearch
 walk-judges S start B e = absurd (Option·none-ne-some B e)
-walk-judges S (step c t τ) B e = ap (searchWalk S mostPairs) (sym e)
-walk-judges S (entry b d) B e = ap (searchWalk S mostPairs) (sym e)
+walk-judges S (step c t τ) B e = ap (searchWalk S mostCodes) (sym e)
+walk-judges S (entry b d) B e = ap (searchWalk S mostCodes) (sym e)
 
 module _ (arcs finals rows : List ℕ) (w : Walk) (root : Pair) (S : Session) (o : Over arcs finals (w .sum) S) (wf : WellFormed S)
     (few : S .pool .states ≤ mostPool) (i : Item) (item : IsItem S i) (at : walkOf S i ≡ some (record { walk = walkOver rows w; root = root })) where
@@ -45,22 +45,22 @@ module _ (arcs finals rows : List ℕ) (w : Walk) (root : Pair) (S : Session) (o
   judged-item =
       judged-is arcs finals rows w S o root
       ∙ walk-judges S i (record { walk = walkOver rows w; root = root }) at
-      ∙ search-is S wf mostPairs (pairs-fit (S .pool .states) few) i item
+      ∙ search-is S wf mostCodes (pairs-fit (S .pool .states) few) i item
 
-  pub item-fits : length (taken i) ≤ contentsLeast - mostPairs → ShownFits arcs finals rows w root
+  pub item-fits : length (taken i) ≤ contentsLeast - mostCodes → ShownFits arcs finals rows w root
   item-fits short =
       record {
         most = λ u e. omega (arith, shown-bound S wf i item u (sym judged-item ∙ e), pairs-fit (S .pool .states) few);
       }
 
   -- WHAT THE CODE'S ANSWER MEANS: it counts the different pairs of the item, or shows the least contents that speak against it
-  pub answer-means : {contents seen′ queue′ contents′ : List ℕ} {r : Judged} → Judges arcs finals rows w root contents seen′ queue′ contents′ r
+  pub answer-means : {contents seen′ queue′ contents′ : List ℕ} {r : Judged} → WalkJudged arcs finals rows w root contents seen′ queue′ contents′ r
       → JudgedMeans S i (saidJudged r contents′)
   answer-means j = subst (JudgedMeans S i) (sym (j .reply ∙ judged-item)) (judge-means S wf i item)
 
 -- its number is the size of the item's set of pairs
 pub judged-counts : {arcs finals rows : List ℕ} {w : Walk} {root : Pair} {contents seen′ queue′ contents′ : List ℕ} {r : Judged}
-    → Judges arcs finals rows w root contents seen′ queue′ contents′ r → Counts arcs finals rows w root r
+    → WalkJudged arcs finals rows w root contents seen′ queue′ contents′ r → Counts arcs finals rows w root r
 judged-counts {arcs} {finals} {rows} {w} {root} {contents′ = contents′} j =
     record {
       size = λ S i W n e.
@@ -69,6 +69,6 @@ judged-counts {arcs} {finals} {rows} {w} {root} {contents′ = contents′} j =
     }
 
 pub with-counts : {arcs finals rows : List ℕ} {w : Walk} {root : Pair} {contents seen′ queue′ contents′ : List ℕ} {r : Judged}
-    → Judges arcs finals rows w root contents seen′ queue′ contents′ r
-    → Judges arcs finals rows w root contents seen′ queue′ contents′ r × Counts arcs finals rows w root r
+    → WalkJudged arcs finals rows w root contents seen′ queue′ contents′ r
+    → WalkJudged arcs finals rows w root contents seen′ queue′ contents′ r × Counts arcs finals rows w root r
 with-counts j = (j, judged-counts j)

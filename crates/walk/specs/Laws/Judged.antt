@@ -9,7 +9,7 @@ use lib.ListN.{length, getD, take, drop}
 use lib.Seq.{take-at}
 use Rattle.explore.specs.Search as Search
 use Rattle.explore.specs.Search.{traceFrom, trace}
-use Rattle.explore.specs.Agree.{trace-step}
+use Rattle.explore.specs.Laws.Agree.{trace-step}
 use Rattle.model.specs.Session.{Session}
 use Rattle.model.specs.Verdict.{Pair}
 use Rattle.model.specs.Judge as Judge
@@ -18,7 +18,7 @@ use Rattle.model.specs.Searched.{settled, searched}
 use Rattle.walk.specs.declared.pairs.Walk.{Walk}
 use Rattle.walk.specs.declared.search.Outcome.the-variants.{Found, Finished}
 use Rattle.walk.specs.declared.judge.Judged.the-variants.{Passes, Fails}
-use Rattle.walk.specs.Pairs.{mostPairs}
+use Rattle.walk.specs.Pairs.{mostCodes}
 use Rattle.walk.specs.Marks.{foundAt, view, Tables, Blank}
 use Rattle.walk.specs.Laws.Marks.{tables-most, view-length}
 use Rattle.walk.specs.Over.{walkOver, goOver, searchOver, Over}
@@ -26,7 +26,7 @@ use Rattle.walk.specs.Laws.Over.{searched-over, go-is}
 use Rattle.walk.specs.Laws.Exploring.{view-place}
 use Rattle.walk.specs.Answers.{Answered}
 use Rattle.walk.specs.Shown.{parentOf, partOver, edgeLetter, shownFrom, shownOver, Shown}
-use Rattle.walk.specs.Judged.{contentsOver, settledOver, judgedOver, shownOf, Judges}
+use Rattle.walk.specs.Judged.{contentsOver, settledOver, judgedOver, shownOf, WalkJudged}
 
 -- letters one after the other
 contents-append : (rows : List ℕ) (w : Walk) (u v : List ℕ) → contentsOver rows w (u ++ v) ≡ contentsOver rows w u ++ contentsOver rows w v
@@ -82,7 +82,7 @@ module _ (arcs finals rows : List ℕ) (w : Walk) (root : Pair) {seen queue : Li
 -- what the code answers then
 module _ {arcs finals rows : List ℕ} {w : Walk} {root : Pair} {contents seen queue : List ℕ} where
   pub judges-passes : {n : ℕ} → judgedOver arcs finals rows w root ≡ passes n → Blank seen queue
-      → Judges arcs finals rows w root contents seen queue contents (Passes n)
+      → WalkJudged arcs finals rows w root contents seen queue contents (Passes n)
   judges-passes e b =
       record {
         reply = sym e;
@@ -92,7 +92,7 @@ module _ {arcs finals rows : List ℕ} {w : Walk} {root : Pair} {contents seen q
       }
 
   pub judges-fails : {u contents′ : List ℕ} {n : ℕ} → judgedOver arcs finals rows w root ≡ fails u → Blank seen queue → Shown u contents contents′ n
-      → Judges arcs finals rows w root contents seen queue contents′ (Fails n)
+      → WalkJudged arcs finals rows w root contents seen queue contents′ (Fails n)
   judges-fails {u} {contents′} {n} e b s =
       record {
         reply =
@@ -126,6 +126,6 @@ module _ (arcs finals rows : List ℕ) (w : Walk) (S : Session) (o : Over arcs f
       ∙ contents-are (reverse (trace (suc (w .sum)) (goOver arcs rows w) same L k)))
   settled-is (Search.finished L) = refl
 
-  pub judged-is : (root : Pair) → judgedOver arcs finals rows w root ≡ searched S mostPairs W root
+  pub judged-is : (root : Pair) → judgedOver arcs finals rows w root ≡ searched S mostCodes W root
   unfolding judgedOver
   judged-is root = sym (searched-over arcs finals rows w S o root ∙ settled-is (searchOver arcs finals rows w root))

@@ -14,7 +14,7 @@ use Rattle.explore.specs.Explore.{seen as isSeen}
 use Rattle.explore.specs.Search.{Found, push, sweep}
 use Rattle.model.specs.Verdict.{Pair}
 use Rattle.model.specs.Judge.{same}
-use Rattle.walk.specs.Pairs.{mostPairs, decode}
+use Rattle.walk.specs.Pairs.{mostCodes, decode}
 use Rattle.walk.specs.Laws.Pairs.{same-codes}
 use Rattle.walk.specs.Marks.{foundAt, view, mem, count, Tables, Shows, Pushed, Swept}
 
@@ -94,7 +94,7 @@ push-new : (h : ℕ) (y : Pair) (L : List (Found Pair)) → isSeen (λ f. f .at)
 push-new h y L t = rw (t, push)
 
 module _ {seen queue : List ℕ} {tail : ℕ} (T : Tables seen queue tail) where
-  pub tables-most : tail ≤ mostPairs
+  pub tables-most : tail ≤ mostCodes
   tables-most = omega (arith, T .counted, T .seenLong, count-most seen)
 
   pub view-length : length (view seen queue tail) ≡ tail
@@ -120,8 +120,8 @@ module _ {seen queue : List ℕ} {tail : ℕ} (T : Tables seen queue tail) where
             };
       }
 
-  module _ (h c : ℕ) (small : c < mostPairs) (e : getD seen c 0 ≡ 0) where
-    pub tables-room : tail < mostPairs
+  module _ (h c : ℕ) (small : c < mostCodes) (e : getD seen c 0 ≡ 0) where
+    pub tables-room : tail < mostCodes
     tables-room = omega (arith, T .counted, T .seenLong, count-room seen c (omega (arith, T .seenLong)) e)
 
     absent : mem c (take tail queue) ≡ false
@@ -179,7 +179,7 @@ module _ {seen queue : List ℕ} {tail : ℕ} (T : Tables seen queue tail) where
                   queueLong = length-set queue tail c ∙ T .queueLong;
                   counted = omega (arith, count-set seen c h in-seen e, T .counted);
                   known = new-known;
-                  codes = λ k. at-place (λ a. a < mostPairs) k (λ z. small) (λ z. T .codes k);
+                  codes = λ k. at-place (λ a. a < mostCodes) k (λ z. small) (λ z. T .codes k);
                   rest = λ k g. at-place (λ a. a ≡ 0) k (λ z. absurd (omega arith)) (λ z. T .rest k (omega arith));
                   earlier = new-earlier parent;
                 };

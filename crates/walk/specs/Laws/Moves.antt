@@ -24,7 +24,7 @@ use Rattle.walk.specs.declared.moves.Next.the-variants as Answer
 use Rattle.tables.specs.Kinds.{reachedOf}
 use Rattle.walk.specs.Pairs.{nowhere, afterSide, sideOf, pairOf, Coded}
 use Rattle.tables.specs.Laws.Lookup.{reached-nowhere, reached-state, reached-small}
-use Rattle.walk.specs.Over.{poolOver, wordOver, readOver, jumpOver, WordWithin, Reads, Follows}
+use Rattle.walk.specs.Over.{poolOver, wordOver, readOver, jumpOver, WordWithin, MessageRead, Follows}
 use Rattle.walk.specs.Leads.{LeadsTo}
 
 pub arc-is : (arcs : List ℕ) (s m : ℕ) → m < mostMessages → arcOf arcs s m ≡ arcAt arcs s m
@@ -35,7 +35,7 @@ along-is : (arcs : List ℕ) (o : Option ℕ) {m : ℕ} → m < mostMessages →
 along-is arcs none h = refl
 along-is arcs (some s) {m} h = arc-is arcs s m h
 
-pub reads-along : {arcs : List ℕ} {t m k r : ℕ} → m ≡ k → k < mostMessages → AlongTo arcs t m r → Reads arcs t k r
+pub reads-along : {arcs : List ℕ} {t m k r : ℕ} → m ≡ k → k < mostMessages → AlongTo arcs t m r → MessageRead arcs t k r
 reads-along {arcs} {t} e h a =
     record { is = a .is ∙ ap (alongArc arcs (reachedOf t)) e ∙ sym (along-is arcs (reachedOf t) h); most = a .most }
 
@@ -58,7 +58,7 @@ pub follow-begin : {arcs rows : List ℕ} {at n t : ℕ} → t ≤ mostPool → 
 follow-begin h = record { is = rw (add-zero, sub-zero); most = h }
 
 pub follow-next : {arcs rows : List ℕ} {at n t i s r : ℕ} → Following arcs rows at n t i s → i < n → WordWithin rows at n
-    → Reads arcs s (getD rows (at + i) 0) r → Following arcs rows at n t (i + 1) r
+    → MessageRead arcs s (getD rows (at + i) 0) r → Following arcs rows at n t (i + 1) r
 follow-next {arcs} {rows} {at} {n} {t} {i} {s} f h g z =
     record {
       is =
@@ -105,7 +105,7 @@ leads-as e l = record { is = l .is ∙ e; small = l .small }
 pub read-missing : (arcs : List ℕ) (entry : Bool) (k s : ℕ) (t : Option ℕ) (m : ℕ) → m < mostMessages → arcAt arcs s m ≡ none → readOver arcs entry k s t m ≡ none
 read-missing arcs entry k s t m h e = ap (λ o. pair entry (sideOf k) o (along (poolOver arcs) t m)) (arc-is arcs s m h ∙ e)
 
-pub read-is : {arcs : List ℕ} (entry : Bool) (k s m : ℕ) {t s′ t′ : ℕ} → m < mostMessages → arcAt arcs s m ≡ some s′ → Reads arcs t m t′
+pub read-is : {arcs : List ℕ} (entry : Bool) (k s m : ℕ) {t s′ t′ : ℕ} → m < mostMessages → arcAt arcs s m ≡ some s′ → MessageRead arcs t m t′
     → pair entry (sideOf k) (some s′) (reachedOf t′) ≡ readOver arcs entry k s (reachedOf t) m
 read-is {arcs} entry k s m h e z = ap₂ (pair entry (sideOf k)) (sym (arc-is arcs s m h ∙ e)) (z .is)
 

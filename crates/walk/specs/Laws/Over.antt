@@ -15,7 +15,7 @@ use Rattle.model.specs.Judge as Judge
 use Rattle.model.specs.Judge.{same, pair, read, jump, go, wrong}
 use Rattle.model.specs.Searched.{settled, searched}
 use Rattle.walk.specs.declared.pairs.Walk.{Walk}
-use Rattle.walk.specs.Pairs.{mostPairs}
+use Rattle.walk.specs.Pairs.{mostCodes}
 use Rattle.walk.specs.Over.{poolOver, walkOver, jumpOver, goOver, wrongOver, searchOver, Over}
 
 module _ (arcs finals rows : List ℕ) (w : Walk) (S : Session) (o : Over arcs finals (w .sum) S) where
@@ -60,8 +60,8 @@ module _ (arcs finals rows : List ℕ) (w : Walk) (S : Session) (o : Over arcs f
   pub go-is : go S W ≡ goOver arcs rows w
   go-is = fun-ext (λ x. fun-ext (λ m. go-over x m))
 
-  pub searched-over : (root : Pair) → searched S mostPairs W root ≡ settled S W (searchOver arcs finals rows w root)
+  pub searched-over : (root : Pair) → searched S mostCodes W root ≡ settled S W (searchOver arcs finals rows w root)
   unfolding searched
   searched-over root =
-      ap (λ k. settled S W (searchFrom (suc k) (go S W) same (wrong S W) root mostPairs)) (o .letters)
-      ∙ ap₂ (λ δ p. settled S W (searchFrom (suc (w .sum)) δ same p root mostPairs)) go-is (fun-ext wrong-over)
+      ap (λ k. settled S W (searchFrom (suc k) (go S W) same (wrong S W) root mostCodes)) (o .letters)
+      ∙ ap₂ (λ δ p. settled S W (searchFrom (suc (w .sum)) δ same p root mostCodes)) go-is (fun-ext wrong-over)

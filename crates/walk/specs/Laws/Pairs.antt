@@ -13,7 +13,7 @@ use Rattle.model.specs.Judge.{same}
 use Rattle.model.specs.Laws.Judging.{same-equality}
 use Rattle.walk.specs.declared.pairs.Node.{Node}
 use Rattle.tables.specs.Kinds.{reachedOf}
-use Rattle.walk.specs.Pairs.{nowhere, stride, afterSide, mostPairs, sideOf, decode, reachedCode, code, NodeFits, Coded, NodeOf}
+use Rattle.walk.specs.Pairs.{nowhere, stride, afterSide, mostCodes, sideOf, decode, reachedCode, code, NodeFits, Coded, NodeOf}
 
 reached-code : (t : ℕ) → reachedCode (reachedOf t) ≡ t
 reached-code t = byTest (eqb t nowhere) refl
@@ -90,7 +90,7 @@ pub node-low : (c : ℕ) → c < afterSide → NodeOf c (record { side = 0; sour
 node-low c h =
     record { fits = record { side = inl refl; source = omega arith; target = omega arith }; is = decode-low c h }
 
-pub node-high : (c : ℕ) → afterSide ≤ c → c < mostPairs
+pub node-high : (c : ℕ) → afterSide ≤ c → c < mostCodes
     → NodeOf c (record { side = afterSide; source = record { 0 = (c - afterSide) / stride }; target = record { 0 = (c - afterSide) % stride } })
 node-high c h g =
     record { fits = record { side = inr refl; source = omega arith; target = omega arith }; is = decode-high c h }

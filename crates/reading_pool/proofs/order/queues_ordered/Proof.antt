@@ -6,7 +6,7 @@ use native.Mathlib.Nat.{sub-zero, sub-eq-zero-of-le, add-sub-cancel-left}
 use native.Mathlib.Numerals.{add-one}
 use borrow.Author.Tests.{not-true, not-false}
 use Rattle.numbers.specs.Laws.Parts.{one-more}
-use Rattle.tables.specs.Queues.{firstOf}
+use Rattle.tables.specs.Queues.{firstMessage}
 use Rattle.tables.specs.Laws.Queues.{end-within, first-step}
 use Rattle.reading_pool.specs.Lowest.{queuesOrdered}
 use Rattle.reading_pool.specs.Laws.Testing.{queues-on, queues-fail}
@@ -18,14 +18,14 @@ use Rattle.reading_pool.proofs.order.states_ordered.Reads as states-ord
 
 abbrev Inv-loop : tie.InvT-loop
 Inv-loop arcs lows n count counts first₀ q₀ first q =
-    (queuesOrdered arcs lows n counts (count - q) q first ≡ queuesOrdered arcs lows n counts count 0 0) × (q ≤ count) × (first ≡ firstOf counts q)
+    (queuesOrdered arcs lows n counts (count - q) q first ≡ queuesOrdered arcs lows n counts count 0 0) × (q ≤ count) × (first ≡ firstMessage counts q)
 
 abbrev μ-loop : tie.MeasureT-loop
 μ-loop arcs lows n count counts first₀ q₀ first q = count - q
 
 -- src/order.rt:79:5
 loop-holds : tie.Need-loop-holds Inv-loop μ-loop
-unfolding firstOf
+unfolding firstMessage
 loop-holds c = (rw sub-zero, omega arith, refl)
 
 -- src/order.rt:80:27

@@ -3,7 +3,7 @@ use Prim.Native.Nat.{_≤_, _-_, _*_}
 use mathlib.Core.Path.{_≡_, refl, sym, ap, _∙_}
 use native.Mathlib.Omega.{arith}
 use native.Mathlib.Numerals.{add-one}
-use Rattle.tables.specs.Queues.{firstOf}
+use Rattle.tables.specs.Queues.{firstMessage}
 use Rattle.tables.proofs.spans.messages_of.Statement.{statement}
 use Rattle.tables.proofs.spans.messages_of.Tie as tie
 use Rattle.tables.proofs.spans.messages_of.Reads as reads
@@ -12,14 +12,14 @@ use Rattle.numbers.proofs.number.entry.Reads as entry-reads
 use Rattle.numbers.proofs.number.wide.Reads as wide-reads
 
 abbrev Inv-loop : tie.InvT-loop
-Inv-loop queue counts lo₀ i₀ lo i = (lo ≡ firstOf counts i) × (i ≤ queue) × (lo ≤ 255 * i)
+Inv-loop queue counts lo₀ i₀ lo i = (lo ≡ firstMessage counts i) × (i ≤ queue) × (lo ≤ 255 * i)
 
 abbrev μ-loop : tie.MeasureT-loop
 μ-loop queue counts lo₀ i₀ lo i = queue - i
 
 -- src/queues.rt:99:5
 loop-holds : tie.Need-loop-holds Inv-loop μ-loop
-unfolding firstOf
+unfolding firstMessage
 loop-holds c = (refl, omega arith, omega arith)
 
 -- src/queues.rt:100:30
@@ -52,7 +52,7 @@ loop-less c = search needs
 
 -- src/queues.rt:99:5
 loop-again : tie.Need-loop-again Inv-loop μ-loop
-unfolding firstOf
+unfolding firstMessage
 loop-again c = (rw (add-one, c .wide .ensures .same, c .before .entry .ensures, c .before .before .before .before .loop .inv .0), omega arith, omega arith)
 
 -- src/queues.rt:103:30
@@ -73,10 +73,10 @@ add-hi c = search needs
 
 -- src/queues.rt:94:1
 returns : tie.Need-returns Inv-loop μ-loop
-unfolding firstOf
+unfolding firstMessage
 returns c =
     let e : c .before .before .before .before .loop .i ≡ c .before .before .before .before .before .args .queue = omega arith in
-    let lo : c .before .before .before .before .loop .lo ≡ firstOf (c .before .before .before .before .before .args .t1) (c .before .before .before .before .before .args .queue) = rw (← e) (c .before .before .before .before .loop .inv .0) in
+    let lo : c .before .before .before .before .loop .lo ≡ firstMessage (c .before .before .before .before .before .args .t1) (c .before .before .before .before .before .args .queue) = rw (← e) (c .before .before .before .before .loop .inv .0) in
     record { lo = lo; hi = rw (c .wide2 .ensures .same, c .before .entry2 .ensures, lo) }
 
 pub messages-of-spec : {M : Type 1} → statement M

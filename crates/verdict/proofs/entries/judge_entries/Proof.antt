@@ -5,10 +5,10 @@ use mathlib.Core.List.{List}
 use native.Mathlib.Omega.{arith}
 use lib.ListN.{length}
 use denote.Ref.{now}
-use Rattle.walk.specs.Pairs.{mostPairs}
+use Rattle.walk.specs.Pairs.{mostCodes}
 use Rattle.model.specs.Verdict.{entriesFrom}
 use Rattle.model.specs.Judge.{decide}
-use Rattle.meaning.specs.Tables.{sessionOf, entriesFrom as entriesIn}
+use Rattle.meaning.specs.Tables.{sessionOf, badFrom as entriesIn}
 use Rattle.verdict.specs.Judging.{EntryParts, AllBad}
 use Rattle.verdict.specs.Laws.Sequence.{Going, goes-on, ends, entriesHere, entries-link, entries-end, entries-begin}
 use Rattle.verdict.proofs.Stops.{stops}
@@ -21,7 +21,7 @@ use Rattle.meaning.specs.Checking.{contentsLeast}
 
 abbrev Inv-loop : tie.InvT-loop
 Inv-loop q rows arcs finals roots entries count pairs seen₀ queue₀ contents₀ sum₀ b₀ seen queue contents sum b =
-    Going (λ T. EntryParts T q rows arcs finals roots × AllBad entries count T) (pairs + mostPairs * b)
+    Going (λ T. EntryParts T q rows arcs finals roots × AllBad entries count T) (pairs + mostCodes * b)
     (λ T. decide (sessionOf T) (entriesFrom 0 (entriesIn entries count 0)) pairs)
     (λ T. entriesHere entries count b T sum) contents₀ sum contents seen queue
     × (b ≤ count)

@@ -3,7 +3,7 @@ use mathlib.Core.Path.{subst, _∙_}
 use native.Mathlib.Omega.{arith}
 use Rattle.tables.specs.Limits.{mostControls, mostPool}
 use Rattle.tables.specs.Laws.Kinds.{made-is}
-use Rattle.walk.specs.Pairs.{mostPairs}
+use Rattle.walk.specs.Pairs.{mostCodes}
 use Rattle.walk.specs.declared.judge.Judged.{Judged}
 use Rattle.verdict.specs.Judging.{pairsOf}
 use Rattle.verdict.specs.Laws.Walked.{entry-root}
@@ -74,7 +74,7 @@ enum-known-more c = search needs
 -- src/entries.rt:58:50
 add-t31 : tie.Need-add-t31
 add-t31 c =
-    let f = subst (λ (r : Judged). pairsOf r ≤ mostPairs) (c .before .more .given .1) (c .before .before .before .before .before .before .before .before .before .judge-entry .ensures .few) in
+    let f = subst (λ (r : Judged). pairsOf r ≤ mostCodes) (c .before .more .given .1) (c .before .before .before .before .before .before .before .before .before .judge-entry .ensures .few) in
     omega (arith, f, c .before .before .before .before .before .before .before .before .before .before .before .before .before .before .before .before .before .before .before .before .before .before .before .before .before .before .before .pre .1 .0)
 
 -- src/entries.rt:23:1

@@ -1,4 +1,4 @@
-use Rattle.walk.specs.Pairs.{mostPairs}
+use Rattle.walk.specs.Pairs.{mostCodes}
 use Rattle.verdict.specs.Laws.Judged.{machines-asked, count-most}
 use borrow.Author.Needs.{needs}
 use Prim.Native.Nat.{ℕ, _+_, _*_, _-_, _≤_}
@@ -24,7 +24,7 @@ use Rattle.meaning.specs.Checking.{contentsLeast}
 
 abbrev Inv-loop : tie.InvT-loop
 Inv-loop m q rows arcs finals roots c count pairs seen₀ queue₀ contents₀ sum₀ i₀ seen queue contents sum i =
-    Going (λ T. Parts T m q rows arcs finals roots count) (pairs + mostPairs * i)
+    Going (λ T. Parts T m q rows arcs finals roots count) (pairs + mostCodes * i)
     (λ T. decide (sessionOf T) (stepsAt (sessionOf T .model) (c .0) 0 (transitionsFrom rows count 0)) pairs)
     (λ T. stepsHere rows (c .0) count i T sum) contents₀ sum contents seen queue
     × (i ≤ count)

@@ -1,4 +1,4 @@
-use Rattle.walk.specs.Pairs.{mostPairs}
+use Rattle.walk.specs.Pairs.{mostCodes}
 use Rattle.verdict.specs.Laws.Judged.{machines-asked, rows-long, count-most, row-asked}
 use Rattle.controls.specs.Controls.{IsAt}
 use mathlib.Core.Path.{subst}
@@ -48,7 +48,7 @@ enum-known-more c = search needs
 -- src/steps.rt:47:50
 add-t26 : tie.Need-add-t26
 add-t26 c =
-    let f = subst (λ (r : Judged). pairsOf r ≤ mostPairs) (c .before .more .given .1) (c .before .before .before .before .before .before .before .before .before .judge-step .ensures .few) in
+    let f = subst (λ (r : Judged). pairsOf r ≤ mostCodes) (c .before .more .given .1) (c .before .before .before .before .before .before .before .before .before .judge-step .ensures .few) in
     omega (arith, f, c .before .before .before .before .before .before .before .before .before .before .before .before .before .before .before .before .before .before .before .before .before .before .pre .1 .0)
 
 -- src/steps.rt:21:1

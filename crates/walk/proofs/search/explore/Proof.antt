@@ -4,7 +4,7 @@ use Prim.Native.Nat.{suc, _-_}
 use mathlib.Core.Path.{sym, ap, _∙_}
 use Rattle.explore.specs.Search.{search as searched}
 use Rattle.model.specs.Judge.{same}
-use Rattle.walk.specs.Pairs.{mostPairs, decode}
+use Rattle.walk.specs.Pairs.{mostCodes, decode}
 use Rattle.walk.specs.Marks.{view}
 use Rattle.walk.specs.Laws.Marks.{tables-most}
 use Rattle.walk.specs.Over.{goOver, wrongOver}
@@ -20,10 +20,10 @@ use Rattle.walk.proofs.search.fails.Reads as fails-reads
 use Rattle.walk.proofs.search.visit.Reads as visit-reads
 
 abbrev Inv-loop : tie.InvT-loop
-Inv-loop arcs finals rows w seen₀ queue₀ found tail₀ k₀ seen queue tail k = Exploring (suc (w .sum)) (goOver arcs rows w) (wrongOver finals (w .entry)) seen queue tail k (searched (suc (w .sum)) (goOver arcs rows w) same (wrongOver finals (w .entry)) mostPairs 0 (view seen₀ queue₀ found))
+Inv-loop arcs finals rows w seen₀ queue₀ found tail₀ k₀ seen queue tail k = Exploring (suc (w .sum)) (goOver arcs rows w) (wrongOver finals (w .entry)) seen queue tail k (searched (suc (w .sum)) (goOver arcs rows w) same (wrongOver finals (w .entry)) mostCodes 0 (view seen₀ queue₀ found))
 
 abbrev μ-loop : tie.MeasureT-loop
-μ-loop arcs finals rows w seen₀ queue₀ found tail₀ k₀ seen queue tail k = mostPairs - k
+μ-loop arcs finals rows w seen₀ queue₀ found tail₀ k₀ seen queue tail k = mostCodes - k
 
 -- src/search.rt:129:5
 loop-holds : tie.Need-loop-holds Inv-loop μ-loop

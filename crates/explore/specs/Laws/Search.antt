@@ -6,14 +6,14 @@ use mathlib.Core.List.{List, [], _∷_, _++_, append-nil, append-assoc}
 use Prim.Native.Nat.{ℕ, zero, suc, _+_, _≤_}
 use native.Mathlib.Omega.{arith}
 use lib.ListN.{length, length-append, getElem?}
-use Rattle.explore.specs.MemLaws.{empty, append-move}
+use Rattle.explore.specs.Laws.Mem.{empty, append-move}
 use Rattle.explore.specs.Explore.{Entry, starts, children, fresh, expand, rounds, explore, firstBy, IsEquality}
 use Rattle.explore.specs.Search.{Found, Outcome, found, finished, sweep, search, searchFrom, trace}
-use Rattle.explore.specs.Expand.{expand-extends}
-use Rattle.explore.specs.First.{first-append, first-here, first-skip}
-use Rattle.explore.specs.Places.{place-seam, place-end, counterpart}
-use Rattle.explore.specs.Agree.{Agree, agree-length, trace-is}
-use Rattle.explore.specs.Sweep.{sweep-agrees}
+use Rattle.explore.specs.Laws.Expand.{expand-extends}
+use Rattle.explore.specs.Laws.First.{first-append, first-here, first-skip}
+use Rattle.explore.specs.Laws.Places.{place-seam, place-end, counterpart}
+use Rattle.explore.specs.Laws.Agree.{Agree, agree-length, trace-is}
+use Rattle.explore.specs.Laws.Sweep.{sweep-agrees}
 
 module _ {Node : Type 0} (M : ℕ) (δ : Node → ℕ → Option Node) (same : Node → Node → Bool) (p : Node → Bool) where
   -- the place holds the first entry with the property, and its word

@@ -10,9 +10,9 @@ use native.Mathlib.Nat.{add-zero, zero-add}
 use lib.ListN.{getElem?}
 use Rattle.explore.specs.Mem.{Mem, here, there, All, Ascending}
 use Rattle.explore.specs.Order.{Before, Earlier, NotAfter}
-use Rattle.explore.specs.OrderLaws.{before-longer, earlier-transitive}
+use Rattle.explore.specs.Laws.Order.{before-longer, earlier-transitive}
 use Rattle.explore.specs.Explore.{Entry, Precedes, extend, starts, childrenFrom, children}
-use Rattle.explore.specs.Expand.{Steady}
+use Rattle.explore.specs.Laws.Expand.{Steady}
 
 pub not-after : {Node : Type 0} (e f : Entry Node) → Precedes e f ⊎ (e ≡ f) → NotAfter (e .root) (e .word) (f .root) (f .word)
 not-after e f (inl p) = inl p

@@ -12,10 +12,10 @@ use lib.Seq.{append-snoc}
 use Rattle.explore.specs.Mem.{Mem, here, All}
 use Rattle.explore.specs.Explore.{Entry, extend, childrenFrom, seen, fresh, IsEquality}
 use Rattle.explore.specs.Search.{Found, push, sweep, lowest}
-use Rattle.explore.specs.Fresh.{Seen, seen-is, fresh-old, fresh-new}
-use Rattle.explore.specs.Entries.{childrenFrom-cases}
-use Rattle.explore.specs.Places.{place-left}
-use Rattle.explore.specs.Agree.{Agree, agree-more, agree-seen, lowest-is}
+use Rattle.explore.specs.Laws.Fresh.{Seen, seen-is, fresh-old, fresh-new}
+use Rattle.explore.specs.Laws.Entries.{childrenFrom-cases}
+use Rattle.explore.specs.Laws.Places.{place-left}
+use Rattle.explore.specs.Laws.Agree.{Agree, agree-more, agree-seen, lowest-is}
 
 -- where the letters below m lead is found already
 abbrev Swept : {Node : Type 0} → (Node → ℕ → Option Node) → Node → ℕ → List (Entry Node) → Type 0

@@ -11,7 +11,7 @@ use native.Mathlib.Decide.{decLt}
 use lib.ListN.{length, length-map, getElem?}
 use Rattle.explore.specs.Explore.{Entry, extend, seen, IsEquality}
 use Rattle.explore.specs.Search.{Found, leadsTo, lowest, lowestFrom, traceFrom}
-use Rattle.explore.specs.Places.{place-below, place-left, place-seam, place-last, counterpart}
+use Rattle.explore.specs.Laws.Places.{place-below, place-left, place-seam, place-last, counterpart}
 
 module _ {Node : Type 0} (M : ℕ) (δ : Node → ℕ → Option Node) (same : Node → Node → Bool) where
   -- the entry at the place after k was found from an earlier one, by the lowest letter

@@ -7,10 +7,10 @@ use native.Mathlib.Omega.{arith}
 use native.Mathlib.Nat.{le-refl}
 use lib.ListN.{length, length-append}
 use Rattle.explore.specs.Mem.{Mem, here, there, All, Ascending}
-use Rattle.explore.specs.MemLaws.{all-none, all-one, ascending-one, ascending-join}
+use Rattle.explore.specs.Laws.Mem.{all-none, all-one, ascending-one, ascending-join}
 use Rattle.explore.specs.Explore.{IsEquality, fresh, expand, rounds}
-use Rattle.explore.specs.Fresh.{Has, has-more, fresh-only, fresh-all, fresh-ascends, fresh-has}
-use Rattle.explore.specs.Expand.{Steady, Ordered, expand-keeps, expand-all, expand-ordered}
+use Rattle.explore.specs.Laws.Fresh.{Has, has-more, fresh-only, fresh-all, fresh-ascends, fresh-has}
+use Rattle.explore.specs.Laws.Expand.{Steady, Ordered, expand-keeps, expand-all, expand-ordered}
 
 -- all is in order and nothing is missing: neither children nor starts
 pub record Whole {E Node : Type 0} (node : E → Node) (children : E → List E) (R : E → E → Type 0) (starts Q : List E) : Type 0 where

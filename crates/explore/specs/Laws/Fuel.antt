@@ -7,9 +7,9 @@ use Prim.Native.Nat.{ℕ, zero, suc, _+_, _≤_}
 use native.Mathlib.Omega.{arith}
 use native.Mathlib.Nat.{le-refl}
 use lib.ListN.{length, length-append}
-use Rattle.explore.specs.MemLaws.{empty}
+use Rattle.explore.specs.Laws.Mem.{empty}
 use Rattle.explore.specs.Explore.{fresh, expand, rounds, starts, children, explore}
-use Rattle.explore.specs.Rounds.{rounds-longer}
+use Rattle.explore.specs.Laws.Rounds.{rounds-longer}
 
 module _ {E Node : Type 0} (node : E → Node) (same : Node → Node → Bool) (children : E → List E) where
   expand-nothing : (m : ℕ) (done : List E) → expand node same children m done [] ≡ done

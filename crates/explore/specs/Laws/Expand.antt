@@ -8,9 +8,9 @@ use Prim.Native.Nat.{ℕ, zero, suc, _+_, _≤_}
 use native.Mathlib.Omega.{arith}
 use lib.ListN.{length, length-append}
 use Rattle.explore.specs.Mem.{Mem, here, there, All, Ascending}
-use Rattle.explore.specs.MemLaws.{empty, append-move, ascending-join, ascending-across, ascending-right}
+use Rattle.explore.specs.Laws.Mem.{empty, append-move, ascending-join, ascending-across, ascending-right}
 use Rattle.explore.specs.Explore.{IsEquality, fresh, expand}
-use Rattle.explore.specs.Fresh.{Has, has-more, fresh-only, fresh-all, fresh-ascends, fresh-has}
+use Rattle.explore.specs.Laws.Fresh.{Has, has-more, fresh-only, fresh-all, fresh-ascends, fresh-has}
 
 -- what the order of entries has to do with their children
 pub record Steady {E : Type 0} (children : E → List E) (R : E → E → Type 0) : Type 0 where

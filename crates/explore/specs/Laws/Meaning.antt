@@ -8,19 +8,19 @@ use native.Mathlib.Omega.{arith}
 use native.Mathlib.Nat.{zero-add}
 use lib.ListN.{length, length-map}
 use Rattle.explore.specs.Mem.{Mem, All, Distinct, Ascending}
-use Rattle.explore.specs.MemLaws.{all-none, mem-map, map-mem, distinct-map}
+use Rattle.explore.specs.Laws.Mem.{all-none, mem-map, map-mem, distinct-map}
 use Rattle.explore.specs.Size.{Size}
-use Rattle.explore.specs.SizeLaws.{at-most, size-same}
+use Rattle.explore.specs.Laws.Size.{at-most, size-same}
 use Rattle.explore.specs.Order.{NotAfter, AtMost}
-use Rattle.explore.specs.OrderLaws.{not-after-transitive, not-after-cons, not-after-reads}
+use Rattle.explore.specs.Laws.Order.{not-after-transitive, not-after-cons, not-after-reads}
 use Rattle.explore.specs.Explore.{reach, leads, along, Reached, ReachedFrom, IsEquality, firstBy}
 use Rattle.explore.specs.Explore.{Entry, Precedes, extend, starts, children, explore}
-use Rattle.explore.specs.Fresh.{Apart, fresh-apart}
-use Rattle.explore.specs.Expand.{Ordered}
-use Rattle.explore.specs.Rounds.{Whole, rounds-keep, rounds-all, rounds-whole}
-use Rattle.explore.specs.Entries.{child-is, is-child, steady, starts-is, is-starts, starts-ascend, start-after, not-after}
-use Rattle.explore.specs.First.{none-has, first-precedes}
-use Rattle.explore.specs.Reach.{along-is, is-along, leads-nil, leads-cons, leads-one}
+use Rattle.explore.specs.Laws.Fresh.{Apart, fresh-apart}
+use Rattle.explore.specs.Laws.Expand.{Ordered}
+use Rattle.explore.specs.Laws.Rounds.{Whole, rounds-keep, rounds-all, rounds-whole}
+use Rattle.explore.specs.Laws.Entries.{child-is, is-child, steady, starts-is, is-starts, starts-ascend, start-after, not-after}
+use Rattle.explore.specs.Laws.First.{none-has, first-precedes}
+use Rattle.explore.specs.Laws.Reach.{along-is, is-along, leads-nil, leads-cons, leads-one}
 
 module _ {Node : Type 0} (M : ℕ) (δ : Node → ℕ → Option Node) (same : Node → Node → Bool) (equal : IsEquality same)
     (roots : List Node) (fuel : ℕ) where

@@ -6,7 +6,7 @@ use mathlib.Core.List.{List, [], _∷_, _++_, append-nil}
 use mathlib.Core.List.{List·Memᴰ·not-nil, Memᴰ·append-left, Memᴰ·append-right}
 use lib.Seq.{append-snoc}
 use Rattle.explore.specs.Mem.{Mem, here, there, All, Ascending}
-use Rattle.explore.specs.MemLaws.{all-one, all-join, ascending-one, ascending-join}
+use Rattle.explore.specs.Laws.Mem.{all-one, all-join, ascending-one, ascending-join}
 use Rattle.explore.specs.Explore.{IsEquality, seen, fresh}
 
 module _ {E Node : Type 0} (node : E → Node) where

@@ -9,10 +9,10 @@ use Rattle.explore.specs.Size.{Size}
 use Rattle.explore.specs.Order.{AtMost}
 use Rattle.explore.specs.Explore.{Entry, reach, ReachedFrom, IsEquality, explore}
 use Rattle.explore.specs.Search.{Found, Outcome, found, finished, searchFrom, trace}
-use Rattle.explore.specs.First.{first-has-it}
-use Rattle.explore.specs.Meaning.{sound-word, size-from, least-word, none-from}
-use Rattle.explore.specs.Agree.{agree-length}
-use Rattle.explore.specs.SearchLaws.{Answers, search-is}
+use Rattle.explore.specs.Laws.First.{first-has-it}
+use Rattle.explore.specs.Laws.Meaning.{sound-word, size-from, least-word, none-from}
+use Rattle.explore.specs.Laws.Agree.{agree-length}
+use Rattle.explore.specs.Laws.Search.{Answers, search-is}
 
 module _ {Node : Type 0} (M : ℕ) (δ : Node → ℕ → Option Node) (same : Node → Node → Bool) (p : Node → Bool) (r : Node) where
   -- the node at the place has the property, and the place's word is the least that reaches it
