@@ -3,19 +3,21 @@ use Prim.Native.Nat.{ℕ, _≤_}
 use mathlib.Core.Path.{_≡_}
 use mathlib.Core.List.{List}
 use lib.ListN.{length, take, replicate}
-use Rattle.walk.specs.Pairs.{mostCodes}
+use Rattle.pairs.specs.Pairs.{mostCodes}
 use Rattle.numbers.specs.Said.{numberOf, placeOf}
 use Rattle.tables.specs.declared.tables.Tables.{Tables}
 use Rattle.model.specs.Verdict.{closed, outside, leaves, bad}
 use Rattle.model.specs.Judge as Model
 use Rattle.meaning.specs.Tables.{sessionOf}
 use Rattle.meaning.specs.Reply.{FileReply, refused, verdict, shownOf}
-use Rattle.verdict.specs.Judging.{Kept}
-use Rattle.verdict.specs.declared.judged.Progress.{Progress}
-use Rattle.verdict.specs.declared.judged.Progress.the-variants as Progress
+use Rattle.items.specs.Judging.{Kept}
+use Rattle.items.specs.declared.judged.Progress.{Progress}
+use Rattle.items.specs.declared.judged.Progress.the-variants as Progress
 use Rattle.verdict.specs.declared.check.Verdict.{Verdict}
 use Rattle.verdict.specs.declared.check.Verdict.the-variants.{Closed, Outside, Leaves, Bad, Refused, ShortMemory}
 use Rattle.meaning.specs.Checking.{contentsLeast}
+use Rattle.items.specs.Promises.{Diagrams, Memory, AllWhose}
+use Rattle.tables.specs.declared.tables.Machines.{Machines}
 
 -- the contents shown stand at the front of the buffer at exit
 abbrev pub saidVerdict : Verdict → List ℕ → FileReply
@@ -60,3 +62,8 @@ pub record Concludes (P : Tables → Type 0) (seen₀ queue₀ contents₀ : Lis
   pub seen : seen₁ ≡ seen₀
   pub queue : queue₁ ≡ queue₀
   pub kept : Kept (shownIn r) contents₀ contents₁
+
+-- THE SAME, of what is lent in records
+abbrev pub VerdictFound : Machines → Diagrams → List ℕ → ℕ → ℕ → Memory → Verdict → Memory → Type 0
+VerdictFound m D entries count many M₀ r M₁ =
+    Concludes (AllWhose m D entries count many) (M₀ .seen) (M₀ .queue) (M₀ .contents) r (M₁ .seen) (M₁ .queue) (M₁ .contents)

@@ -1,26 +1,26 @@
 // Checking a session file: the verdict on the whole file, over memory that the caller lends.
 use crate::begin::begins_inside;
-use crate::items::judge_items;
-use crate::judged::Progress;
+use items::items::judge_items;
+use items::judged::Progress;
 use numbers::number::wide;
 use numbers::refusal::MOST_BYTES;
 use numbers::refusal::Refusal;
+use pairs::pairs::CODES;
 use session::reading::Answer;
 use session::reading::read;
 use tables::kinds::ControlState;
 use tables::tables::Machines;
 use tables::tables::Queues;
 use tables::tables::Tables;
-use walk::pairs::CODES;
 ghost use mathlib.Core.Path.{_≡_};
 ghost use mathlib.Core.List.{List};
 ghost use Prim.Native.Nat.{ℕ};
 ghost use lib.ListN.{length, replicate};
 ghost use Rattle.meaning.specs.Checking.{Checks, CheckMeans, CheckTwoRuns};
-ghost use Rattle.verdict.specs.Judging.{AllAsked};
-ghost use Rattle.verdict.specs.Check.{saidVerdict, Shows, concluded, Concludes, Room};
+ghost use Rattle.items.specs.Judging.{AllAsked};
+ghost use Rattle.verdict.specs.Check.{saidVerdict, Shows, concluded, Concludes, Room, VerdictFound};
 ghost use Rattle.tables.specs.Valid.{Valid};
-ghost use Rattle.verdict.specs.Promises.{diagrams, memory, VerdictFound};
+ghost use Rattle.items.specs.Promises.{diagrams, memory};
 
 // Entries that a scratch table needs, and bytes that a contents buffer needs.
 pub const TABLE_LEAST: usize = CODES;

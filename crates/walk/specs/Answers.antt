@@ -6,7 +6,7 @@ use Rattle.explore.specs.Search as Search
 use Rattle.model.specs.Verdict.{Pair}
 use Rattle.walk.specs.declared.search.Outcome.{Outcome}
 use Rattle.walk.specs.declared.search.Outcome.the-variants.{Found, Finished}
-use Rattle.walk.specs.Marks.{Tables, view}
+use Rattle.pairs.specs.Marks.{Tables, view}
 
 -- how many pairs were found
 abbrev pub tailOf : Outcome → ℕ

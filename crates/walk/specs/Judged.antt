@@ -12,11 +12,11 @@ use Rattle.model.specs.Verdict.{Item, Pair, Visited}
 use Rattle.model.specs.Judge as Judge
 use Rattle.model.specs.Judge.{same, passes, fails, walkOf}
 use Rattle.model.specs.Laws.Items.{IsItem}
-use Rattle.walk.specs.declared.pairs.Walk.{Walk}
+use Rattle.pairs.specs.declared.pairs.Walk.{Walk}
 use Rattle.walk.specs.declared.judge.Judged.{Judged}
 use Rattle.walk.specs.declared.judge.Judged.the-variants.{Passes, Fails}
-use Rattle.walk.specs.Marks.{Blank}
-use Rattle.walk.specs.Over.{goOver, searchOver, walkOver, Over}
+use Rattle.pairs.specs.Marks.{Blank}
+use Rattle.pairs.specs.Over.{goOver, searchOver, walkOver, Over}
 use Rattle.walk.specs.Shown.{partOver}
 use Rattle.meaning.specs.Checking.{contentsLeast}
 

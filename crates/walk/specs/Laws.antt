@@ -1,10 +1,6 @@
 -- The laws, each file over those before it. What a crate above asks for first: `judged-item`, `item-fits` (Items), `judged-is` (Judged), `lent`, `word-within`, `word-empty`, `over-session` (Valid).
-pub mod Pairs
-pub mod Marks
-pub mod Moves
 pub mod Letters
 pub mod Sweeps
-pub mod Clearing
 pub mod Exploring
 pub mod Over
 pub mod Valid

@@ -9,11 +9,11 @@ use lib.ListN.{length, getD, drop}
 use lib.Seq.{sets}
 use Rattle.explore.specs.Search.{lowest}
 use Rattle.model.specs.Judge.{same}
-use Rattle.walk.specs.declared.pairs.Walk.{Walk}
+use Rattle.pairs.specs.declared.pairs.Walk.{Walk}
 use Rattle.walk.specs.declared.edges.Edge.{Edge}
-use Rattle.walk.specs.Pairs.{decode}
-use Rattle.walk.specs.Marks.{Tables}
-use Rattle.walk.specs.Over.{wordOver, goOver}
+use Rattle.pairs.specs.Pairs.{decode}
+use Rattle.pairs.specs.Marks.{Tables}
+use Rattle.pairs.specs.Over.{wordOver, goOver}
 
 -- the place of the parent of the pair at place k
 abbrev pub parentOf : List ℕ → List ℕ → ℕ → ℕ

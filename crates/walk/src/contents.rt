@@ -1,11 +1,11 @@
 // The contents shown: those of a pair that was found, laid last message first along its parents, and then turned round.
 use crate::edges::edge_to;
-use crate::pairs::Walk;
+use pairs::pairs::Walk;
 ghost use mathlib.Core.Path.{_≡_};
 ghost use mathlib.Core.List.{_++_, reverse};
 ghost use Prim.Native.Nat.{_+_, _≤_};
 ghost use lib.ListN.{length, take, drop};
-ghost use Rattle.walk.specs.Over.{wordOver, WordWithin, Lent};
+ghost use Rattle.pairs.specs.Over.{wordOver, WordWithin, Lent};
 ghost use Rattle.walk.specs.Shown.{partOver, shownOver, Placed, Laid, Shown};
 ghost use Rattle.meaning.specs.Checking.{contentsLeast};
 

@@ -1,11 +1,11 @@
 // The edges of a search, read back: the parent of a pair, and the lowest letter that leads from it to the pair.
-use crate::marks::wide;
-use crate::moves::Next;
-use crate::moves::read;
-use crate::moves::step;
-use crate::pairs::Node;
-use crate::pairs::Walk;
-use crate::pairs::node_of;
+use pairs::marks::wide;
+use pairs::moves::Next;
+use pairs::moves::read;
+use pairs::moves::step;
+use pairs::pairs::Node;
+use pairs::pairs::Walk;
+use pairs::pairs::node_of;
 use tables::kinds::Message;
 ghost use mathlib.Core.Path.{_≡_};
 ghost use Prim.Native.Nat.{_-_, _<_, _≤_};
@@ -13,9 +13,9 @@ ghost use Rattle.tables.specs.Limits.{mostMessages};
 ghost use Rattle.tables.specs.Lookup.{ArcsSmall};
 ghost use Rattle.explore.specs.Search.{leadsTo, lowestFrom};
 ghost use Rattle.model.specs.Judge.{same};
-ghost use Rattle.walk.specs.Pairs.{mostCodes, pairOf, decode, NodeFits};
-ghost use Rattle.walk.specs.Over.{readFrom, Lent};
-ghost use Rattle.walk.specs.Leads.{saidNext};
+ghost use Rattle.pairs.specs.Pairs.{mostCodes, pairOf, decode, NodeFits};
+ghost use Rattle.pairs.specs.Over.{readFrom, Lent};
+ghost use Rattle.pairs.specs.Leads.{saidNext};
 ghost use Rattle.walk.specs.Shown.{letterOver, Placed, EdgeOf};
 
 // The parent's place in the queue, and the letter.

@@ -1,17 +1,17 @@
 // The judgement of one walk: searched, the contents shown, and the tables cleared.
 use crate::contents::show;
-use crate::marks::clear;
-use crate::pairs::Node;
-use crate::pairs::Walk;
 use crate::search::Outcome;
 use crate::search::search;
+use pairs::marks::clear;
+use pairs::pairs::Node;
+use pairs::pairs::Walk;
 ghost use mathlib.Core.Path.{_≡_};
 ghost use Prim.Native.Nat.{_≤_};
 ghost use lib.ListN.{length};
 ghost use Rattle.tables.specs.Limits.{mostPool};
-ghost use Rattle.walk.specs.Pairs.{mostCodes, pairOf, NodeFits};
-ghost use Rattle.walk.specs.Marks.{Blank};
-ghost use Rattle.walk.specs.Over.{Lent};
+ghost use Rattle.pairs.specs.Pairs.{mostCodes, pairOf, NodeFits};
+ghost use Rattle.pairs.specs.Marks.{Blank};
+ghost use Rattle.pairs.specs.Over.{Lent};
 ghost use Rattle.walk.specs.Judged.{ShownFits, WalkJudged, Counts};
 ghost use Rattle.meaning.specs.Checking.{contentsLeast};
 

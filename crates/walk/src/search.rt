@@ -1,13 +1,13 @@
 // The search over the pairs of a walk, breadth first in lent tables.
-use crate::marks::mark;
-use crate::marks::wide;
-use crate::moves::Next;
-use crate::moves::read;
-use crate::moves::step;
-use crate::pairs::Node;
-use crate::pairs::Walk;
-use crate::pairs::code_of;
-use crate::pairs::node_of;
+use pairs::marks::mark;
+use pairs::marks::wide;
+use pairs::moves::Next;
+use pairs::moves::read;
+use pairs::moves::step;
+use pairs::pairs::Node;
+use pairs::pairs::Walk;
+use pairs::pairs::code_of;
+use pairs::pairs::node_of;
 use tables::kinds::Message;
 use tables::kinds::Reached;
 use tables::lookup::is_final;
@@ -18,10 +18,10 @@ ghost use Rattle.explore.specs.Search.{search as searched};
 ghost use Rattle.tables.specs.Limits.{mostPool, mostMessages};
 ghost use Rattle.tables.specs.Lookup.{ArcsSmall};
 ghost use Rattle.model.specs.Judge.{same};
-ghost use Rattle.walk.specs.Pairs.{mostCodes, pairOf, NodeFits};
-ghost use Rattle.walk.specs.Marks.{view, Tables, Pushed, Swept, Blank};
-ghost use Rattle.walk.specs.Over.{goOver, wrongOver, searchOver, readFrom, Lent};
-ghost use Rattle.walk.specs.Leads.{saidNext, Small};
+ghost use Rattle.pairs.specs.Pairs.{mostCodes, pairOf, NodeFits};
+ghost use Rattle.pairs.specs.Marks.{view, Tables, Pushed, Swept, Blank};
+ghost use Rattle.pairs.specs.Over.{goOver, wrongOver, searchOver, readFrom, Lent};
+ghost use Rattle.pairs.specs.Leads.{saidNext, Small};
 ghost use Rattle.walk.specs.Answers.{Answered};
 
 // What a search finds: the first failing pair's place in the queue and how many pairs were found by then, or that none fails

@@ -20,17 +20,17 @@ use Rattle.model.specs.Judge.{decide}
 use Rattle.meaning.specs.Tables.{sessionOf, badFrom as entriesIn}
 use Rattle.tables.specs.Lookup.{rootOf, finalAt}
 use Rattle.meaning.specs.Reply.{FileReply, verdict}
-use Rattle.walk.specs.Pairs.{mostCodes}
-use Rattle.walk.specs.Marks.{Blank}
+use Rattle.pairs.specs.Pairs.{mostCodes}
+use Rattle.pairs.specs.Marks.{Blank}
 use Rattle.controls.specs.Controls.{sizesOf, startsOf}
 use Rattle.verdict.specs.Begin.{RootsIn}
-use Rattle.verdict.specs.Judging.{Kept, Scratch, saidSoFar, shownSoFar, Judges, AllParts, AllAsked}
+use Rattle.items.specs.Judging.{Kept, Scratch, saidSoFar, shownSoFar, Judges, AllParts, AllAsked}
 use Rattle.verdict.specs.Check.{saidVerdict, shownIn, concluded, Room, Concludes}
 use Rattle.controls.specs.Laws.Parting.{sizes-product}
 use Rattle.verdict.specs.Laws.Begin.{begin-inside, start-passes, start-fails}
-use Rattle.verdict.specs.Laws.Whole.{allHere, all-bad}
-use Rattle.verdict.specs.declared.judged.Progress.{Progress}
-use Rattle.verdict.specs.declared.judged.Progress.the-variants.{Passed, Leaves, Meets}
+use Rattle.items.specs.Laws.Whole.{allHere, all-bad}
+use Rattle.items.specs.declared.judged.Progress.{Progress}
+use Rattle.items.specs.declared.judged.Progress.the-variants.{Passed, Leaves, Meets}
 use Rattle.verdict.specs.declared.check.Verdict.{Verdict}
 use Rattle.verdict.specs.declared.check.Verdict.the-variants.{Outside}
 

@@ -6,7 +6,7 @@ use mathlib.Core.List.{List, _++_}
 use native.Mathlib.Omega.{arith}
 use lib.ListN.{length, take, drop, replicate, length-replicate, take-append-drop}
 use lib.Seq.{length-take-le}
-use Rattle.walk.specs.Pairs.{mostCodes}
+use Rattle.pairs.specs.Pairs.{mostCodes}
 use Rattle.numbers.specs.Part as Part
 use Rattle.numbers.specs.Said.{numberOf, placeOf}
 use Rattle.session.specs.Said.{saidAnswer}
@@ -22,7 +22,7 @@ use Rattle.meaning.specs.Tables.{sessionOf}
 use Rattle.meaning.specs.Reply.{verdict, replyTo, shownOf}
 use Rattle.meaning.specs.Checking.{enough, readLent, tableAfter, contentsAfter, Checks, CheckMeans, CheckTwoRuns, contentsLeast}
 use Rattle.meaning.specs.Laws.Checking.{lent-long, lent-little, lent-enough, long-enough, checks-made, checks-refused, check-means, check-two-runs}
-use Rattle.verdict.specs.Judging.{Kept}
+use Rattle.items.specs.Judging.{Kept}
 use Rattle.verdict.specs.Check.{saidVerdict, shownIn, Shows, Room, Concludes}
 use Rattle.verdict.specs.Laws.Shows.{checks-shows}
 use Rattle.verdict.specs.declared.check.Verdict.{Verdict}

@@ -15,16 +15,16 @@ use Rattle.numbers.specs.Laws.Parts.{one-more}
 use Rattle.model.specs.Verdict.{Pair}
 use Rattle.model.specs.Judge.{same}
 use Rattle.tables.specs.Lookup.{finalAt}
-use Rattle.walk.specs.declared.pairs.Node.{Node}
+use Rattle.pairs.specs.declared.pairs.Node.{Node}
 use Rattle.walk.specs.declared.search.Outcome.{Outcome}
 use Rattle.walk.specs.declared.search.Outcome.the-variants as Answer
 use Rattle.tables.specs.Kinds.{reachedOf}
-use Rattle.walk.specs.Pairs.{mostCodes, sideOf, decode, pairOf, NodeFits}
+use Rattle.pairs.specs.Pairs.{mostCodes, sideOf, decode, pairOf, NodeFits}
 use Rattle.tables.specs.Laws.Lookup.{reached-small}
-use Rattle.walk.specs.Laws.Pairs.{after-side}
-use Rattle.walk.specs.Marks.{foundAt, view, Tables, Pushed, Swept}
-use Rattle.walk.specs.Laws.Marks.{tables-most, view-length, swept-more}
-use Rattle.walk.specs.Over.{wrongOver}
+use Rattle.pairs.specs.Laws.Pairs.{after-side}
+use Rattle.pairs.specs.Marks.{foundAt, view, Tables, Pushed, Swept}
+use Rattle.pairs.specs.Laws.Marks.{tables-most, view-length, swept-more}
+use Rattle.pairs.specs.Over.{wrongOver}
 use Rattle.walk.specs.Answers.{Answered}
 
 -- the pair at a place of the queue

@@ -17,10 +17,10 @@ use Rattle.model.specs.Laws.Judging.{JudgedMeans}
 use Rattle.model.specs.Laws.Verdicts.{judge-means}
 use Rattle.model.specs.Laws.Searches.{search-is}
 use Rattle.model.specs.Laws.Lengths.{taken, shown-bound}
-use Rattle.walk.specs.declared.pairs.Walk.{Walk}
+use Rattle.pairs.specs.declared.pairs.Walk.{Walk}
 use Rattle.walk.specs.declared.judge.Judged.{Judged}
-use Rattle.walk.specs.Pairs.{stride, mostCodes}
-use Rattle.walk.specs.Over.{walkOver, Over}
+use Rattle.pairs.specs.Pairs.{stride, mostCodes}
+use Rattle.pairs.specs.Over.{walkOver, Over}
 use Rattle.walk.specs.Judged.{judgedOver, ShownFits, saidJudged, WalkJudged, Counts}
 use Rattle.walk.specs.Laws.Judged.{judged-is}
 use Rattle.meaning.specs.Checking.{contentsLeast}

@@ -15,13 +15,13 @@ use Rattle.model.specs.Verdict.{Pair}
 use Rattle.model.specs.Judge as Judge
 use Rattle.model.specs.Judge.{same, contents, passes, fails}
 use Rattle.model.specs.Searched.{settled, searched}
-use Rattle.walk.specs.declared.pairs.Walk.{Walk}
+use Rattle.pairs.specs.declared.pairs.Walk.{Walk}
 use Rattle.walk.specs.declared.search.Outcome.the-variants.{Found, Finished}
 use Rattle.walk.specs.declared.judge.Judged.the-variants.{Passes, Fails}
-use Rattle.walk.specs.Pairs.{mostCodes}
-use Rattle.walk.specs.Marks.{foundAt, view, Tables, Blank}
-use Rattle.walk.specs.Laws.Marks.{tables-most, view-length}
-use Rattle.walk.specs.Over.{walkOver, goOver, searchOver, Over}
+use Rattle.pairs.specs.Pairs.{mostCodes}
+use Rattle.pairs.specs.Marks.{foundAt, view, Tables, Blank}
+use Rattle.pairs.specs.Laws.Marks.{tables-most, view-length}
+use Rattle.pairs.specs.Over.{walkOver, goOver, searchOver, Over}
 use Rattle.walk.specs.Laws.Over.{searched-over, go-is}
 use Rattle.walk.specs.Laws.Exploring.{view-place}
 use Rattle.walk.specs.Answers.{Answered}

@@ -8,12 +8,12 @@ use native.Mathlib.Omega.{arith}
 use lib.Dec.{ltb, eqb}
 use borrow.Author.Tests.{lt-ltb, le-ltb, eq-eqb, ne-eqb}
 use Rattle.model.specs.Verdict.{Pair}
-use Rattle.walk.specs.declared.pairs.Node.{Node}
-use Rattle.walk.specs.declared.pairs.Walk.{Walk}
+use Rattle.pairs.specs.declared.pairs.Node.{Node}
+use Rattle.pairs.specs.declared.pairs.Walk.{Walk}
 use Rattle.tables.specs.Kinds.{reachedOf}
-use Rattle.walk.specs.Pairs.{afterSide, sideOf, pairOf, NodeFits}
-use Rattle.walk.specs.Laws.Pairs.{after-side}
-use Rattle.walk.specs.Over.{readOver, jumpOver, goOver}
+use Rattle.pairs.specs.Pairs.{afterSide, sideOf, pairOf, NodeFits}
+use Rattle.pairs.specs.Laws.Pairs.{after-side}
+use Rattle.pairs.specs.Over.{readOver, jumpOver, goOver}
 
 module _ (arcs rows : List ℕ) (w : Walk) (x : Node) (m : ℕ) where
   abbrev read : Option Pair

@@ -11,11 +11,11 @@ use Rattle.explore.specs.Search.{leadsTo, lowestFrom}
 use Rattle.numbers.specs.Laws.Parts.{one-more}
 use Rattle.model.specs.Verdict.{Pair}
 use Rattle.model.specs.Judge.{same}
-use Rattle.walk.specs.declared.pairs.Node.{Node}
-use Rattle.walk.specs.declared.pairs.Walk.{Walk}
+use Rattle.pairs.specs.declared.pairs.Node.{Node}
+use Rattle.pairs.specs.declared.pairs.Walk.{Walk}
 use Rattle.tables.specs.Kinds.{reachedOf}
-use Rattle.walk.specs.Pairs.{decode, pairOf, NodeOf}
-use Rattle.walk.specs.Over.{jumpOver, goOver, readFrom}
+use Rattle.pairs.specs.Pairs.{decode, pairOf, NodeOf}
+use Rattle.pairs.specs.Over.{jumpOver, goOver, readFrom}
 use Rattle.walk.specs.Laws.Letters.{before-read, before-none, before-step, after-low, after-read, after-high}
 use Rattle.walk.specs.Shown.{letterOver}
 

@@ -14,9 +14,9 @@ use Rattle.model.specs.Verdict.{Pair, before, after}
 use Rattle.model.specs.Judge as Judge
 use Rattle.model.specs.Judge.{same, pair, read, jump, go, wrong}
 use Rattle.model.specs.Searched.{settled, searched}
-use Rattle.walk.specs.declared.pairs.Walk.{Walk}
-use Rattle.walk.specs.Pairs.{mostCodes}
-use Rattle.walk.specs.Over.{poolOver, walkOver, jumpOver, goOver, wrongOver, searchOver, Over}
+use Rattle.pairs.specs.declared.pairs.Walk.{Walk}
+use Rattle.pairs.specs.Pairs.{mostCodes}
+use Rattle.pairs.specs.Over.{poolOver, walkOver, jumpOver, goOver, wrongOver, searchOver, Over}
 
 module _ (arcs finals rows : List ℕ) (w : Walk) (S : Session) (o : Over arcs finals (w .sum) S) where
   abbrev W : Judge.Walk

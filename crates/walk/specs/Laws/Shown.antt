@@ -8,9 +8,9 @@ use lib.ListN.{length, getD, set, take, drop, length-append, length-drop, length
 use lib.Seq.{drop-cons, getD-take, getD-drop, length-take-le, take-at, drop-at, sets, length-sets, sets-eq}
 use borrow.Author.Tests.{eq-eqb, ne-eqb}
 use Rattle.numbers.specs.Laws.Lists.{sets-append}
-use Rattle.walk.specs.declared.pairs.Walk.{Walk}
+use Rattle.pairs.specs.declared.pairs.Walk.{Walk}
 use Rattle.walk.specs.declared.edges.Edge.{Edge}
-use Rattle.walk.specs.Over.{wordOver, WordWithin}
+use Rattle.pairs.specs.Over.{wordOver, WordWithin}
 use Rattle.walk.specs.Shown.{parentOf, partOver, edgeLetter, shownFrom, shownOver, Placed, EdgeOf, Laid, Shown}
 use Rattle.walk.specs.Laws.Edges.{parent-earlier, placed-before}
 

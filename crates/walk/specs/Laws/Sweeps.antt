@@ -10,13 +10,13 @@ use Rattle.explore.specs.Search.{Found, push, sweep}
 use Rattle.numbers.specs.Laws.Parts.{one-more}
 use Rattle.model.specs.Verdict.{Pair}
 use Rattle.model.specs.Judge.{same}
-use Rattle.walk.specs.declared.pairs.Walk.{Walk}
-use Rattle.walk.specs.declared.pairs.Node.{Node}
+use Rattle.pairs.specs.declared.pairs.Walk.{Walk}
+use Rattle.pairs.specs.declared.pairs.Node.{Node}
 use Rattle.tables.specs.Kinds.{reachedOf}
-use Rattle.walk.specs.Pairs.{pairOf, NodeFits}
-use Rattle.walk.specs.Marks.{view, Tables, Shows, Pushed, Swept}
-use Rattle.walk.specs.Laws.Marks.{pushed-more}
-use Rattle.walk.specs.Over.{jumpOver, goOver, readFrom}
+use Rattle.pairs.specs.Pairs.{pairOf, NodeFits}
+use Rattle.pairs.specs.Marks.{view, Tables, Shows, Pushed, Swept}
+use Rattle.pairs.specs.Laws.Marks.{pushed-more}
+use Rattle.pairs.specs.Over.{jumpOver, goOver, readFrom}
 use Rattle.walk.specs.Laws.Letters.{before-read, before-none, before-step, after-low, after-read, after-high}
 
 -- A SWEEP IN THE CODE: the letters from m on are still to be followed

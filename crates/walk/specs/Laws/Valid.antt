@@ -13,8 +13,8 @@ use Rattle.tables.specs.declared.tables.Tables.{Tables}
 use Rattle.model.specs.Model.{messages}
 use Rattle.meaning.specs.Tables.{sessionOf}
 use Rattle.tables.specs.Rows.{rowLength, wordEntry, lengthAt}
-use Rattle.walk.specs.declared.pairs.Walk.{Walk}
-use Rattle.walk.specs.Over.{WordWithin, Lent, Over}
+use Rattle.pairs.specs.declared.pairs.Walk.{Walk}
+use Rattle.pairs.specs.Over.{WordWithin, Lent, Over}
 
 -- the word of a transition, or a front of it; and no word
 pub word-within : {m : Machines} {q : Queues} {τ : Transitions} → TransitionsValid m q τ → QueuesValid q → (t n : ℕ) → t < τ .count

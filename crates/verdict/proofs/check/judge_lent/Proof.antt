@@ -16,7 +16,7 @@ use Rattle.verdict.proofs.check.judge_lent.Reads as reads
 use Rattle.verdict.proofs.check.judge_lent.Lts as lts
 use Rattle.verdict.proofs.begin.begins_inside.Reads as begins-inside-reads
 use Rattle.verdict.proofs.check.verdict_of.Reads as verdict-of-reads
-use Rattle.verdict.proofs.items.judge_items.Reads as judge-items-reads
+use Rattle.items.proofs.items.judge_items.Reads as judge-items-reads
 
 -- src/check.rt:83:9
 begins-inside-requires : tie.Need-begins-inside-requires

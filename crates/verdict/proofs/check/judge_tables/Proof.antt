@@ -1,7 +1,7 @@
 use mathlib.Core.Path.{_≡_, refl, sym, ap, _∙_}
 use denote.Ref.{now}
 use lib.ListN.{length}
-use Rattle.verdict.specs.Laws.Whole.{own-parts}
+use Rattle.items.specs.Laws.Whole.{own-parts}
 use Rattle.verdict.specs.Laws.Check.{whole-concludes}
 use borrow.Author.Needs.{needs}
 use Rattle.verdict.proofs.check.judge_tables.Statement.{statement}

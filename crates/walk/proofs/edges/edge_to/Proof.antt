@@ -11,7 +11,7 @@ use Rattle.walk.proofs.edges.edge_to.Tie as tie
 use Rattle.walk.proofs.edges.edge_to.Reads as reads
 use Rattle.walk.proofs.edges.edge_to.Lts as lts
 use Rattle.walk.proofs.edges.letter_of.Reads as letter-of-reads
-use Rattle.walk.proofs.marks.wide.Reads as wide-reads
+use Rattle.pairs.proofs.marks.wide.Reads as wide-reads
 
 -- src/edges.rt:132:21
 mul-wide : tie.Need-mul-wide

@@ -1,7 +1,7 @@
 use mathlib.Core.Path.{sym, ap, _∙_}
 use Rattle.explore.specs.Search.{leadsTo}
 use Rattle.model.specs.Judge.{same}
-use Rattle.walk.specs.Pairs.{decode}
+use Rattle.pairs.specs.Pairs.{decode}
 use Rattle.walk.specs.Laws.Lowest.{message-before, step-met, step-missed, message-after, none-after}
 use borrow.Author.Needs.{needs}
 use Rattle.walk.proofs.edges.letter_of.Statement.{statement}
@@ -10,8 +10,8 @@ use Rattle.walk.proofs.edges.letter_of.Reads as reads
 use Rattle.walk.proofs.edges.letter_of.Lts as lts
 use Rattle.walk.proofs.edges.meets.Reads as meets-reads
 use Rattle.walk.proofs.edges.message_to.Reads as message-to-reads
-use Rattle.walk.proofs.moves.step.Reads as step-reads
-use Rattle.walk.proofs.pairs.node_of.Reads as node-of-reads
+use Rattle.pairs.proofs.moves.step.Reads as step-reads
+use Rattle.pairs.proofs.pairs.node_of.Reads as node-of-reads
 
 -- src/edges.rt:57:9
 node-of-requires : tie.Need-node-of-requires

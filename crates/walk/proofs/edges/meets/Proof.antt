@@ -1,9 +1,9 @@
 use mathlib.Core.Path.{sym, ap, _∙_}
 use Rattle.explore.specs.Search.{leadsTo}
 use Rattle.model.specs.Judge.{same}
-use Rattle.walk.specs.Pairs.{decode}
-use Rattle.walk.specs.Laws.Pairs.{same-codes}
-use Rattle.walk.specs.Leads.{saidNext}
+use Rattle.pairs.specs.Pairs.{decode}
+use Rattle.pairs.specs.Laws.Pairs.{same-codes}
+use Rattle.pairs.specs.Leads.{saidNext}
 use borrow.Author.Needs.{needs}
 use Rattle.walk.proofs.edges.meets.Statement.{statement}
 use Rattle.walk.proofs.edges.meets.Tie as tie

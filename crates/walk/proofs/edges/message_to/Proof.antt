@@ -3,8 +3,8 @@ use native.Mathlib.Omega.{arith}
 use mathlib.Core.Path.{_≡_, refl, sym, ap, _∙_}
 use Rattle.explore.specs.Search.{leadsTo, lowestFrom}
 use Rattle.model.specs.Judge.{same}
-use Rattle.walk.specs.Pairs.{decode, pairOf}
-use Rattle.walk.specs.Over.{readFrom}
+use Rattle.pairs.specs.Pairs.{decode, pairOf}
+use Rattle.pairs.specs.Over.{readFrom}
 use Rattle.walk.specs.Laws.Lowest.{low-met, low-next, low-end}
 use borrow.Author.Needs.{needs}
 use Rattle.walk.proofs.edges.message_to.Statement.{statement}
@@ -12,7 +12,7 @@ use Rattle.walk.proofs.edges.message_to.Tie as tie
 use Rattle.walk.proofs.edges.message_to.Reads as reads
 use Rattle.walk.proofs.edges.message_to.Lts as lts
 use Rattle.walk.proofs.edges.meets.Reads as meets-reads
-use Rattle.walk.proofs.moves.read.Reads as read-reads
+use Rattle.pairs.proofs.moves.read.Reads as read-reads
 
 abbrev Inv-loop : tie.InvT-loop
 Inv-loop arcs entry x first end code m₀ m = lowestFrom (readFrom arcs entry x) same (pairOf x) (decode code) (end - m) m ≡ lowestFrom (readFrom arcs entry x) same (pairOf x) (decode code) (end - first) first

@@ -1,5 +1,5 @@
 use denote.Ref.{now}
-use Rattle.walk.specs.Pairs.{pairOf}
+use Rattle.pairs.specs.Pairs.{pairOf}
 use Rattle.walk.specs.Laws.Exploring.{answered-at}
 use Rattle.walk.specs.Laws.Judged.{judged-finished, judged-found, judges-passes, judges-fails}
 use Rattle.walk.specs.Laws.Items.{with-counts}
@@ -9,7 +9,7 @@ use Rattle.walk.proofs.judge.judge.Tie as tie
 use Rattle.walk.proofs.judge.judge.Reads as reads
 use Rattle.walk.proofs.judge.judge.Lts as lts
 use Rattle.walk.proofs.contents.show.Reads as show-reads
-use Rattle.walk.proofs.marks.clear.Reads as clear-reads
+use Rattle.pairs.proofs.marks.clear.Reads as clear-reads
 use Rattle.walk.proofs.search.search.Reads as search-reads
 
 -- src/judge.rt:44:11

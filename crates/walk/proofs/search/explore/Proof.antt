@@ -4,18 +4,18 @@ use Prim.Native.Nat.{suc, _-_}
 use mathlib.Core.Path.{sym, ap, _∙_}
 use Rattle.explore.specs.Search.{search as searched}
 use Rattle.model.specs.Judge.{same}
-use Rattle.walk.specs.Pairs.{mostCodes, decode}
-use Rattle.walk.specs.Marks.{view}
-use Rattle.walk.specs.Laws.Marks.{tables-most}
-use Rattle.walk.specs.Over.{goOver, wrongOver}
+use Rattle.pairs.specs.Pairs.{mostCodes, decode}
+use Rattle.pairs.specs.Marks.{view}
+use Rattle.pairs.specs.Laws.Marks.{tables-most}
+use Rattle.pairs.specs.Over.{goOver, wrongOver}
 use Rattle.walk.specs.Laws.Sweeps.{swept-as}
 use Rattle.walk.specs.Laws.Exploring.{Exploring, exploring-begin, exploring-found, exploring-next, exploring-end}
 use Rattle.walk.proofs.search.explore.Statement.{statement}
 use Rattle.walk.proofs.search.explore.Tie as tie
 use Rattle.walk.proofs.search.explore.Reads as reads
 use Rattle.walk.proofs.search.explore.Lts as lts
-use Rattle.walk.proofs.marks.wide.Reads as wide-reads
-use Rattle.walk.proofs.pairs.node_of.Reads as node-of-reads
+use Rattle.pairs.proofs.marks.wide.Reads as wide-reads
+use Rattle.pairs.proofs.pairs.node_of.Reads as node-of-reads
 use Rattle.walk.proofs.search.fails.Reads as fails-reads
 use Rattle.walk.proofs.search.visit.Reads as visit-reads
 

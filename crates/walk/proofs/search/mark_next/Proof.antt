@@ -1,13 +1,13 @@
 use native.Mathlib.Omega.{arith}
 use mathlib.Core.Path.{sym, ap, subst}
-use Rattle.walk.specs.Leads.{saidNext, Small}
-use Rattle.walk.specs.Laws.Marks.{pushed-none, pushed-as}
+use Rattle.pairs.specs.Leads.{saidNext, Small}
+use Rattle.pairs.specs.Laws.Marks.{pushed-none, pushed-as}
 use borrow.Author.Needs.{needs}
 use Rattle.walk.proofs.search.mark_next.Statement.{statement}
 use Rattle.walk.proofs.search.mark_next.Tie as tie
 use Rattle.walk.proofs.search.mark_next.Reads as reads
 use Rattle.walk.proofs.search.mark_next.Lts as lts
-use Rattle.walk.proofs.marks.mark.Reads as mark-reads
+use Rattle.pairs.proofs.marks.mark.Reads as mark-reads
 
 -- src/search.rt:43:20
 enum-known-next : tie.Need-enum-known-next

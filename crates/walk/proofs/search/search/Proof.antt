@@ -2,15 +2,15 @@ use mathlib.Core.Path.{ap}
 use Rattle.explore.specs.Search.{search as searched}
 use Rattle.model.specs.Judge.{same}
 use native.Mathlib.Omega.{arith}
-use Rattle.walk.specs.Laws.Clearing.{tables-blank}
+use Rattle.pairs.specs.Laws.Clearing.{tables-blank}
 use Rattle.walk.specs.Laws.Exploring.{begins, answered-as}
 use borrow.Author.Needs.{needs}
 use Rattle.walk.proofs.search.search.Statement.{statement}
 use Rattle.walk.proofs.search.search.Tie as tie
 use Rattle.walk.proofs.search.search.Reads as reads
 use Rattle.walk.proofs.search.search.Lts as lts
-use Rattle.walk.proofs.marks.mark.Reads as mark-reads
-use Rattle.walk.proofs.pairs.code_of.Reads as code-of-reads
+use Rattle.pairs.proofs.marks.mark.Reads as mark-reads
+use Rattle.pairs.proofs.pairs.code_of.Reads as code-of-reads
 use Rattle.walk.proofs.search.explore.Reads as explore-reads
 
 -- src/search.rt:158:9

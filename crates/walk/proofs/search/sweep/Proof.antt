@@ -3,16 +3,16 @@ use Prim.Native.Nat.{_≤_, _-_}
 use mathlib.Core.Path.{sym, _∙_}
 use Rattle.explore.specs.Search.{sweep}
 use Rattle.model.specs.Judge.{same}
-use Rattle.walk.specs.Pairs.{pairOf}
-use Rattle.walk.specs.Marks.{view}
-use Rattle.walk.specs.Laws.Marks.{pushed-as}
-use Rattle.walk.specs.Over.{readFrom}
+use Rattle.pairs.specs.Pairs.{pairOf}
+use Rattle.pairs.specs.Marks.{view}
+use Rattle.pairs.specs.Laws.Marks.{pushed-as}
+use Rattle.pairs.specs.Over.{readFrom}
 use Rattle.walk.specs.Laws.Sweeps.{Sweeping, sweeping-begin, sweeping-next, sweeping-end}
 use Rattle.walk.proofs.search.sweep.Statement.{statement}
 use Rattle.walk.proofs.search.sweep.Tie as tie
 use Rattle.walk.proofs.search.sweep.Reads as reads
 use Rattle.walk.proofs.search.sweep.Lts as lts
-use Rattle.walk.proofs.moves.read.Reads as read-reads
+use Rattle.pairs.proofs.moves.read.Reads as read-reads
 use Rattle.walk.proofs.search.mark_next.Reads as mark-next-reads
 
 abbrev Inv-loop : tie.InvT-loop

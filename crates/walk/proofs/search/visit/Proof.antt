@@ -1,13 +1,13 @@
 use native.Mathlib.Omega.{arith}
 use denote.Ref.{now}
-use Rattle.walk.specs.Laws.Marks.{pushed-as, swept-more}
+use Rattle.pairs.specs.Laws.Marks.{pushed-as, swept-more}
 use Rattle.walk.specs.Laws.Sweeps.{visit-before, visit-after}
 use borrow.Author.Needs.{needs}
 use Rattle.walk.proofs.search.visit.Statement.{statement}
 use Rattle.walk.proofs.search.visit.Tie as tie
 use Rattle.walk.proofs.search.visit.Reads as reads
 use Rattle.walk.proofs.search.visit.Lts as lts
-use Rattle.walk.proofs.moves.step.Reads as step-reads
+use Rattle.pairs.proofs.moves.step.Reads as step-reads
 use Rattle.walk.proofs.search.mark_next.Reads as mark-next-reads
 use Rattle.walk.proofs.search.sweep.Reads as sweep-reads
 

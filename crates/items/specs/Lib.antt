@@ -1,0 +1,4 @@
+pub mod Start
+pub mod Judging
+pub mod Promises
+pub mod Laws

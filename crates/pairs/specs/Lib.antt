@@ -1,0 +1,5 @@
+pub mod Pairs
+pub mod Marks
+pub mod Over
+pub mod Leads
+pub mod Laws

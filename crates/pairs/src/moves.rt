@@ -1,0 +1,105 @@
+// Where a pair leads: by a message that both its places read, and by the step itself.
+use crate::pairs::AFTER;
+use crate::pairs::Node;
+use crate::pairs::Walk;
+use crate::pairs::code_of;
+use tables::kinds::Message;
+use tables::kinds::Reached;
+use tables::lookup::Arc;
+use tables::lookup::along;
+use tables::lookup::arc_at;
+ghost use mathlib.Core.Option.{some};
+ghost use mathlib.Core.Path.{_≡_};
+ghost use Prim.Native.Nat.{_<_, _≤_};
+ghost use lib.ListN.{length, getD};
+ghost use Rattle.tables.specs.Limits.{mostPool, mostMessages};
+ghost use Rattle.tables.specs.Kinds.{reachedOf};
+ghost use Rattle.tables.specs.Lookup.{ArcsSmall};
+ghost use Rattle.model.specs.Judge.{pair};
+ghost use Rattle.pairs.specs.Pairs.{sideOf, NodeFits};
+ghost use Rattle.pairs.specs.Over.{readOver, jumpOver, WordWithin, Lent, Follows};
+ghost use Rattle.pairs.specs.Leads.{LeadsTo};
+
+// Where a letter leads: to the pair with this code, or nowhere.
+pub enum Next {
+    Pair(usize),
+    Nowhere,
+}
+
+// A message of a word in the table of transitions.
+fn message_at(rows: &[u8], i: usize) -> Message
+    requires { ⌜ i < length (now rows) ⌝ }
+    ensures { λ r. ⌜ r .0 ≡ getD (now (rows .entry)) i 0 ⌝ }
+{
+    Message(rows[i])
+}
+
+// Where so many messages more lead, those of the word at this entry of the table of transitions.
+pub fn follow(arcs: &[u8], rows: &[u8], at: usize, n: usize, from: Reached) -> Reached
+    requires { ⌜ ArcsSmall (now arcs) ⌝ }
+    requires { ⌜ WordWithin (now rows) at n ⌝ }
+    requires { ⌜ from .0 ≤ mostPool ⌝ }
+    ensures { λ r. ⌜ Follows (now (arcs .entry)) (now (rows .entry)) at n (from .0) (r .0) ⌝ }
+{
+    let mut s = from;
+    let mut i: usize = 0;
+    while i < n {
+        s = along(arcs, s, message_at(rows, at + i));
+        i += 1;
+    }
+    s
+}
+
+// The pair that a letter leads to. For a bad entry it is dropped where the target is nowhere; for a step that is the pair that
+// fails.
+fn pair_to(entry: bool, y: Node) -> Next
+    requires { ⌜ NodeFits y ⌝ }
+    ensures { λ r. ⌜ LeadsTo r (pair entry (sideOf (y .side)) (some (y .source .0)) (reachedOf (y .target .0))) ⌝ }
+{
+    let code = code_of(y);
+    if entry {
+        if y.target.is_nowhere() {
+            return Next::Nowhere;
+        }
+        return Next::Pair(code);
+    }
+    Next::Pair(code)
+}
+
+// Both places read a message. The pair is dropped where the source has nowhere to go.
+pub fn read(arcs: &[u8], entry: bool, x: Node, m: Message) -> Next
+    requires { ⌜ ArcsSmall (now arcs) ⌝ }
+    requires { ⌜ NodeFits x ⌝ }
+    requires { ⌜ m .0 < mostMessages ⌝ }
+    ensures { λ r. ⌜ LeadsTo r (readOver (now (arcs .entry)) entry (x .side) (x .source .0) (reachedOf (x .target .0)) (m .0)) ⌝ }
+{
+    let Arc::Target(source) = arc_at(arcs, x.source, m) else {
+        return Next::Nowhere;
+    };
+    let target = along(arcs, x.target, m);
+    let y = Node {
+        side: x.side,
+        source,
+        target,
+    };
+    pair_to(entry, y)
+}
+
+// The step: the source reads what is taken out, the target what is put in.
+pub fn step(arcs: &[u8], rows: &[u8], w: Walk, x: Node) -> Next
+    requires { ⌜ Lent (now arcs) (now rows) w ⌝ }
+    requires { ⌜ NodeFits x ⌝ }
+    ensures { λ r. ⌜ LeadsTo r (jumpOver (now (arcs .entry)) (now (rows .entry)) w (x .source .0) (reachedOf (x .target .0))) ⌝ }
+{
+    let source = follow(arcs, rows, w.word, w.out, Reached::at(x.source));
+    if source.is_nowhere() {
+        return Next::Nowhere;
+    }
+    let target = follow(arcs, rows, w.word, w.into, x.target);
+    let y = Node {
+        side: AFTER,
+        source: source.state(),
+        target,
+    };
+    pair_to(w.entry, y)
+}
