@@ -5,7 +5,7 @@ use mathlib.Core.List.{List}
 use lib.ListN.{length, take, length-take}
 use native.Mathlib.Omega.{arith}
 use Rattle.meaning.specs.Reply.{refused, replyTo, shownOf}
-use Rattle.meaning.specs.Checking.{readLent, Checks}
+use Rattle.meaning.specs.Checking.{readLent, Checks, mostShown}
 use Rattle.meaning.specs.Laws.Checking.{Ways, long, little, whole, ways, enough-long, lent-sound}
 use Rattle.meaning.specs.Laws.Shown.{shown-fits, contents-kept}
 use Rattle.verdict.specs.Check.{saidVerdict, Shows}
@@ -44,7 +44,7 @@ checks-shows {file} {seen} {queue} {contents} {seen₁} {queue₁} {contents₁}
     go (little h l e) = shows-refused r contents₁ (checks .reply ∙ ap replyTo e)
     go (whole h e) =
         let few =
-        subst (λ x. length (shownOf x) ≤ 32516) (sym (checks .reply))
+        subst (λ x. length (shownOf x) ≤ mostShown) (sym (checks .reply))
         (shown-fits (readLent file seen queue contents) (lent-sound file seen queue contents))
         in
         let kept = ap length (checks .contents) ∙ contents-kept file seen queue contents in
