@@ -16,7 +16,7 @@ fn said(word: &[u8]) {
     io::write_all(1, b"\n");
 }
 
-pub fn report(reply: Member) {
+pub(crate) fn report(reply: Member) {
     match reply {
         Member::Yes => said(b"yes"),
         Member::No => said(b"no"),

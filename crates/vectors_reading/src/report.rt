@@ -37,7 +37,7 @@ fn found(t: Tables) {
     spaced(digest(t));
 }
 
-pub fn report(file: &[u8]) {
+pub(crate) fn report(file: &[u8]) {
     let reading = read(file);
     let answer = reading.answer;
     match answer {
