@@ -5,7 +5,7 @@ use mathlib.Core.List.{List, _++_}
 use lib.ListN.{length, drop}
 use lib.Dec.{leb}
 use Rattle.meaning.specs.Reply.{FileReply, shownOf, lineOf, replyOf}
-use Rattle.meaning.specs.Checking.{checkOf}
+use Rattle.meaning.specs.Checking.{checkOf, mostShown}
 use Rattle.line.specs.Said.{given}
 
 -- the line of a reply, where so many bytes have room for any line that shows so many messages; else nothing
@@ -22,12 +22,18 @@ pub record Answers (file seen₀ queue₀ contents₀ buffer₀ seen₁ queue₁
   pub queue : queue₁ ≡ checkOf file seen₀ queue₀ contents₀ .queue
   pub contents : contents₁ ≡ checkOf file seen₀ queue₀ contents₀ .contents
 
--- so many bytes hold any line: 32,768 messages, each a space and at most three digits, and 41 for the rest
-abbrev pub mostLine : ℕ
-mostLine = 131113
-
--- WHAT THE PROGRAM PRINTS: the line of the reply to the file, where the buffer has room for it, fills the front of the buffer, and r is its
--- length. A buffer of `mostLine` bytes has room for every line (`Laws.room-for-all`)
+-- WITH MEMORY ENOUGH FOR THE CHECK: the line of the reply to the file, where the buffer has room for it, fills the front of the buffer, and r
+-- is its length
 pub record Lines (file buffer₀ buffer₁ : List ℕ) (r : ℕ) : Type 0 where
   pub reply : r ≡ length (lineIn (length buffer₀) (replyOf file))
   pub buffer : buffer₁ ≡ lineIn (length buffer₀) (replyOf file) ++ drop (length (lineIn (length buffer₀) (replyOf file))) buffer₀
+
+-- so many bytes hold any line: the most messages that are shown, each a space and at most three digits, and 41 for the rest
+abbrev pub mostLine : ℕ
+mostLine = 4 * mostShown + 41
+
+-- WHAT THE PROGRAM PRINTS, with a buffer of so many bytes: the line of the reply to the file
+pub record WholeLine (file buffer₀ buffer₁ : List ℕ) (r : ℕ) : Type 0 where
+  pub reply : r ≡ length (lineOf (replyOf file))
+  pub buffer : buffer₁ ≡ lineOf (replyOf file) ++ drop (length (lineOf (replyOf file))) buffer₀
+  pub long : length buffer₁ ≡ mostLine

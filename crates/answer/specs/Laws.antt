@@ -17,7 +17,7 @@ use Rattle.verdict.specs.Laws.Shows.{checks-shows}
 use Rattle.verdict.specs.declared.check.Verdict.{Verdict}
 use Rattle.verdict.specs.declared.check.Verdict.the-variants as Verdict
 use Rattle.answer.specs.Printed.{printedOf}
-use Rattle.answer.specs.Answer.{lineIn, Answers, mostLine, Lines}
+use Rattle.answer.specs.Answer.{lineIn, Answers, Lines, mostLine, WholeLine}
 
 -- room for a line that shows no more messages than there are, and no more than any verdict shows
 room-for : (room contents shown : ℕ) → shown ≤ contents → shown ≤ mostShown → holds room contents shown ≡ leb (4 * shown + 41) room
@@ -117,3 +117,13 @@ room-for-all file room h =
     in
     let wide : 4 * length (shownOf (replyOf file)) + 41 ≤ room = omega (arith, few) in
     ap (λ b. given b (lineOf (replyOf file))) (le-leb (4 * length (shownOf (replyOf file)) + 41) room wide)
+
+pub whole : {file buffer buffer₁ : List ℕ} {r : ℕ} → length buffer ≡ mostLine → length buffer₁ ≡ mostLine → Lines file buffer buffer₁ r
+    → WholeLine file buffer buffer₁ r
+whole {file} {buffer} {buffer₁} long kept lines =
+    let e = room-for-all file (length buffer) (omega (arith, long)) in
+    record {
+      reply = lines .reply ∙ ap length e;
+      buffer = subst (λ (t : List ℕ). buffer₁ ≡ t ++ drop (length t) buffer) e (lines .buffer);
+      long = kept;
+    }

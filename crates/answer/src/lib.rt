@@ -4,11 +4,17 @@ use line::verdict::write_line;
 use numbers::number::wide;
 use numbers::refusal::number;
 use numbers::refusal::place;
+use verdict::check::CONTENTS_LEAST;
+use verdict::check::MOST_SHOWN;
+use verdict::check::TABLE_LEAST;
 use verdict::check::Verdict;
 use verdict::check::check;
 ghost use mathlib.Core.Path.{_≡_};
 ghost use Rattle.answer.specs.Printed.{printedOf};
-ghost use Rattle.answer.specs.Answer.{Answers, Lines};
+ghost use Rattle.answer.specs.Answer.{Answers, Lines, WholeLine};
+
+// Bytes that hold any line: for each message a space and at most three digits, and 41 for the rest.
+pub const MOST_LINE: usize = 4 * MOST_SHOWN + 41;
 
 // What is printed of a verdict: of a refusal its number and its place.
 pub fn printed(v: Verdict) -> Printed
@@ -43,8 +49,15 @@ pub fn answer(
 pub fn line_of(file: &[u8], buffer: &mut [u8]) -> usize
     ensures { λ r. ⌜ Lines (now (file .entry)) (now (buffer .entry)) (now (buffer .exit)) r ⌝ }
 {
-    let mut seen = [0u16; 32512];
-    let mut queue = [0u16; 32512];
-    let mut contents = [0u8; 32768];
+    let mut seen = [0u16; TABLE_LEAST];
+    let mut queue = [0u16; TABLE_LEAST];
+    let mut contents = [0u8; CONTENTS_LEAST];
     answer(file, &mut seen, &mut queue, &mut contents, buffer)
+}
+
+// The line of a file, at the front of a buffer that holds any line: its length.
+pub fn whole_line(file: &[u8], buffer: &mut [u8; MOST_LINE]) -> usize
+    ensures { λ r. ⌜ WholeLine (now (file .entry)) (now (buffer .entry)) (now (buffer .exit)) r ⌝ }
+{
+    line_of(file, buffer)
 }

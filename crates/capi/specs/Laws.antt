@@ -29,7 +29,7 @@ use Rattle.line.specs.declared.verdict.Verdict.the-variants.{Closed, Outside, L
 use Rattle.answer.specs.Printed.{printedOf}
 use Rattle.answer.specs.Laws.{counted-by}
 use Rattle.capi.specs.Told.{NO-ROOM, toldOf, toldReply, toldAnswer, toldMember, toldLine, replyAfter, Tells}
-use Rattle.capi.specs.Flat.{four, fourLong, countsOf, small, large, flat, tablesLeast}
+use Rattle.capi.specs.Flat.{four, fourLong, countsOf, small, large, flat, smallLong, largeLong, tablesLeast}
 use Rattle.capi.specs.Calls.{replyFits, kindIf, keepUnless, spaceAfter, ReadCall, MemberCall, CheckCall}
 use Rattle.capi.specs.declared.told.Told.{Told}
 
@@ -41,16 +41,17 @@ put-four {a = a} {b} {c} {d} w x y z =
     (put-then {m = length a + length b} {k = length c} (put-then {m = length a} {k = length b} w x (omega arith)) y (omega arith)) z (omega arith)
 
 module _ (T : Tables) (v : Valid T) where
-  pub put-flat : {s₀ s₁ s₂ s₃ : List ℕ} {p q r : ℕ} → Put s₀ 0 18 (small T) s₁ p → Put s₁ p 5727 (large T) s₂ q
+  pub put-flat : {s₀ s₁ s₂ s₃ : List ℕ} {p q r : ℕ} → Put s₀ 0 smallLong (small T) s₁ p → Put s₁ p largeLong (large T) s₂ q
       → Put s₂ q (length (T .bad .rows)) (T .bad .rows) s₃ r → Put s₀ 0 tablesLeast (flat T) s₃ r
   put-flat a b c =
-      put-then {m = 5745} {k = length (T .bad .rows)} (put-then {m = 18} {k = 5727} a b (omega arith)) c (omega (arith, v .bad .long))
+      put-then {m = smallLong + largeLong} {k = length (T .bad .rows)} (put-then {m = smallLong} {k = largeLong} a b (omega arith)) c
+      (omega (arith, v .bad .long))
 
-  small-long : length (small T) ≡ 18
+  small-long : length (small T) ≡ smallLong
   small-long =
       omega (arith, length-append ((countsOf T ++ T .machines .states) ++ T .machines .starts) (T .queues .messages), length-append (countsOf T ++ T .machines .states) (T .machines .starts), length-append (countsOf T) (T .machines .states), v .machines .statesLong, v .machines .startsLong, v .queues .long)
 
-  large-long : length (large T) ≡ 5727
+  large-long : length (large T) ≡ largeLong
   large-long =
       omega (arith, length-append ((T .transitions .rows ++ T .pool .finals) ++ T .pool .arcs) (T .map .roots), length-append (T .transitions .rows ++ T .pool .finals) (T .pool .arcs), length-append (T .transitions .rows) (T .pool .finals), v .transitions .long, v .pool .finalsLong, v .pool .arcsLong, v .map .long)
 

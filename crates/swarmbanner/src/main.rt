@@ -1,5 +1,6 @@
 // Reads a session file from standard input and prints the line of its verdict.
-use answer::line_of;
+use answer::MOST_LINE;
+use answer::whole_line;
 use streams::input::Input;
 use streams::input::read_input;
 use streams::print_front;
@@ -17,8 +18,8 @@ fn main() {
 
 // Prints the line of a file.
 fn answer(file: &[u8]) {
-    let mut line = [0u8; 131113];
-    let end = line_of(file, &mut line);
+    let mut line = [0u8; MOST_LINE];
+    let end = whole_line(file, &mut line);
     if !print_front(&line, end) {
         io::write_all(2, b"swarmbanner: the line cannot be written\n");
     }

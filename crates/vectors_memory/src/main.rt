@@ -1,4 +1,5 @@
 // Answers the file on standard input with memory that is just enough, and with each part of it one short.
+use answer::MOST_LINE;
 use answer::answer;
 use streams::print_front;
 
@@ -14,7 +15,7 @@ fn main() {
 }
 
 fn print_answer(file: &[u8], seen: &mut [u16], queue: &mut [u16], contents: &mut [u8]) {
-    let mut line = [0u8; 131113];
+    let mut line = [0u8; MOST_LINE];
     let end = answer(file, seen, queue, contents, &mut line);
     print_front(&line, end);
 }

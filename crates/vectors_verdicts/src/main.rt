@@ -1,5 +1,6 @@
 // Reads a stream of files and prints the line of each.
-use answer::line_of;
+use answer::MOST_LINE;
+use answer::whole_line;
 use streams::files::Next;
 use streams::files::next_file;
 use streams::print_front;
@@ -24,10 +25,10 @@ fn answer_all(space: &mut [u8]) {
 
 // Prints the line of the next file of the stream; false where there is none.
 fn answer_next(space: &mut [u8]) -> bool {
-    let mut line = [0u8; 131113];
+    let mut line = [0u8; MOST_LINE];
     let Next::File(length) = next_file(space) else {
         return false;
     };
-    let end = line_of(&space[..length], &mut line);
+    let end = whole_line(&space[..length], &mut line);
     print_front(&line, end)
 }

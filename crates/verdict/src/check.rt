@@ -9,6 +9,7 @@ use pairs::pairs::CODES;
 use session::reading::Answer;
 use session::reading::read;
 use tables::kinds::ControlState;
+use tables::tables::MOST_WORD;
 use tables::tables::Machines;
 use tables::tables::Queues;
 use tables::tables::Tables;
@@ -26,6 +27,9 @@ ghost use Rattle.items.specs.Promises.{diagrams, memory};
 pub const TABLE_LEAST: usize = CODES;
 
 pub const CONTENTS_LEAST: usize = 32768;
+
+// The most messages that are shown.
+pub const MOST_SHOWN: usize = TABLE_LEAST + MOST_WORD as usize;
 
 pub enum Verdict {
     // nothing fails: the pairs visited

@@ -1,4 +1,5 @@
 use borrow.Author.Needs.{needs}
+use Rattle.meaning.specs.Checking.{tableLeast, contentsLeast}
 use Rattle.answer.specs.Laws.{lines, new-long}
 use Rattle.answer.proofs.line_of.Statement.{statement}
 use Rattle.answer.proofs.line_of.Tie as tie
@@ -28,7 +29,7 @@ same-length c = search needs
 
 -- src/lib.rt:43:1
 returns : tie.Need-returns
-returns c = lines (new-long 32512) (new-long 32512) (new-long 32768) (c .before .before .before .before .before .answer .ensures)
+returns c = lines (new-long tableLeast) (new-long tableLeast) (new-long contentsLeast) (c .before .before .before .before .before .answer .ensures)
 
 pub line-of-spec : {M : Type 1} → statement M
 line-of-spec =

@@ -7,7 +7,7 @@ use Rattle.vectors_verdicts.proofs.answer_next.Statement.{statement}
 use Rattle.vectors_verdicts.proofs.answer_next.Tie as tie
 use Rattle.vectors_verdicts.proofs.answer_next.Reads as reads
 use Rattle.vectors_verdicts.proofs.answer_next.Lts as lts
-use Rattle.answer.proofs.line_of.Reads as line-of-reads
+use Rattle.answer.proofs.whole_line.Reads as whole-line-reads
 use Rattle.streams.proofs.files.next_file.Reads as next-file-reads
 use Rattle.streams.proofs.print_front.Reads as print-front-reads
 
@@ -32,20 +32,16 @@ returns : tie.Need-returns
 returns c = search needs
 
 -- src/main.rt:31:23
-slice-reshare-prefix-line-of : tie.Need-slice-reshare-prefix-line-of
-slice-reshare-prefix-line-of c = omega (arith, ap fileLong (c .before .length .given .1), c .before .before .before .before .before .next-file .ensures)
+slice-reshare-prefix-whole-line : tie.Need-slice-reshare-prefix-whole-line
+slice-reshare-prefix-whole-line c = omega (arith, ap fileLong (c .before .length .given .1), c .before .before .before .before .before .next-file .ensures)
 
 -- src/main.rt:31:23
-slice-aggregate-line-of : tie.Need-slice-aggregate-line-of
-slice-aggregate-line-of c = sym (length-take-le (c .before .before .length .given .0 .0) _ (omega (arith, ap fileLong (c .before .before .length .given .1), c .before .before .before .before .before .before .next-file .ensures)))
-
--- src/main.rt:31:41
-slice-aggregate-line-of-2 : tie.Need-slice-aggregate-line-of-2
-slice-aggregate-line-of-2 c = search needs
+slice-aggregate-whole-line : tie.Need-slice-aggregate-whole-line
+slice-aggregate-whole-line c = sym (length-take-le (c .before .before .length .given .0 .0) _ (omega (arith, ap fileLong (c .before .before .length .given .1), c .before .before .before .before .before .before .next-file .ensures)))
 
 -- src/main.rt:31:9
-line-of-requires : tie.Need-line-of-requires
-line-of-requires c κs = search needs
+whole-line-requires : tie.Need-whole-line-requires
+whole-line-requires c κs = search needs
 
 -- src/main.rt:32:17
 slice-aggregate-print-front : tie.Need-slice-aggregate-print-front
@@ -72,10 +68,9 @@ answer-next-spec =
     enum-told
     same-length
     returns
-    slice-reshare-prefix-line-of
-    slice-aggregate-line-of
-    slice-aggregate-line-of-2
-    line-of-requires
+    slice-reshare-prefix-whole-line
+    slice-aggregate-whole-line
+    whole-line-requires
     slice-aggregate-print-front
     print-front-requires
     same-length-2
