@@ -117,6 +117,12 @@ fileH received =
     hex "02 02 02 00 00 01 02 02 00 00 01 01 00 03 00 01 00 01 00 01 02 00"
     ++ (hex received ++ hex "04 01 00 00 01 00 02 00 01 01 03 00 01 00 00 01 00 02 01 00")
 
+-- One machine that sends or receives sixteen times 0. The set is every fifth number of 0s.
+abbrev fileW : String → List ℕ
+fileW kind =
+    hex "01 01 00 01 01 01 00 00 00"
+    ++ (hex kind ++ hex "00 10 00 00 00 00 00 00 00 00 00 00 00 00 00 00 00 00 05 01 01 00 01 00 01 00 02 00 01 00 03 00 01 00 04 00 01 00 00 01 00")
+
 -- FURTHER CASES: machines of two states and more, longer words, two queues. With each stands what would print another line.
 abbrev pub furtherCases : List Case
 furtherCases =
@@ -145,6 +151,11 @@ furtherCases =
     ∷ case "received" (fileH "03 00 01 00") "closed 5\n"
     -- machine 1 receives 0 1 alone: the word reversed; a receive from the queue's end
     ∷ case "part" (fileH "02 00 01") "leaves 2 1 3: 0 1 0\n"
+    -- a word of sixteen sent, and received: its last message left out; its length taken for 0
+    ∷ case "sixteen sent" (fileW "01") "leaves 0 0 0:\n"
+    ∷ case "sixteen received" (fileW "02") "leaves 0 0 20: 0 0 0 0 0 0 0 0 0 0 0 0 0 0 0 0 0 0 0 0\n"
+    -- a word of seventeen taken
+    ∷ case "seventeen" (hex "01 01 00 01 01 01 00 00 00 01 00 11") "refused 5 at 11\n"
     -- a starting state that is as much as its machine's states taken; a state of machine 0 held to the states of machine 1
     ∷ case "start" (hex "02 02 03 00 03") "refused 5 at 4\n"
     ∷ case "to" (hex "02 02 03 00 00 01 01 01 00 01 02") "refused 5 at 10\n"

@@ -24,7 +24,7 @@ mostTransitions = 128
 
 -- messages of a transition's word
 abbrev pub mostWord : ℕ
-mostWord = 4
+mostWord = 16
 
 -- states of the pool: n
 abbrev pub mostPool : ℕ

@@ -15,7 +15,7 @@ pub const MOST_MESSAGES: u8 = Message::LIMIT as u8;
 
 pub const MOST_TRANSITIONS: u8 = 128;
 
-pub const MOST_WORD: u8 = 4;
+pub const MOST_WORD: u8 = 16;
 
 pub const MOST_POOL: u8 = DiagramState::LIMIT as u8;
 

@@ -214,19 +214,19 @@ fn main() {
     time_reading(subjects, "longest file", &maximal);
 
     time_checking(subjects, "R", &hex(R));
-    let steps = [("local", None), ("send", Some(Direction::Send)), ("receive", Some(Direction::Receive))];
-    for (step, direction) in steps {
-        let dense = large::dense(&mut random, direction).bytes();
-        time_checking(subjects, &format!("all arcs, {step}"), &dense);
+    let steps = [("local", None), ("send", Some((Direction::Send, 16))), ("receive", Some((Direction::Receive, 16)))];
+    for (name, step) in steps {
+        let dense = large::dense(&mut random, step).bytes();
+        time_checking(subjects, &format!("all arcs, {name}"), &dense);
     }
-    for (step, direction) in steps {
-        let holes = large::with_holes(&mut random, direction, 50).bytes();
-        time_checking(subjects, &format!("half the arcs, {step}"), &holes);
+    for (name, step) in steps {
+        let holes = large::with_holes(&mut random, step, 50).bytes();
+        time_checking(subjects, &format!("half the arcs, {name}"), &holes);
     }
     time_checking(subjects, "long leaves, local", &large::long_local_leaves().bytes());
     time_checking(subjects, "long leaves, send", &large::long_send_leaves().bytes());
 
-    let fewer = large::maximal_closed_with_fewer_steps(&mut random).bytes();
+    let fewer = large::maximal_closed_with_fewer_steps(&mut random, 16).bytes();
     time_once(subjects, "longest file, 8,192 steps", &fewer);
     if whole {
         time_once(subjects, "longest file, 32,768 steps", &maximal);

@@ -1,16 +1,17 @@
 //! What the generated files and questions hit: rows, boundaries, verdicts, and mistakes they would tell.
 
-use std::collections::BTreeMap;
+use std::collections::{BTreeMap, BTreeSet};
 
 use crate::generate::draft::Role;
 use crate::generate::membership::Purpose;
 use crate::generate::reading::{Expected, Generator};
 use crate::generate::verdicts;
+use crate::long_words::{self, has_long_word};
 use crate::membership::{membership, membership_line};
-use crate::read::{read, Kind, Refusal, Tables};
+use crate::read::{read, Kind, Refusal, Tables, WORD_LENGTH};
 use crate::stream::Question;
 use crate::traps::{verdict_with, Trap};
-use crate::verdict::line;
+use crate::verdict::{line, Verdict};
 use crate::walk::{check, Scratch};
 
 /// Each row from 3 to 10 is hit at least this often.
@@ -21,16 +22,26 @@ pub struct Coverage {
     pub complaints: Vec<String>,
 }
 
+/// What the files for reading hit.
+#[derive(Default)]
+struct ReadingHits<'c> {
+    were_read: usize,
+    /// Refusals by number.
+    rows: BTreeMap<u8, usize>,
+    /// Files that fare as they were made to, by kind.
+    kinds: BTreeMap<&'c str, usize>,
+    /// Files that are read and have a word of this length.
+    word_lengths: [usize; WORD_LENGTH + 1],
+}
+
 pub fn reading_coverage(generator: &Generator) -> Coverage {
-    let mut rows: BTreeMap<u8, usize> = BTreeMap::new();
-    let mut kinds: BTreeMap<&str, usize> = BTreeMap::new();
+    let mut hits = ReadingHits::default();
     let mut complaints = Vec::new();
-    let mut were_read = 0;
     for (index, case) in generator.cases.iter().enumerate() {
         let reply = read(&case.bytes);
         match &reply {
-            Ok(_) => were_read += 1,
-            Err(refusal) => *rows.entry(refusal.number).or_default() += 1,
+            Ok(tables) => hits.add_tables(tables),
+            Err(refusal) => *hits.rows.entry(refusal.number).or_default() += 1,
         }
         let as_made = match (case.expected, &reply) {
             (Expected::Open, _) | (Expected::Read, Ok(_)) => true,
@@ -38,22 +49,13 @@ pub fn reading_coverage(generator: &Generator) -> Coverage {
             _ => false,
         };
         if as_made {
-            *kinds.entry(&case.kind).or_default() += 1;
+            *hits.kinds.entry(&case.kind).or_default() += 1;
         } else {
             let reply = reply.map(|_| "read");
             complaints.push(format!("file {index} ({}): made for {:?}, but {reply:?}", case.kind, case.expected));
         }
     }
-
-    for row in 3..=10 {
-        let hits = rows.get(&row).copied().unwrap_or(0);
-        if hits < ENOUGH {
-            complaints.push(format!("row {row} is hit only {hits} times"));
-        }
-    }
-    if !rows.contains_key(&1) {
-        complaints.push("row 1 is not hit".to_string());
-    }
+    complaints.extend(hits.complaints());
     for role in Role::ALL {
         for end in ["least", "most"] {
             if !generator.at_limit.contains_key(&(role, end)) {
@@ -63,77 +65,166 @@ pub fn reading_coverage(generator: &Generator) -> Coverage {
     }
 
     let bytes: usize = generator.cases.iter().map(|case| case.bytes.len()).sum();
-    let mut report = format!("{} files, {bytes} bytes, {were_read} read\n", generator.cases.len());
-    for (row, hits) in &rows {
-        report += &format!("refused by {row}: {hits}\n");
-    }
-    for (kind, hits) in &kinds {
-        report += &format!("{kind}: {hits}\n");
-    }
+    let mut report = format!("{} files, {bytes} bytes, {} read\n", generator.cases.len(), hits.were_read);
+    report += &hits.report();
     for ((role, end), hits) in &generator.at_limit {
         report += &format!("valid with {role} at its {end}: {hits}\n");
     }
     Coverage { report, complaints }
 }
 
+/// Each length of a word is in at least this many files that are read.
+const ENOUGH_OF_A_LENGTH: usize = 8;
+/// Kinds of damage to long words, each with how many files must be of it.
+const LONG_WORD_DAMAGE: [(&str, usize); 5] = [
+    ("row 5: a word of 17", 40),
+    ("row 5: bytes end at the length 17", 10),
+    ("row 5: 4 before 5 at the length 17", 10),
+    ("row 5: a length far past, and 17 messages", 20),
+    ("row 7: late in a long word", 20),
+];
+
+impl ReadingHits<'_> {
+    fn add_tables(&mut self, tables: &Tables) {
+        self.were_read += 1;
+        let sent_or_received = tables.used_transitions().iter().filter(|step| step.kind != Kind::Local);
+        let lengths: BTreeSet<usize> = sent_or_received.map(|step| step.word().len()).collect();
+        for length in lengths {
+            self.word_lengths[length] += 1;
+        }
+    }
+
+    fn complaints(&self) -> Vec<String> {
+        let mut complaints = Vec::new();
+        let mut ask = |what: String, hits: Option<usize>, enough: usize| {
+            let hits = hits.unwrap_or(0);
+            if hits < enough {
+                complaints.push(format!("{what} is hit only {hits} times"));
+            }
+        };
+        ask("row 1".to_string(), self.rows.get(&1).copied(), 1);
+        for row in 3..=10 {
+            ask(format!("row {row}"), self.rows.get(&row).copied(), ENOUGH);
+        }
+        for (length, &files) in self.word_lengths.iter().enumerate() {
+            ask(format!("a word of {length}"), Some(files), ENOUGH_OF_A_LENGTH);
+        }
+        for (kind, enough) in LONG_WORD_DAMAGE {
+            ask(kind.to_string(), self.kinds.get(kind).copied(), enough);
+        }
+        complaints
+    }
+
+    fn report(&self) -> String {
+        let mut report = String::new();
+        for (row, hits) in &self.rows {
+            report += &format!("refused by {row}: {hits}\n");
+        }
+        for (kind, hits) in &self.kinds {
+            report += &format!("{kind}: {hits}\n");
+        }
+        for (length, hits) in self.word_lengths.iter().enumerate() {
+            report += &format!("read with a word of {length}: {hits}\n");
+        }
+        report
+    }
+}
+
 /// Each verdict, and each refusal from 3 to 10, is hit at least this often.
 const ENOUGH_VERDICTS: usize = 100;
 /// Each mistake changes the line of at least this many files.
 const ENOUGH_TOLD: usize = 50;
-/// Mistakes are tried on pools up to this size: they are searched for plainly.
-const SMALL_POOL: usize = 16;
+/// Mistakes are tried on files up to this many bytes: they are searched for plainly.
+const SMALL_FILE: usize = 300;
+
+/// What the files for checking hit.
+struct VerdictHits<'c> {
+    lines: BTreeMap<String, usize>,
+    kinds: BTreeMap<&'c str, usize>,
+    features: BTreeMap<&'static str, usize>,
+    of_long_words: BTreeMap<String, usize>,
+    told: BTreeMap<Trap, usize>,
+}
 
 pub fn verdict_coverage(cases: &[verdicts::Case]) -> Coverage {
     let mut scratch = Scratch::default();
-    let mut lines: BTreeMap<String, usize> = BTreeMap::new();
-    let mut kinds: BTreeMap<&str, usize> = BTreeMap::new();
-    let mut features: BTreeMap<&str, usize> = BTreeMap::new();
-    let mut told: BTreeMap<Trap, usize> = Trap::ALL.into_iter().map(|trap| (trap, 0)).collect();
+    let mut hits = VerdictHits {
+        lines: BTreeMap::new(),
+        kinds: BTreeMap::new(),
+        features: BTreeMap::new(),
+        of_long_words: long_words::asked().into_keys().map(|feature| (feature, 0)).collect(),
+        told: Trap::all().map(|trap| (trap, 0)).collect(),
+    };
     for case in cases {
         let reply = check(&case.bytes, &mut scratch);
-        *lines.entry(line_kind(&line(&reply))).or_default() += 1;
-        *kinds.entry(&case.kind).or_default() += 1;
-        let (Ok(tables), Ok(verdict)) = (read(&case.bytes), &reply) else { continue };
-        for (feature, has) in features_of(&tables) {
-            *features.entry(feature).or_default() += usize::from(has);
-        }
-        if tables.pool_state_count > SMALL_POOL {
-            continue;
-        }
-        for (&trap, count) in &mut told {
-            *count += usize::from(verdict_with(&tables, Some(trap)) != *verdict);
+        *hits.lines.entry(line_kind(&line(&reply))).or_default() += 1;
+        *hits.kinds.entry(&case.kind).or_default() += 1;
+        if let (Ok(tables), Ok(verdict)) = (read(&case.bytes), &reply) {
+            hits.add_verdict(&tables, verdict, case.bytes.len() <= SMALL_FILE);
         }
     }
-
-    let mut complaints = Vec::new();
-    let wanted = ["closed", "outside", "leaves", "bad"].map(String::from);
-    for wanted in wanted.into_iter().chain((3..=10).map(|row| format!("refused {row}"))) {
-        let hits = lines.get(&wanted).copied().unwrap_or(0);
-        if hits < ENOUGH_VERDICTS {
-            complaints.push(format!("{wanted} is hit only {hits} times"));
-        }
-    }
-    for (trap, &count) in &told {
-        if count < ENOUGH_TOLD {
-            complaints.push(format!("only {count} files tell {trap:?}"));
-        }
-    }
-
     let bytes: usize = cases.iter().map(|case| case.bytes.len()).sum();
-    let mut report = format!("{} files for checking, {bytes} bytes\n", cases.len());
-    for (line, count) in &lines {
-        report += &format!("{line}: {count}\n");
+    let report = format!("{} files for checking, {bytes} bytes\n{}", cases.len(), hits.report());
+    Coverage { report, complaints: hits.complaints() }
+}
+
+impl VerdictHits<'_> {
+    fn add_verdict(&mut self, tables: &Tables, verdict: &Verdict, is_small: bool) {
+        for (feature, has) in features_of(tables) {
+            *self.features.entry(feature).or_default() += usize::from(has);
+        }
+        for feature in long_words::features(tables, verdict) {
+            self.of_long_words.entry(feature).and_modify(|files| *files += 1);
+        }
+        if is_small {
+            for (&trap, count) in &mut self.told {
+                *count += usize::from(verdict_with(tables, Some(trap)) != *verdict);
+            }
+        }
     }
-    for (feature, count) in &features {
-        report += &format!("with {feature}: {count}\n");
+
+    fn complaints(&self) -> Vec<String> {
+        let mut complaints = Vec::new();
+        let wanted = ["closed", "outside", "leaves", "bad"].map(String::from);
+        for wanted in wanted.into_iter().chain((3..=10).map(|row| format!("refused {row}"))) {
+            let hits = self.lines.get(&wanted).copied().unwrap_or(0);
+            if hits < ENOUGH_VERDICTS {
+                complaints.push(format!("{wanted} is hit only {hits} times"));
+            }
+        }
+        for (feature, enough) in long_words::asked() {
+            let hits = self.of_long_words[&feature];
+            if hits < enough {
+                complaints.push(format!("only {hits} files have: {feature}"));
+            }
+        }
+        for (trap, &count) in &self.told {
+            if count < ENOUGH_TOLD {
+                complaints.push(format!("only {count} files tell {trap:?}"));
+            }
+        }
+        complaints
     }
-    for (kind, count) in kinds.iter().filter(|(kind, _)| !kind.starts_with("document")) {
-        report += &format!("kept as {kind}: {count}\n");
+
+    fn report(&self) -> String {
+        let mut report = String::new();
+        for (line, count) in &self.lines {
+            report += &format!("{line}: {count}\n");
+        }
+        for (feature, count) in &self.features {
+            report += &format!("with {feature}: {count}\n");
+        }
+        for (feature, count) in &self.of_long_words {
+            report += &format!("{feature}: {count}\n");
+        }
+        for (kind, count) in self.kinds.iter().filter(|(kind, _)| !kind.starts_with("document")) {
+            report += &format!("kept as {kind}: {count}\n");
+        }
+        for (trap, count) in &self.told {
+            report += &format!("files whose line would change by {trap:?}: {count}\n");
+        }
+        report
     }
-    for (trap, count) in &told {
-        report += &format!("files whose line would change by {trap:?}: {count}\n");
-    }
-    Coverage { report, complaints }
 }
 
 /// The first word of a line, with the number of a refusal.
@@ -152,7 +243,9 @@ fn features_of(tables: &Tables) -> Vec<(&'static str, bool)> {
         ("a receive", some(Kind::Receive)),
         ("a local step", some(Kind::Local)),
         ("an empty word", word(0)),
-        ("a full word", word(4)),
+        ("a word of four", word(4)),
+        ("a long word", has_long_word(tables)),
+        ("a full word", word(WORD_LENGTH as u8)),
         ("several queues", tables.queue_count > 1),
         ("several machines", tables.machine_count > 1),
         ("a missing root", tables.roots[..tables.control_state_count].contains(&0)),

@@ -220,8 +220,9 @@ impl<'t> Session<'t> {
     }
 
     /// What decides how a word fares before and after the step, whatever is added to its end: the action of what
-    /// stands before the step's place, the messages that a receive may take away, and the action of the rest.
-    fn parts(&self, transition: &Transition, word: &[u8]) -> (Action, Vec<u8>, Action) {
+    /// stands before the step's place, how much of the received word is there, and the action of the rest. None where
+    /// the queue does not begin with the received word and never will, since then the step is not taken.
+    fn parts(&self, transition: &Transition, word: &[u8]) -> Option<(Action, usize, Action)> {
         let queue = usize::from(transition.queue);
         let queue_starts = word.iter().take_while(|&&message| self.tables.queue_of(message) < queue).count();
         let queue_ends = word.iter().take_while(|&&message| self.tables.queue_of(message) <= queue).count();
@@ -232,7 +233,13 @@ impl<'t> Session<'t> {
         };
         let (earlier, rest) = word.split_at(before);
         let (taken, later) = rest.split_at(taken);
-        (self.action(earlier), taken.to_vec(), self.action(later))
+        if transition.kind == Kind::Receive {
+            let is_whole = taken.len() == transition.word().len();
+            if !transition.word().starts_with(taken) || !(is_whole || later.is_empty()) {
+                return None;
+            }
+        }
+        Some((self.action(earlier), taken.len(), self.action(later)))
     }
 
     fn action(&self, word: &[u8]) -> Action {

@@ -6,6 +6,7 @@ pub mod decide;
 pub mod diagram;
 pub mod digest;
 pub mod generate;
+pub mod long_words;
 pub mod membership;
 pub mod random;
 pub mod read;

@@ -14,7 +14,7 @@ use reference_checker::generate::verdicts::verdict_cases;
 use reference_checker::membership::{membership, membership_line};
 use reference_checker::random::Random;
 use reference_checker::read::read;
-use reference_checker::selftest::selftest;
+use reference_checker::selftest::{selftest, Agreement};
 use reference_checker::stream::{put_file, put_question, Question, Records};
 use reference_checker::verdict::{line, Reply};
 use reference_checker::walk::{check, Scratch};
@@ -93,15 +93,21 @@ fn run(arguments: &[String]) -> Result<(), String> {
         ["maximal"] => write(&maximal_closed(&mut Random::new(SEED)).bytes()),
         ["selftest", seed, count] => {
             let agreement = selftest(number(seed)?, number(count)? as usize);
-            for (verdict, files) in &agreement.verdicts {
-                println!("{verdict}: {files}");
-            }
-            println!("too large to decide by words: {}", agreement.too_large_for_words);
-            println!("disagreements: {}", agreement.disagreements.len());
+            tell_agreement(&agreement);
             fail_on(&agreement.disagreements)
         }
         _ => Err(USAGE.to_string()),
     }
+}
+
+fn tell_agreement(agreement: &Agreement) {
+    for (verdict, files) in &agreement.verdicts {
+        let long = agreement.verdicts_with_long_words.get(verdict).copied().unwrap_or(0);
+        println!("{verdict}: {files}, with long words {long}");
+    }
+    let (too_large, long) = (agreement.too_large_for_words, agreement.too_large_with_long_words);
+    println!("too large to decide by words: {too_large}, with long words {long}");
+    println!("disagreements: {}", agreement.disagreements.len());
 }
 
 fn number(text: &str) -> Result<u64, String> {

@@ -12,7 +12,7 @@ pub const CONTROL_STATES: usize = 256;
 pub const QUEUES: usize = 4;
 pub const MESSAGES: usize = 32;
 pub const TRANSITIONS: usize = 128;
-pub const WORD_LENGTH: usize = 4;
+pub const WORD_LENGTH: usize = 16;
 pub const POOL_STATES: usize = 127;
 pub const BAD_ENTRIES: usize = 64;
 

@@ -4,13 +4,19 @@ use std::collections::BTreeMap;
 
 use crate::decide::{confirm, decide};
 use crate::generate::verdicts::Plans;
+use crate::long_words::has_long_word;
 use crate::traps::verdict_with;
 use crate::verdict::{line, Verdict};
 
+#[derive(Default)]
 pub struct Agreement {
     /// Files by the first word of their line.
     pub verdicts: BTreeMap<String, usize>,
+    /// Those among them that have a long word.
+    pub verdicts_with_long_words: BTreeMap<String, usize>,
+    /// Files that have too many actions to be decided by words.
     pub too_large_for_words: usize,
+    pub too_large_with_long_words: usize,
     pub disagreements: Vec<String>,
 }
 
@@ -19,9 +25,9 @@ const PLAIN_WORDS: usize = 400;
 
 pub fn selftest(seed: u64, count: usize) -> Agreement {
     let mut plans = Plans::new(seed);
-    let mut agreement = Agreement { verdicts: BTreeMap::new(), too_large_for_words: 0, disagreements: Vec::new() };
-    for _ in 0..count {
-        let plan = plans.small();
+    let mut agreement = Agreement::default();
+    for round in 0..count {
+        let plan = if round % 2 == 0 { plans.small() } else { plans.long_worded() };
         let bytes = plan.bytes();
         let (tables, walked) = plans.judge(&plan);
         let mut disagree = |with: &str, other: String| {
@@ -32,7 +38,10 @@ pub fn selftest(seed: u64, count: usize) -> Agreement {
         match decide(&bytes) {
             Ok(reply) if reply.as_ref() == Ok(&walked) => {}
             Ok(reply) => disagree("words", line(&reply)),
-            Err(_) => agreement.too_large_for_words += 1,
+            Err(_) => {
+                agreement.too_large_for_words += 1;
+                agreement.too_large_with_long_words += usize::from(has_long_word(&tables));
+            }
         }
         let plain = verdict_with(&tables, None);
         if plain != walked {
@@ -43,6 +52,9 @@ pub fn selftest(seed: u64, count: usize) -> Agreement {
             disagree("definition", "not confirmed".to_string());
         }
         *agreement.verdicts.entry(first_word(&walked)).or_default() += 1;
+        if has_long_word(&tables) {
+            *agreement.verdicts_with_long_words.entry(first_word(&walked)).or_default() += 1;
+        }
     }
     agreement
 }

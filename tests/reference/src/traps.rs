@@ -56,10 +56,29 @@ pub enum Trap {
     SelfStepsSkipped,
     /// The start is not tested.
     StartUntested,
+    /// Only the first four messages of a word are followed.
+    FourFollowed,
+    /// A word ends after fifteen messages.
+    FifteenTaken,
+    /// The length of a word is kept in four bits, so that sixteen messages are none.
+    SixteenAreNone,
+    /// The contents shown for a receive have the first four messages of the received word.
+    FourShown,
+    /// The contents shown for a receive have a long word backwards.
+    LongWordShownBackwards,
+    /// A target that is lost past the fourth message of a sent word stays where it was before the word.
+    LostTargetStays,
+    /// A target that is lost past the fourth message of a sent word stops where it was lost.
+    LostTargetStops,
+    /// A message past the fourth that the diagram has no arc for is passed over.
+    LostMessagePassedOver,
+    /// A source that is lost past the fourth message of a received word has received what came before.
+    LostSourceStops,
 }
 
 impl Trap {
-    pub const ALL: [Trap; 22] = [
+    /// Mistakes that words of any length tell.
+    pub const OF_ALL_WORDS: [Trap; 22] = [
         Trap::AppendAtTheVeryEnd,
         Trap::ReceiveFromTheVeryFront,
         Trap::DropLostTarget,
@@ -83,6 +102,23 @@ impl Trap {
         Trap::SelfStepsSkipped,
         Trap::StartUntested,
     ];
+
+    /// Mistakes that long words alone tell.
+    pub const OF_LONG_WORDS: [Trap; 9] = [
+        Trap::FourFollowed,
+        Trap::FifteenTaken,
+        Trap::SixteenAreNone,
+        Trap::FourShown,
+        Trap::LongWordShownBackwards,
+        Trap::LostTargetStays,
+        Trap::LostTargetStops,
+        Trap::LostMessagePassedOver,
+        Trap::LostSourceStops,
+    ];
+
+    pub fn all() -> impl Iterator<Item = Trap> {
+        Self::OF_ALL_WORDS.into_iter().chain(Self::OF_LONG_WORDS)
+    }
 }
 
 #[derive(Clone, Copy, Debug, PartialEq, Eq, Hash)]
@@ -91,6 +127,9 @@ struct Node {
     source: usize,
     target: Option<usize>,
 }
+
+/// Messages of a word that the mistakes about long words take rightly.
+const FOUR: usize = 4;
 
 enum Item<'t> {
     Step { control_state: usize, number: usize, transition: &'t Transition },
@@ -208,7 +247,7 @@ impl<'t> Judge<'t> {
         let empty_as_local = self.is(Trap::EmptyWordIsLocal) && transition.length == 0;
         let kind = if empty_as_local { Kind::Local } else { transition.kind };
         let after = if empty_as_local { 0..all } else { after };
-        let search = Search { kind, word: transition.word(), before, after, is_bad: false };
+        let search = Search { kind, word: self.word_of(transition), before, after, is_bad: false };
         self.search(&search, Node { after: kind == Kind::Local, source, target })
     }
 
@@ -292,12 +331,52 @@ impl<'t> Judge<'t> {
     fn across(&self, search: &Search, node: Node) -> Option<(Node, Vec<u8>)> {
         let sent_by_source = search.kind == Kind::Send || self.is(Trap::ReceivePutsWord);
         if sent_by_source {
-            let target = follow(self.tables, node.target, search.word);
+            let target = self.read_word(Kind::Send, node.target, search.word);
             let shown = if self.is(Trap::SendShownWithWord) { search.word } else { &[] };
             return Some((Node { after: true, target, ..node }, shown.to_vec()));
         }
-        let source = follow(self.tables, Some(node.source), search.word)?;
-        let shown = if self.is(Trap::ReceiveShownWithoutWord) { &[] } else { search.word };
-        Some((Node { after: true, source, ..node }, shown.to_vec()))
+        let source = self.read_word(Kind::Receive, Some(node.source), search.word)?;
+        Some((Node { after: true, source, ..node }, self.shown(search.word)))
+    }
+
+    fn word_of(&self, transition: &'t Transition) -> &'t [u8] {
+        let word = transition.word();
+        match self.trap {
+            Some(Trap::FifteenTaken) => &word[..word.len().min(15)],
+            Some(Trap::SixteenAreNone) => &word[..word.len() % 16],
+            _ => word,
+        }
+    }
+
+    /// Where a word leads: the target if it is sent, the source if it is received.
+    fn read_word(&self, kind: Kind, from: Option<usize>, word: &[u8]) -> Option<usize> {
+        let mut state = from?;
+        for (place, &message) in word.iter().enumerate() {
+            if place >= FOUR && self.is(Trap::FourFollowed) {
+                break;
+            }
+            let Some(next) = follow(self.tables, Some(state), &[message]) else {
+                let trap = self.trap.filter(|_| place >= FOUR);
+                match (trap, kind) {
+                    (Some(Trap::LostMessagePassedOver), _) => continue,
+                    (Some(Trap::LostTargetStays), Kind::Send) => return from,
+                    (Some(Trap::LostTargetStops), Kind::Send) => return Some(state),
+                    (Some(Trap::LostSourceStops), Kind::Receive) => return Some(state),
+                    _ => return None,
+                }
+            };
+            state = next;
+        }
+        Some(state)
+    }
+
+    /// What the contents shown have of a received word, where it is crossed.
+    fn shown(&self, word: &[u8]) -> Vec<u8> {
+        match self.trap {
+            Some(Trap::ReceiveShownWithoutWord) => vec![],
+            Some(Trap::FourShown) => word[..word.len().min(FOUR)].to_vec(),
+            Some(Trap::LongWordShownBackwards) if word.len() > FOUR => word.iter().rev().copied().collect(),
+            _ => word.to_vec(),
+        }
     }
 }

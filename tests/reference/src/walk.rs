@@ -76,7 +76,7 @@ fn weight(tables: &Tables, machine: usize) -> usize {
 }
 
 /// The control state after a step, or none where the machine is not in the from-state.
-fn control_state_after(tables: &Tables, control_state: usize, step: &Transition) -> Option<usize> {
+pub fn control_state_after(tables: &Tables, control_state: usize, step: &Transition) -> Option<usize> {
     let machine = usize::from(step.machine);
     let weight = weight(tables, machine);
     let state = control_state / weight % usize::from(tables.states[machine]);

@@ -60,11 +60,11 @@ fn file_s() {
 /// Worked outside of this crate from the order of the entries.
 #[test]
 fn digests() {
-    assert_eq!(digest(&Tables::empty()), 1_188_824);
-    assert_eq!(digest(&tables(R)), 2_913_485);
-    assert_eq!(digest(&tables(S)), 4_705_313);
-    assert_eq!(reading_line(&read(&hex(S))), "read 1 1 2 2 1 2 0 4705313");
-    assert_eq!(reading_line(&read(&[])), "refused 3 at 0 1188824");
+    assert_eq!(digest(&Tables::empty()), 8_480_086);
+    assert_eq!(digest(&tables(R)), 7_818_593);
+    assert_eq!(digest(&tables(S)), 2_108_461);
+    assert_eq!(reading_line(&read(&hex(S))), "read 1 1 2 2 1 2 0 2108461");
+    assert_eq!(reading_line(&read(&[])), "refused 3 at 0 8480086");
 }
 
 #[test]
@@ -77,8 +77,9 @@ fn every_table_has_its_place() {
     assert_eq!(read.starts, [1, 2, 0, 0]);
     assert_eq!(read.control_state_count, 6);
     assert_eq!(read.messages, [1, 2, 0, 0]);
-    let receive =
-        Transition { machine: 1, from: 2, to: 1, kind: Kind::Receive, queue: 1, length: 2, messages: [2, 1, 0, 0] };
+    let mut receive =
+        Transition { machine: 1, from: 2, to: 1, kind: Kind::Receive, queue: 1, length: 2, messages: [0; 16] };
+    receive.messages[..2].copy_from_slice(&[2, 1]);
     assert_eq!(read.transitions[0], receive);
     assert_eq!(read.finals[..2], [false, true]);
     assert_eq!(read.arcs[MESSAGES + 2], 2);
@@ -155,11 +156,69 @@ fn transitions() {
     assert_eq!(refusal(&to("00 01 02")), (5, 9));
     assert_eq!(refusal(&to("00 01 01 03")), (5, 10));
     assert_eq!(refusal(&to("00 01 01 02 02")), (5, 11));
-    assert_eq!(refusal(&to("00 01 01 02 01 05")), (5, 12));
+    assert_eq!(refusal(&to("00 01 01 02 01 11")), (5, 12));
     assert_eq!(refusal(&to("00 01 01 02 01 04 01 02 01 02")), (3, 17));
     assert_eq!(refusal(&to("00 01 01 02 01 01 03")), (5, 13));
     assert_eq!(refusal(&to("00 01 01 02 01 01 00")), (7, 13));
     assert_eq!(refusal(&to("00 01 01 01 00 02 00 01")), (7, 14));
+}
+
+/// Sixteen messages of queue 1, the queues having one and two.
+const SIXTEEN: &str = "02 01 01 02 01 02 02 02 01 01 02 01 01 01 02 01";
+
+#[test]
+fn a_word_has_up_to_sixteen_messages() {
+    // One machine of one state; the only transition receives from queue 1. Its length stands at 12.
+    let to =
+        |length: &str, word: &str| format!("01 01 00  02 01 02  01 00 00 00 02 01 {length} {word} 01 01 00  01  00");
+    let sixteen = tables(&to("10", SIXTEEN));
+    assert_eq!(sixteen.transitions[0].length, 16);
+    assert_eq!(sixteen.transitions[0].messages, [2, 1, 1, 2, 1, 2, 2, 2, 1, 1, 2, 1, 1, 1, 2, 1]);
+    let words: Vec<&str> = SIXTEEN.split(' ').collect();
+    for length in 0..=16 {
+        let read = tables(&to(&format!("{length:02x}"), &words[..length].join(" ")));
+        assert_eq!(read.transitions[0].word(), &sixteen.transitions[0].messages[..length]);
+        assert!(read.transitions[0].messages[length..].iter().all(|&message| message == 0));
+    }
+    let seventeen = format!("{SIXTEEN} 02");
+    assert_eq!(refusal(&to("11", &seventeen)), (5, 12));
+    assert_eq!(refusal(&to("11", SIXTEEN)), (5, 12));
+    // 18, 127, 144, whose low group is 16, 272, whose low byte is 16, and the largest number.
+    for far in ["12", "7f", "90 01", "90 02", "ff 7f"] {
+        assert_eq!(refusal(&to(far, &seventeen)), (5, 12));
+    }
+    assert_eq!(refusal(&to("91 00", &seventeen)), (4, 12));
+    assert_eq!(refusal("01 01 00  02 01 02  01 00 00 00 02 01 11"), (5, 12));
+    assert_eq!(refusal("01 01 00  02 01 02  01 00 00 00 02 01 10"), (3, 13));
+}
+
+#[test]
+fn every_message_of_a_long_word_is_tested() {
+    let to = |word: &str| format!("01 01 00  02 01 02  01 00 00 00 02 01 10 {word}");
+    for place in 0..16 {
+        let mut words: Vec<&str> = SIXTEEN.split(' ').collect();
+        assert_eq!(refusal(&to(&words[..place].join(" "))), (3, 13 + place));
+        // Message 0 is of queue 0, and 3 is not below the sum.
+        words[place] = "00";
+        assert_eq!(refusal(&to(&words.join(" "))), (7, 13 + place));
+        words[place] = "03";
+        assert_eq!(refusal(&to(&words.join(" "))), (5, 13 + place));
+        words[place] = "81 00";
+        assert_eq!(refusal(&to(&words.join(" "))), (4, 13 + place));
+    }
+}
+
+#[test]
+fn a_long_word_in_a_later_transition() {
+    // The second transition sends to queue 1. Its length stands at 34.
+    let to = |rest: &str| {
+        format!("01 01 00  02 01 02  02 00 00 00 02 01 10 {SIXTEEN}  00 00 00 01 01 {rest}  01 01 00  01  00")
+    };
+    let read = tables(&to(&format!("10 {SIXTEEN}")));
+    assert_eq!(read.transitions[1].word(), read.transitions[0].word());
+    assert_eq!(read.transitions[1].kind, Kind::Send);
+    assert_eq!(refusal(&to(&format!("11 {SIXTEEN} 01"))), (5, 34));
+    assert_eq!(refusal(&to("ff 7f")), (5, 34));
 }
 
 #[test]
@@ -210,6 +269,11 @@ fn map_and_bad_entries() {
 
 #[test]
 fn generated_files_are_refused_as_they_were_made() {
-    let coverage = reading_coverage(&reading_cases(7));
+    let mut generator = reading_cases(7);
+    let coverage = reading_coverage(&generator);
     assert!(coverage.complaints.is_empty(), "{}", coverage.complaints.join("\n"));
+    let has_13 = |tables: Tables| tables.used_transitions().iter().any(|transition| transition.length == 13);
+    generator.cases.retain(|case| case.kind != "row 5: a word of 17" && !read(&case.bytes).is_ok_and(has_13));
+    let complaints = reading_coverage(&generator).complaints;
+    assert_eq!(complaints, ["a word of 13 is hit only 0 times", "row 5: a word of 17 is hit only 0 times"]);
 }

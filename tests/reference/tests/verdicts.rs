@@ -101,6 +101,93 @@ fn words_that_lead_alike_may_fare_differently() {
     assert_line("alike", &hex(file), "leaves 0 0 2: 1 0");
 }
 
+/// A word of queue 1, whose messages are 1 and 2. It begins with 1.
+const WORD: [u8; 16] = [1, 2, 2, 1, 1, 1, 2, 1, 2, 2, 2, 1, 1, 2, 1, 2];
+
+/// States from `first` on that read a word one after the other; the last one is final. At the place given, if any, the
+/// arc is missing.
+fn chain(first: usize, word: &[u8], missing: Option<usize>) -> Vec<u8> {
+    let mut states = Vec::new();
+    for (place, &message) in word.iter().enumerate() {
+        if missing == Some(place) {
+            states.extend([0, 0]);
+        } else {
+            states.extend([0, 1, message, (first + place + 1) as u8]);
+        }
+    }
+    states.extend([1, 0]);
+    states
+}
+
+/// One machine of three states, starting in 0, and queues of messages 0, 1 2 and 3. A step of `WORD` from state 1 to 2
+/// on queue 1. State 0 of the pool is final without arcs and the start's root. The sets of the other two control states
+/// are what their chains read.
+fn step_between(kind: u8, source: &[u8], target: &[u8], missing: Option<usize>) -> Vec<u8> {
+    let target_root = 1 + source.len() + 1;
+    let states = target_root + target.len() + 1;
+    let (of_source, of_target) = if kind == 1 { (None, missing) } else { (missing, None) };
+    [
+        &hex("01 03 00  03 01 02 01")[..],
+        &[1, 0, 1, 2, kind, 1, 16],
+        &WORD,
+        &[states as u8, 1, 0],
+        &chain(1, source, of_source),
+        &chain(target_root, target, of_target),
+        &[1, 1 + 1, 1 + target_root as u8, 0],
+    ]
+    .concat()
+}
+
+fn with_word(before: &[u8], after: &[u8]) -> Vec<u8> {
+    [before, &WORD, after].concat()
+}
+
+#[test]
+fn a_received_word_of_sixteen_is_shown_inside_contents() {
+    let before = with_word(&[0, 0], &[2, 3]);
+    // Control state 2 holds 0 2 3, but the step leaves 0 0 2 3.
+    let shown = "leaves 1 0 20: 0 0 1 2 2 1 1 1 2 1 2 2 2 1 1 2 1 2 2 3";
+    assert_line("lost behind the word", &step_between(2, &before, &[0, 2, 3], None), shown);
+    // The end of the queue is not final.
+    assert_line("not final", &step_between(2, &before, &[0, 0, 2, 3, 3], None), shown);
+    let alone = "leaves 1 0 16: 1 2 2 1 1 1 2 1 2 2 2 1 1 2 1 2";
+    assert_line("the word alone", &step_between(2, &WORD, &[3], None), alone);
+}
+
+#[test]
+fn steps_of_sixteen_messages_count_pairs() {
+    // Before the step: both at their roots, and after 0. After it: after 0 and the word, after 2, and after 3.
+    assert_line("receive", &step_between(2, &with_word(&[0], &[2, 3]), &[0, 2, 3], None), "closed 5");
+    // Before the step: at the roots, after 0, after 0 2. After it: the word loses the target at the root and after 0,
+    // and not after 0 2; then after 3.
+    assert_line("send", &step_between(1, &[0, 2, 3], &with_word(&[0, 2], &[3]), None), "closed 7");
+}
+
+#[test]
+fn a_word_is_lost_at_any_place() {
+    for place in 0..16 {
+        let lost = step_between(1, &[0, 2, 3], &with_word(&[0, 2], &[3]), Some(2 + place));
+        assert_line(&format!("target lost at {place}"), &lost, "leaves 1 0 3: 0 2 3");
+        // The pairs are at the roots and after 0; nothing can be received.
+        let stuck = step_between(2, &with_word(&[0], &[2, 3]), &[0, 2, 3], Some(1 + place));
+        assert_line(&format!("source lost at {place}"), &stuck, "closed 2");
+    }
+}
+
+#[test]
+fn seventeen_messages_are_refused_at_their_length() {
+    let mut file = step_between(1, &[0, 2, 3], &with_word(&[0, 2], &[3]), None);
+    // Machines and queues have 7 bytes, then come the transitions' number and five numbers of the only one.
+    assert_eq!(file[13], 16);
+    file[13] = 17;
+    assert_line("17 for 16", &file, "refused 5 at 13");
+    file.insert(14, 1);
+    assert_line("17 messages", &file, "refused 5 at 13");
+    file.remove(14);
+    file[13] = 16;
+    assert_line("16 messages", &file, "closed 7");
+}
+
 #[test]
 fn long_contents() {
     let lengths = [(large::long_local_leaves(), 4_031), (large::long_send_leaves(), 1_983)];
@@ -116,10 +203,12 @@ fn long_contents() {
 #[test]
 fn full_tables() {
     let mut scratch = Scratch::default();
-    let dense = large::dense(&mut Random::new(1), Some(Direction::Send));
-    // Every pair of 127 states before the step and after it.
-    assert_eq!(line(&check(&dense.bytes(), &mut scratch)), "closed 32258");
-    assert!(scratch.is_clear());
+    for length in [4, 16] {
+        let dense = large::dense(&mut Random::new(1), Some((Direction::Send, length)));
+        // Every pair of 127 states before the step and after it.
+        assert_eq!(line(&check(&dense.bytes(), &mut scratch)), "closed 32258");
+        assert!(scratch.is_clear());
+    }
 }
 
 #[test]
@@ -131,17 +220,23 @@ fn the_last_items_of_all() {
 #[test]
 fn the_longest_file_is_read() {
     let longest = large::maximal_closed(&mut Random::new(1)).bytes();
-    assert_eq!(longest.len(), 10_125);
+    assert_eq!(longest.len(), 11_661);
     assert!(read(&longest).is_ok());
+    let with_words_of_4 = large::maximal_closed_with_words(&mut Random::new(1), 4).bytes();
+    assert_eq!(with_words_of_4.len(), 10_125);
+    assert!(read(&with_words_of_4).is_ok());
 }
 
 #[test]
 fn all_ways_agree_on_random_files() {
-    let agreement = selftest(11, 3_000);
+    let agreement = selftest(11, 6_000);
     assert!(agreement.disagreements.is_empty(), "{}", agreement.disagreements.join("\n"));
     for verdict in ["closed", "outside", "leaves", "bad"] {
-        assert!(agreement.verdicts.get(verdict).is_some_and(|&files| files > 100), "few are {verdict}");
+        for verdicts in [&agreement.verdicts, &agreement.verdicts_with_long_words] {
+            assert!(verdicts.get(verdict).is_some_and(|&files| files > 100), "few are {verdict}");
+        }
     }
+    assert!(agreement.too_large_for_words < 10, "{} are not decided by words", agreement.too_large_for_words);
 }
 
 #[test]
@@ -172,7 +267,43 @@ fn traps_of_the_document_change_lines() {
 }
 
 #[test]
+fn traps_of_long_words_change_lines() {
+    let changes = |bytes: &[u8], trap: Trap| {
+        let tables = read(bytes).expect("the file is read");
+        verdict_with(&tables, Some(trap)) != verdict_with(&tables, None)
+    };
+    let sends = step_between(1, &[0], &with_word(&[0], &[]), None);
+    let receives = step_between(2, &WORD, &[], None);
+    for trap in [Trap::FourFollowed, Trap::FifteenTaken, Trap::SixteenAreNone] {
+        assert!(changes(&sends, trap), "{trap:?} of a send");
+        assert!(changes(&receives, trap), "{trap:?} of a receive");
+    }
+    let leaves = step_between(2, &with_word(&[0], &[3]), &[3], None);
+    assert!(changes(&leaves, Trap::FourShown));
+    assert!(changes(&leaves, Trap::LongWordShownBackwards));
+    let stuck = |place: usize| step_between(2, &WORD, &[2], Some(place));
+    assert!(changes(&stuck(4), Trap::LostSourceStops) && !changes(&stuck(3), Trap::LostSourceStops));
+    // The source holds nothing; the target reads up to five times 0 and accepts all of it. The word has one 1.
+    let lost = |word: &str| {
+        let pool = "07 01 00 01 01 00 02 01 01 00 03 01 01 00 04 01 01 00 05 01 01 00 06 01 00";
+        hex(&format!("01 03 00  01 02  01 00 01 02 01 00 06 {word}  {pool}  01 01 02  00"))
+    };
+    assert_line("lost at the fifth message", &lost("00 00 00 00 01 00"), "leaves 1 0 0:");
+    for trap in [Trap::LostTargetStays, Trap::LostTargetStops, Trap::LostMessagePassedOver] {
+        assert!(changes(&lost("00 00 00 00 01 00"), trap), "{trap:?}");
+        assert!(!changes(&lost("00 00 00 01 00 00"), trap), "{trap:?} of a short beginning");
+    }
+}
+
+#[test]
 fn generated_files_hit_everything() {
-    let coverage = verdict_coverage(&verdict_cases(5));
+    let mut cases = verdict_cases(5);
+    let coverage = verdict_coverage(&cases);
     assert!(coverage.complaints.is_empty(), "{}", coverage.complaints.join("\n"));
+    // Without the files made for long words their features are missed.
+    cases.retain(|case| case.kind != "long words");
+    let complaints = verdict_coverage(&cases).complaints.join("\n");
+    for missed in ["bad, receive of 11", "leaves, send of a full word that is lost at 09", "FifteenTaken"] {
+        assert!(complaints.contains(missed), "not asked: {missed}");
+    }
 }

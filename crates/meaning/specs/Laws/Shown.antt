@@ -52,7 +52,7 @@ module _ (S : Session) (wf : WellFormed S) (b : ℕ) (most : (i : Item) → IsIt
           let all = most i item in
           reply-shows i w b (omega arith)
 
--- a word of a file has at most four messages
+-- no more is taken than a word of a file may have
 module _ (T : Tables) (ok : Valid T) where
   out-short : (k q len : ℕ) (t : List ℕ) → len ≤ mostWord → length (out (actionOf k q (take len t))) ≤ mostWord
   out-short zero q len t h = zero-le

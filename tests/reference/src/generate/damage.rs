@@ -5,6 +5,7 @@ use super::draft::{encode, Role};
 use super::large::maximal_closed;
 use super::plan::{Action, Direction, Plan, PlannedTransition};
 use super::reading::Generator;
+use crate::long_words::LONG_WORD;
 use crate::read;
 
 impl Generator {
@@ -30,6 +31,7 @@ impl Generator {
         for _ in 0..8 {
             files.push(self.small_plan().bytes());
         }
+        files.push(self.plan_with_word(read::WORD_LENGTH).0.bytes());
         for file in &files {
             for length in 0..file.len() {
                 self.refused("row 3: beginning", file[..length].to_vec(), 3, length);
@@ -91,6 +93,7 @@ impl Generator {
                 }
             }
         }
+        self.words_too_long();
         // One past a limit that needs the large file to be tight.
         let draft = maximal_closed(&mut self.random).draft();
         for role in [Role::Root, Role::BadControlState, Role::BadRoot, Role::ArcTarget, Role::Arcs] {
@@ -98,6 +101,34 @@ impl Generator {
             let past = draft.numbers[position].most + 1;
             let bytes = draft.bytes_with(position, &encode(past));
             self.refused(format!("row 5: one past, {role}"), bytes, 5, draft.place(position));
+        }
+    }
+
+    /// The longest word is read. With one message more the file is refused at the word's length, whatever is behind it.
+    fn words_too_long(&mut self) {
+        for round in 0..40 {
+            let (mut plan, number) = self.plan_with_word(read::WORD_LENGTH);
+            self.valid("row 5 not yet: a word of 16", &plan);
+            let word = &mut plan.transitions[number].action.as_mut().expect("the transition has a word").word;
+            word.push(word[self.random.below(read::WORD_LENGTH)]);
+            let draft = plan.draft();
+            let words_before = plan.transitions[..number].iter().filter(|earlier| earlier.action.is_some()).count();
+            let position = draft.positions(Role::WordLength)[words_before];
+            let place = draft.place(position);
+            self.refused("row 5: a word of 17", draft.bytes(), 5, place);
+            match round % 4 {
+                0 => self.refused("row 5: bytes end at the length 17", draft.bytes()[..=place].to_vec(), 5, place),
+                1 => {
+                    let other_form = draft.bytes_with(position, &[128 | 17, 0]);
+                    self.refused("row 5: 4 before 5 at the length 17", other_form, 4, place);
+                }
+                _ => {
+                    // In some of these the low group or the low byte is 16.
+                    let far = [18, 31, 32, 64, 127, 128, 144, 256, 272, 16_383][self.random.below(10)];
+                    let bytes = draft.bytes_with(position, &encode(far));
+                    self.refused("row 5: a length far past, and 17 messages", bytes, 5, place);
+                }
+            }
         }
     }
 
@@ -171,30 +202,17 @@ impl Generator {
         }
     }
 
-    /// A message of another queue in a transition's word.
+    /// A message of another queue in a transition's word, short and long by turns.
     pub(super) fn row_7(&mut self) {
         for round in 0..120 {
-            let (mut plan, position) = loop {
-                let mut plan = self.small_plan();
-                if plan.queues.len() < 2 {
-                    continue;
-                }
-                let queue = self.random.below(plan.queues.len());
-                let own = plan.messages_of(queue);
-                let word = (0..self.random.between(1, 4)).map(|_| self.random.between(own.start, own.end - 1));
-                let action = Action { direction: Direction::Receive, queue, word: word.collect() };
-                let transition = PlannedTransition { machine: 0, from: 0, to: 0, action: Some(action) };
-                plan.transitions.insert(0, transition);
-                let words = plan.draft().positions(Role::WordMessage);
-                let first_word = plan.transitions[0].action.as_ref().map_or(0, |action| action.word.len());
-                break (plan, words[self.random.below(first_word)]);
-            };
+            let (mut plan, index) = self.plan_with_two_queues(round % 2 == 1);
             if round % 3 == 0 {
                 // A violation in a later transition changes nothing.
                 let copy = plan.transitions[0].clone();
                 plan.transitions.push(copy);
             }
             let draft = plan.draft();
+            let position = draft.positions(Role::WordMessage)[index];
             let queue = plan.transitions[0].action.as_ref().map_or(0, |action| action.queue);
             let others: Vec<usize> =
                 (0..plan.message_sum()).filter(|&message| plan.queue_of(message) != queue).collect();
@@ -204,12 +222,31 @@ impl Generator {
             if round % 4 == 1 {
                 bytes.truncate(place + 1);
             }
-            self.refused("row 7", bytes, 7, place);
+            let kind = if index + 1 < LONG_WORD { "row 7" } else { "row 7: late in a long word" };
+            self.refused(kind, bytes, 7, place);
             let at_the_sum = draft.bytes_with(position, &encode(plan.message_sum()));
             if round % 6 == 0 {
                 self.refused("row 7: 5 before 7", at_the_sum, 5, place);
             }
         }
+    }
+
+    /// A plan of several queues whose first transition receives a word, and the index of a message of that word.
+    fn plan_with_two_queues(&mut self, is_long: bool) -> (Plan, usize) {
+        let mut plan = loop {
+            let plan = self.small_plan();
+            if plan.queues.len() > 1 {
+                break plan;
+            }
+        };
+        let queue = self.random.below(plan.queues.len());
+        let own = plan.messages_of(queue);
+        let (least, most) = if is_long { (LONG_WORD, read::WORD_LENGTH) } else { (1, LONG_WORD - 1) };
+        let length = self.random.between(least, most);
+        let word = (0..length).map(|_| self.random.between(own.start, own.end - 1)).collect();
+        let action = Action { direction: Direction::Receive, queue, word };
+        plan.transitions.insert(0, PlannedTransition { machine: 0, from: 0, to: 0, action: Some(action) });
+        (plan, self.random.below(length))
     }
 
     /// A later message of a state that is not above the one before it.

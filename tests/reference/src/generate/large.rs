@@ -12,15 +12,20 @@ use crate::read::{BAD_ENTRIES, CONTROL_STATES, MESSAGES, POOL_STATES, TRANSITION
 /// Every step is taken in every control state: the third machine has one state, and all transitions are its own. The
 /// set of every control state is all contents, and the bad diagrams accept nothing, so the file is closed.
 pub fn maximal_closed(random: &mut Random) -> Plan {
-    maximal_with_machines(random, vec![16, 16, 1, 1], 2)
+    maximal_closed_with_words(random, WORD_LENGTH)
+}
+
+/// The same with shorter words.
+pub fn maximal_closed_with_words(random: &mut Random, length: usize) -> Plan {
+    maximal_with_machines(random, vec![16, 16, 1, 1], 2, length)
 }
 
 /// As long, but each step is taken in a quarter of the control states.
-pub fn maximal_closed_with_fewer_steps(random: &mut Random) -> Plan {
-    maximal_with_machines(random, vec![4, 4, 4, 4], 0)
+pub fn maximal_closed_with_fewer_steps(random: &mut Random, length: usize) -> Plan {
+    maximal_with_machines(random, vec![4, 4, 4, 4], 0, length)
 }
 
-fn maximal_with_machines(random: &mut Random, states: Vec<usize>, moving: usize) -> Plan {
+fn maximal_with_machines(random: &mut Random, states: Vec<usize>, moving: usize, length: usize) -> Plan {
     let accepting = POOL_STATES - 1;
     let mut pool = all_arcs(random, accepting);
     let lost = (0..MESSAGES).map(|message| (message, accepting)).collect();
@@ -30,7 +35,7 @@ fn maximal_with_machines(random: &mut Random, states: Vec<usize>, moving: usize)
             machine: moving,
             from: number % states[moving],
             to: (number / 2) % states[moving],
-            action: Some(full_word(random, if number % 2 == 0 { Direction::Send } else { Direction::Receive })),
+            action: Some(even_word(random, DIRECTIONS[number % 2], length)),
         })
         .collect();
     Plan {
@@ -61,8 +66,10 @@ fn all_arcs(random: &mut Random, states: usize) -> Vec<PlannedState> {
     pool
 }
 
-fn full_word(random: &mut Random, direction: Direction) -> Action {
-    let word = (0..WORD_LENGTH).map(|_| 2 * random.below(MESSAGES / 2)).collect();
+const DIRECTIONS: [Direction; 2] = [Direction::Send, Direction::Receive];
+
+fn even_word(random: &mut Random, direction: Direction, length: usize) -> Action {
+    let word = (0..length).map(|_| 2 * random.below(MESSAGES / 2)).collect();
     Action { direction, queue: 0, word }
 }
 
@@ -70,32 +77,38 @@ fn one_step(from: usize, to: usize, action: Option<Action>) -> Vec<PlannedTransi
     vec![PlannedTransition { machine: 0, from, to, action }]
 }
 
-/// One step over 127 states with all arcs for 32 messages; closed. No direction makes it a local step.
-pub fn dense(random: &mut Random, direction: Option<Direction>) -> Plan {
-    let action = direction.map(|direction| full_word(random, direction));
+/// The direction of a step and the length of its word; none for a local step.
+pub type StepOf = Option<(Direction, usize)>;
+
+/// One step over 127 states with all arcs for 32 messages; closed. The pool is the same for every step.
+pub fn dense(random: &mut Random, step: StepOf) -> Plan {
+    let pool = all_arcs(random, POOL_STATES);
+    let action = step.map(|(direction, length)| even_word(random, direction, length));
     Plan {
         states: vec![2],
         starts: vec![0],
         queues: vec![MESSAGES],
         transitions: one_step(0, 1, action),
-        pool: all_arcs(random, POOL_STATES),
+        pool,
         roots: vec![Some(0), Some(1)],
         bad: vec![],
     }
 }
 
 /// The same with a part of the arcs missing, so that the target is often nowhere; closed, since the source accepts
-/// nothing. Arcs for the step's own messages stay, else it could hardly be taken. The last state is the start's alone.
-pub fn with_holes(random: &mut Random, direction: Option<Direction>, percent_missing: usize) -> Plan {
-    let action = direction.map(|direction| full_word(random, direction));
+/// nothing. Arcs for the step's own messages stay, else it could hardly be taken; they are four, however long the word,
+/// and the pool is the same for every length. The last state is the start's alone.
+pub fn with_holes(random: &mut Random, step: StepOf, percent_missing: usize) -> Plan {
     let mut pool = all_arcs(random, POOL_STATES - 1);
+    let own = if step.is_some() { even_word(random, Direction::Send, 4).word } else { vec![] };
     for state in &mut pool {
         state.is_final = false;
-        state.arcs.retain(|message, _| {
-            let own = action.as_ref().is_some_and(|action| action.word.contains(message));
-            own || !random.chance(percent_missing)
-        });
+        state.arcs.retain(|message, _| own.contains(message) || !random.chance(percent_missing));
     }
+    let action = step.map(|(direction, length)| {
+        let word = (0..length).map(|_| *random.pick(&own).expect("the step has messages")).collect();
+        Action { direction, queue: 0, word }
+    });
     pool.push(PlannedState { is_final: true, arcs: BTreeMap::new() });
     Plan {
         states: vec![3],
@@ -117,8 +130,8 @@ pub fn many_dense_steps(random: &mut Random) -> Plan {
             to: (number / 4 + number) % 4,
             action: match number % 3 {
                 0 => None,
-                1 => Some(full_word(random, Direction::Receive)),
-                _ => Some(full_word(random, Direction::Send)),
+                1 => Some(even_word(random, Direction::Receive, WORD_LENGTH)),
+                _ => Some(even_word(random, Direction::Send, WORD_LENGTH)),
             },
         })
         .collect();

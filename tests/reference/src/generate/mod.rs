@@ -4,6 +4,7 @@ mod damage;
 pub mod document;
 pub mod draft;
 pub mod large;
+mod long;
 pub mod membership;
 pub mod plan;
 pub mod reading;

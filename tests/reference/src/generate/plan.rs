@@ -3,6 +3,7 @@
 use std::collections::BTreeMap;
 
 use super::draft::{Draft, Role};
+use crate::long_words::LONG_WORD;
 use crate::random::Random;
 use crate::read;
 
@@ -265,14 +266,28 @@ pub fn random_transition(random: &mut Random, plan: &Plan) -> PlannedTransition 
     }
 }
 
-/// Mostly one message, as in protocols; also none, and full words.
+/// Mostly one message, as in protocols; also none, a few, and now and then a long word.
 fn random_word_length(random: &mut Random) -> usize {
-    match random.below(10) {
-        0 => 0,
-        1 => 2,
-        2 => 3,
-        3 => read::WORD_LENGTH,
+    match random.below(20) {
+        0 | 1 => 0,
+        2 | 3 => 2,
+        4 | 5 => 3,
+        6 | 7 => 4,
+        8 => random_long_length(random),
         _ => 1,
+    }
+}
+
+/// Of a long word, and often of the longest.
+pub fn random_long_length(random: &mut Random) -> usize {
+    lean(random, LONG_WORD, read::WORD_LENGTH)
+}
+
+pub fn random_direction(random: &mut Random) -> Direction {
+    if random.chance(50) {
+        Direction::Send
+    } else {
+        Direction::Receive
     }
 }
 

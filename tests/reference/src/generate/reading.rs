@@ -8,6 +8,7 @@ use std::collections::BTreeMap;
 use super::document;
 use super::draft::{Draft, Role};
 use super::large::maximal_closed;
+use super::long::transition_along_arcs;
 use super::plan::{random_plan, Plan, Shape};
 use crate::random::Random;
 use crate::read;
@@ -38,6 +39,8 @@ pub fn reading_cases(seed: u64) -> Generator {
     let mut generator = Generator { random: Random::new(seed), cases: Vec::new(), at_limit: BTreeMap::new() };
     generator.document_files();
     generator.valid_files();
+    generator.valid_words();
+    generator.valid_products_and_sums();
     generator.row_1();
     generator.row_3();
     generator.row_4();
@@ -60,7 +63,7 @@ impl Generator {
         self.add(kind, bytes, Expected::Refused(number, place));
     }
 
-    fn valid(&mut self, kind: &str, plan: &Plan) {
+    pub(super) fn valid(&mut self, kind: &str, plan: &Plan) {
         let draft = plan.draft();
         let mut ends: Vec<(Role, &'static str)> = Vec::new();
         for number in &draft.numbers {
@@ -81,6 +84,15 @@ impl Generator {
 
     pub(super) fn small_plan(&mut self) -> Plan {
         random_plan(&mut self.random, &Shape::SMALL)
+    }
+
+    /// A small plan with a word of this length, and the number of its transition.
+    pub(super) fn plan_with_word(&mut self, length: usize) -> (Plan, usize) {
+        let mut plan = self.small_plan();
+        let number = self.random.between(0, plan.transitions.len());
+        let transition = transition_along_arcs(&mut self.random, &plan, length);
+        plan.transitions.insert(number, transition);
+        (plan, number)
     }
 
     /// A small draft with at least one number of a role, and the position of such a number.
@@ -136,7 +148,19 @@ impl Generator {
             let plan = maximal_closed(&mut self.random);
             self.valid("valid maximal", &plan);
         }
-        // Products and sums that just pass the tests of row 6.
+    }
+
+    fn valid_words(&mut self) {
+        for length in 0..=read::WORD_LENGTH {
+            for _ in 0..8 {
+                let (plan, _) = self.plan_with_word(length);
+                self.valid(&format!("valid with a word of {length:02}"), &plan);
+            }
+        }
+    }
+
+    /// Products and sums that just pass the tests of row 6.
+    fn valid_products_and_sums(&mut self) {
         for states in [vec![16, 16], vec![2, 8, 16], vec![4, 4, 4, 4], vec![16, 16, 1, 1], vec![1, 16, 1, 16]] {
             let mut plan = self.small_plan();
             plan.starts = states.iter().map(|states| states - 1).collect();

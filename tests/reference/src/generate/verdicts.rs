@@ -4,12 +4,14 @@ use std::collections::BTreeMap;
 
 use super::document;
 use super::large;
+use super::long;
 use super::plan::{random_plan, random_transition, Direction, Plan, Shape};
 use super::reading::{reading_cases, Expected};
 use crate::decide::competitors;
 use crate::diagram::follow;
+use crate::long_words;
 use crate::random::Random;
-use crate::read::{read, Tables};
+use crate::read::{read, Tables, WORD_LENGTH};
 use crate::traps::{verdict_with, Trap};
 use crate::verdict::Verdict;
 use crate::walk::{check_tables, Scratch};
@@ -45,6 +47,21 @@ impl Plans {
         self.mended(&SHAPE)
     }
 
+    /// A small plan with long words, unless mending takes them away.
+    pub fn long_worded(&mut self) -> Plan {
+        match self.random.below(4) {
+            0 => long::chained(&mut self.random),
+            1 => {
+                let plan = long::chained(&mut self.random);
+                self.mend_some(plan)
+            }
+            _ => {
+                let plan = long::along_arcs(&mut self.random, &SHAPE);
+                self.mend_some(plan)
+            }
+        }
+    }
+
     /// A plan of a shape with something to check, mended for no, some or many rounds.
     pub fn mended(&mut self, shape: &Shape) -> Plan {
         let mut plan = random_plan(&mut self.random, shape);
@@ -52,6 +69,10 @@ impl Plans {
             let transition = random_transition(&mut self.random, &plan);
             plan.transitions.push(transition);
         }
+        self.mend_some(plan)
+    }
+
+    fn mend_some(&mut self, mut plan: Plan) -> Plan {
         let mends = match self.random.below(4) {
             0 => 0,
             1 => self.random.between(1, 3),
@@ -147,6 +168,7 @@ fn contents_after(plan: &Plan, transition: usize, contents: &[u8]) -> Vec<u8> {
 const REFUSED_OF_EACH_ROW: usize = 130;
 /// Random plans that are looked at.
 const PLANS: usize = 60_000;
+const LONG_WORDED_PLANS: usize = 40_000;
 
 /// How many files of each kind are kept.
 fn quota(kind: &str) -> usize {
@@ -172,6 +194,7 @@ pub fn verdict_cases(seed: u64) -> Vec<Case> {
         .collect();
     cases.extend(refused_cases(seed));
     cases.extend(large_cases(seed));
+    cases.extend(long_worded_cases(seed));
 
     let mut plans = Plans::new(seed);
     let mut kept: BTreeMap<String, usize> = BTreeMap::new();
@@ -189,7 +212,7 @@ pub fn verdict_cases(seed: u64) -> Vec<Case> {
 
 /// What a file is good for, the rarest first, if that is wanted.
 fn kind_of(tables: &Tables, verdict: &Verdict, wanted: impl Fn(&str) -> bool) -> Option<String> {
-    for trap in Trap::ALL {
+    for trap in Trap::OF_ALL_WORDS {
         let kind = format!("tells from {trap:?}");
         if wanted(&kind) && verdict_with(tables, Some(trap)) != *verdict {
             return Some(kind);
@@ -208,6 +231,33 @@ fn kind_of(tables: &Tables, verdict: &Verdict, wanted: impl Fn(&str) -> bool) ->
         Verdict::Bad { contents, .. } => format!("bad with {}", contents.len()),
     };
     wanted(&kind).then_some(kind)
+}
+
+/// Files that are kept as long as some feature of long words, or a mistake about them, is still too seldom.
+fn long_worded_cases(seed: u64) -> Vec<Case> {
+    let mut plans = Plans::new(seed + 3);
+    let mut missing = long_words::asked();
+    missing.extend(Trap::OF_LONG_WORDS.map(|trap| (format!("{trap:?}"), quota("tells from a trap"))));
+    let mut cases = Vec::new();
+    for _ in 0..LONG_WORDED_PLANS {
+        let plan = plans.long_worded();
+        let (tables, verdict) = plans.judge(&plan);
+        let mut good_for = long_words::features(&tables, &verdict);
+        for trap in Trap::OF_LONG_WORDS {
+            let name = format!("{trap:?}");
+            if missing.contains_key(&name) && verdict_with(&tables, Some(trap)) != verdict {
+                good_for.insert(name);
+            }
+        }
+        if good_for.iter().any(|feature| missing.contains_key(feature)) {
+            for feature in &good_for {
+                missing.entry(feature.clone()).and_modify(|files| *files -= 1);
+            }
+            missing.retain(|_, &mut files| files > 0);
+            cases.push(Case { kind: "long words".to_string(), bytes: plan.bytes() });
+        }
+    }
+    cases
 }
 
 /// Whether other contents of the same length fail too, so that the lowest must be chosen.
@@ -230,10 +280,14 @@ fn large_cases(seed: u64) -> Vec<Case> {
         large::last_entry_is_bad(),
         large::many_dense_steps(&mut plans.random),
     ];
-    for direction in [None, Some(Direction::Send), Some(Direction::Receive)] {
-        files.push(large::dense(&mut plans.random, direction));
-        files.push(large::with_holes(&mut plans.random, direction, 50));
-        files.push(large::with_holes(&mut plans.random, direction, 90));
+    files.push(large::dense(&mut plans.random, None));
+    files.push(large::with_holes(&mut plans.random, None, 50));
+    files.push(large::with_holes(&mut plans.random, None, 90));
+    for direction in [Direction::Send, Direction::Receive] {
+        files.push(large::dense(&mut plans.random, Some((direction, 4))));
+        files.push(large::dense(&mut plans.random, Some((direction, WORD_LENGTH))));
+        files.push(large::with_holes(&mut plans.random, Some((direction, WORD_LENGTH)), 50));
+        files.push(large::with_holes(&mut plans.random, Some((direction, 4)), 90));
     }
     for _ in 0..120 {
         let plan = plans.mended(&Shape::MEDIUM);
