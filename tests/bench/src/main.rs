@@ -3,7 +3,10 @@
 //! Every subject is timed on the same files in the same run, so another implementation is compared by adding a
 //! `Subject` to `subjects`.
 //!
-//! `bench` leaves out the file with the most steps, which takes a minute; `bench --whole` has it.
+//! `bench` leaves out the files with the most steps, which take minutes; `bench --whole` has them.
+//!
+//! `bench --before` is for a library that reads words of four messages at most: it may refuse the files that have
+//! longer ones, and is timed on all others. The files are the same in every run.
 
 use std::hint::black_box;
 use std::time::{Duration, Instant};
@@ -11,6 +14,7 @@ use std::time::{Duration, Instant};
 use reference_checker::generate::document::{hex, R};
 use reference_checker::generate::large;
 use reference_checker::generate::plan::Direction;
+use reference_checker::long_words::has_long_word;
 use reference_checker::random::Random;
 use reference_checker::read::read;
 use reference_checker::verdict::Verdict;
@@ -154,36 +158,61 @@ fn run(call: &mut impl FnMut(), calls: u32) -> Duration {
     start.elapsed()
 }
 
-fn time_reading(subjects: &mut [Box<dyn Subject>], name: &str, file: &[u8]) {
-    for subject in subjects {
-        assert!(subject.reads(file), "{} refuses {name}", subject.name());
-        let times = time(|| {
-            black_box(subject.reads(file));
-        });
-        report("read", name, subject.name(), &times, &format!("{} bytes", file.len()));
-    }
+/// What is timed, and whether it may refuse long words.
+struct Bench {
+    subjects: Vec<Box<dyn Subject>>,
+    before: bool,
 }
 
-fn time_checking(subjects: &mut [Box<dyn Subject>], name: &str, file: &[u8]) {
-    let mut first = None;
-    for subject in subjects {
-        let Some(checked) = subject.checks(file) else { continue };
-        assert_eq!(*first.get_or_insert(checked), checked, "{} finds something else in {name}", subject.name());
-        let times = time(|| {
-            black_box(subject.checks(file));
-        });
-        report("check", name, subject.name(), &times, &found(checked, &times));
+impl Bench {
+    fn may_refuse(&self, file: &[u8]) -> bool {
+        self.before && read(file).is_ok_and(|tables| has_long_word(&tables))
     }
-}
 
-/// Long checks are run once.
-fn time_once(subjects: &mut [Box<dyn Subject>], name: &str, file: &[u8]) {
-    for subject in subjects {
-        let start = Instant::now();
-        let Some(checked) = subject.checks(file) else { continue };
-        let elapsed = start.elapsed();
-        let times = Times { median: elapsed, fastest: elapsed };
-        report("check", name, subject.name(), &times, &found(checked, &times));
+    fn time_reading(&mut self, name: &str, file: &[u8]) {
+        let may_refuse = self.may_refuse(file);
+        for subject in &mut self.subjects {
+            if may_refuse && !subject.reads(file) {
+                report_refused("read", name, subject.name());
+                continue;
+            }
+            assert!(subject.reads(file), "{} refuses {name}", subject.name());
+            let times = time(|| {
+                black_box(subject.reads(file));
+            });
+            report("read", name, subject.name(), &times, &format!("{} bytes", file.len()));
+        }
+    }
+
+    fn time_checking(&mut self, name: &str, file: &[u8]) {
+        self.check_all(name, file, |subject, _| {
+            time(|| {
+                black_box(subject.checks(file));
+            })
+        });
+    }
+
+    /// Long checks are run once.
+    fn time_once(&mut self, name: &str, file: &[u8]) {
+        self.check_all(name, file, |_, elapsed| Times { median: elapsed, fastest: elapsed });
+    }
+
+    /// Has every subject check the file once and find the same; the times are made from the subject or from that check.
+    fn check_all(&mut self, name: &str, file: &[u8], times: impl Fn(&mut dyn Subject, Duration) -> Times) {
+        let may_refuse = self.may_refuse(file);
+        let mut first = None;
+        for subject in &mut self.subjects {
+            let start = Instant::now();
+            let Some(checked) = subject.checks(file) else { continue };
+            let elapsed = start.elapsed();
+            if may_refuse && checked == Checked::Else {
+                report_refused("check", name, subject.name());
+                continue;
+            }
+            assert_eq!(*first.get_or_insert(checked), checked, "{} finds something else in {name}", subject.name());
+            let times = times(subject.as_mut(), elapsed);
+            report("check", name, subject.name(), &times, &found(checked, &times));
+        }
     }
 }
 
@@ -203,32 +232,52 @@ fn report(what: &str, name: &str, subject: &str, times: &Times, found: &str) {
     println!("{what:<6} {name:<28} {subject:<10} {median:>12} ns ({fastest} fastest): {found}");
 }
 
+fn report_refused(what: &str, name: &str, subject: &str) {
+    println!("{what:<6} {name:<28} {subject:<10} refused");
+}
+
+/// Every file is made from here, so that files which differ in their words alone have the same pool.
+fn random() -> Random {
+    Random::new(1)
+}
+
+const WORD_LENGTHS: [usize; 2] = [4, 16];
+
 fn main() {
-    let whole = std::env::args().skip(1).any(|argument| argument == "--whole");
-    let mut random = Random::new(1);
-    let mut subjects = subjects();
-    let subjects = &mut subjects[..];
+    let has = |option: &str| std::env::args().skip(1).any(|argument| argument == option);
+    let mut bench = Bench { subjects: subjects(), before: has("--before") };
+    let maximal = WORD_LENGTHS.map(|length| large::maximal_closed_with_words(&mut random(), length).bytes());
 
-    let maximal = large::maximal_closed(&mut random).bytes();
-    time_reading(subjects, "R", &hex(R));
-    time_reading(subjects, "longest file", &maximal);
-
-    time_checking(subjects, "R", &hex(R));
-    let steps = [("local", None), ("send", Some((Direction::Send, 16))), ("receive", Some((Direction::Receive, 16)))];
-    for (name, step) in steps {
-        let dense = large::dense(&mut random, step).bytes();
-        time_checking(subjects, &format!("all arcs, {name}"), &dense);
+    bench.time_reading("R", &hex(R));
+    for (length, file) in WORD_LENGTHS.into_iter().zip(&maximal) {
+        bench.time_reading(&format!("longest file, words of {length}"), file);
     }
-    for (name, step) in steps {
-        let holes = large::with_holes(&mut random, step, 50).bytes();
-        time_checking(subjects, &format!("half the arcs, {name}"), &holes);
-    }
-    time_checking(subjects, "long leaves, local", &large::long_local_leaves().bytes());
-    time_checking(subjects, "long leaves, send", &large::long_send_leaves().bytes());
 
-    let fewer = large::maximal_closed_with_fewer_steps(&mut random, 16).bytes();
-    time_once(subjects, "longest file, 8,192 steps", &fewer);
-    if whole {
-        time_once(subjects, "longest file, 32,768 steps", &maximal);
+    bench.time_checking("R", &hex(R));
+    let mut steps = vec![("local".to_string(), None)];
+    for (name, direction) in [("send", Direction::Send), ("receive", Direction::Receive)] {
+        steps.extend(WORD_LENGTHS.map(|length| (format!("{name} of {length}"), Some((direction, length)))));
+    }
+    for (name, step) in &steps {
+        bench.time_checking(&format!("all arcs, {name}"), &large::dense(&mut random(), *step).bytes());
+    }
+    for length in WORD_LENGTHS {
+        let behind = large::receive_behind_a_queue(&mut random(), length).bytes();
+        bench.time_checking(&format!("two queues, receive of {length}"), &behind);
+    }
+    for (name, step) in &steps {
+        bench.time_checking(&format!("half the arcs, {name}"), &large::with_holes(&mut random(), *step, 50).bytes());
+    }
+    bench.time_checking("long leaves, local", &large::long_local_leaves().bytes());
+    bench.time_checking("long leaves, send", &large::long_send_leaves().bytes());
+
+    for length in WORD_LENGTHS {
+        let fewer = large::maximal_closed_with_fewer_steps(&mut random(), length).bytes();
+        bench.time_once(&format!("8,192 steps, words of {length}"), &fewer);
+    }
+    if has("--whole") {
+        for (length, file) in WORD_LENGTHS.into_iter().zip(&maximal) {
+            bench.time_once(&format!("32,768 steps, words of {length}"), file);
+        }
     }
 }

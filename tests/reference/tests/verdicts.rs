@@ -212,6 +212,17 @@ fn full_tables() {
 }
 
 #[test]
+fn words_are_followed_from_many_pairs() {
+    for length in [4, 16] {
+        let file = large::receive_behind_a_queue(&mut Random::new(1), length).bytes();
+        let reply = check(&file, &mut Scratch::default());
+        // Before the step both stand among 63 states, after it the source among the other 64.
+        let Ok(Verdict::Closed { pairs }) = reply else { panic!("{reply:?}") };
+        assert!((63 * 63..=63 * 63 + 64 * 127).contains(&pairs), "{pairs} pairs");
+    }
+}
+
+#[test]
 fn the_last_items_of_all() {
     assert_line("last step", &large::last_step_leaves().bytes(), "leaves 255 127 0:");
     assert_line("last entry", &large::last_entry_is_bad().bytes(), "bad 63 2: 0 0");

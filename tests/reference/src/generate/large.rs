@@ -54,16 +54,23 @@ fn maximal_with_machines(random: &mut Random, states: Vec<usize>, moving: usize,
 fn all_arcs(random: &mut Random, states: usize) -> Vec<PlannedState> {
     let mut pool = vec![PlannedState { is_final: true, arcs: BTreeMap::new() }; states];
     for message in 0..MESSAGES {
-        let mut targets: Vec<usize> = (0..states).collect();
-        for last in (1..states).rev() {
-            targets.swap(last, random.below(last + 1));
-        }
-        for (state, planned) in pool.iter_mut().enumerate() {
-            let target = if message % 2 == 0 { targets[state] } else { random.below(states) };
+        for (planned, target) in pool.iter_mut().zip(targets(random, message, states)) {
             planned.arcs.insert(message, target);
         }
     }
     pool
+}
+
+/// Where a message leads from each of some states.
+fn targets(random: &mut Random, message: usize, states: usize) -> Vec<usize> {
+    let mut permuted: Vec<usize> = (0..states).collect();
+    for last in (1..states).rev() {
+        permuted.swap(last, random.below(last + 1));
+    }
+    if message % 2 == 1 {
+        return (0..states).map(|_| random.below(states)).collect();
+    }
+    permuted
 }
 
 const DIRECTIONS: [Direction; 2] = [Direction::Send, Direction::Receive];
@@ -95,7 +102,37 @@ pub fn dense(random: &mut Random, step: StepOf) -> Plan {
     }
 }
 
-/// The same with a part of the arcs missing, so that the target is often nowhere; closed, since the source accepts
+/// A receive from the second of two queues; closed. Half of the states read the first queue, so that the word is followed
+/// from every pair of these; with one queue it is followed from the roots alone. The pool is the same for every length.
+pub fn receive_behind_a_queue(random: &mut Random, length: usize) -> Plan {
+    let (states, messages) = (POOL_STATES / 2, MESSAGES / 2);
+    let mut pool = vec![PlannedState { is_final: true, arcs: BTreeMap::new() }; POOL_STATES];
+    let (first, second) = pool.split_at_mut(states);
+    for message in 0..messages {
+        for (planned, target) in first.iter_mut().zip(targets(random, message, states)) {
+            planned.arcs.insert(message, target);
+        }
+    }
+    for message in messages..MESSAGES {
+        for half in [&mut *first, &mut *second] {
+            for (planned, target) in half.iter_mut().zip(targets(random, message, POOL_STATES - states)) {
+                planned.arcs.insert(message, states + target);
+            }
+        }
+    }
+    let word = (0..length).map(|_| messages + 2 * random.below(messages / 2)).collect();
+    Plan {
+        states: vec![2],
+        starts: vec![0],
+        queues: vec![messages, MESSAGES - messages],
+        transitions: one_step(0, 1, Some(Action { direction: Direction::Receive, queue: 1, word })),
+        pool,
+        roots: vec![Some(0), Some(1)],
+        bad: vec![],
+    }
+}
+
+/// The same as `dense` with a part of the arcs missing, so that the target is often nowhere; closed, since the source accepts
 /// nothing. Arcs for the step's own messages stay, else it could hardly be taken; they are four, however long the word,
 /// and the pool is the same for every length. The last state is the start's alone.
 pub fn with_holes(random: &mut Random, step: StepOf, percent_missing: usize) -> Plan {
