@@ -39,3 +39,7 @@ largeLong = rowsLength + mostPool + poolArcs + mostControls
 
 abbrev pub tablesLeast : ℕ
 tablesLeast = smallLong + largeLong + mostBad * 2
+
+-- THE NUMBER OF THIS LAYOUT: a layout that differs in any entry, or in what a reply tells, has another. 1 had words of four messages
+abbrev pub layout : ℕ
+layout = 2

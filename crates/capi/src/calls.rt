@@ -1,4 +1,5 @@
 // What C calls. A call whose output space is too short answers NO_ROOM and touches nothing.
+use crate::flat::LAYOUT;
 use crate::flat::TABLES_LEAST;
 use crate::flat::put_tables;
 use crate::told::NO_ROOM;
@@ -14,7 +15,17 @@ use diagram::member::member;
 use session::reading::Answer;
 use session::reading::read;
 use verdict::check::check;
+ghost use mathlib.Core.Path.{_≡_};
+ghost use Rattle.capi.specs.Flat.{layout};
 ghost use Rattle.capi.specs.Calls.{ReadCall, MemberCall, CheckCall};
+
+// The number of the library's layout, for a program to compare with that of the header it was built with.
+#[no_mangle]
+pub extern "C" fn swarmbanner_layout() -> usize
+    ensures { λ r. ⌜ r ≡ layout ⌝ }
+{
+    LAYOUT
+}
 
 // Reads a file. Its tables fill the front of the space; after a refusal the space is as it was.
 #[no_mangle]

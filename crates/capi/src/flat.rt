@@ -23,6 +23,9 @@ const LARGE: usize = ROWS + DiagramState::LIMIT + POOL_ARCS + MOST_CONTROLS;
 
 pub const TABLES_LEAST: usize = SMALL + LARGE + ENTRIES;
 
+// The number of this layout.
+pub const LAYOUT: usize = 2;
+
 // Four tables, from a place on.
 fn put_four(space: &mut [u8], at: usize, a: &[u8], b: &[u8], c: &[u8], d: &[u8]) -> usize
     requires { ⌜ at + fourLong (now a) (now b) (now c) (now d) ≤ length (now space) ⌝ }
