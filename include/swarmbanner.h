@@ -1,8 +1,8 @@
 /*
  * Swarmbanner for C and C++: reading session files, membership, and checking.
  *
- * Every call takes any bytes as the file, also broken ones, and any lengths. It returns the kind of its reply, and three
- * numbers that go with it fill the front of `reply`; entries after these keep their values.
+ * Each of the three takes any bytes as the file, also broken ones, and any lengths. It returns the kind of its reply, and
+ * three numbers that go with it fill the front of `reply`; entries after these keep their values.
  *
  *   kind                          reply[0]        reply[1]        reply[2]
  *   SWARMBANNER_CLOSED            pairs visited   0               0
@@ -12,6 +12,8 @@
  *   SWARMBANNER_REFUSED           number          place           0
  *   SWARMBANNER_READ, _YES, _NO   0               0               0
  *   SWARMBANNER_NO_ROOM           nothing is written, here or elsewhere
+ *
+ * A program asks swarmbanner_fits() before its first other call: is the library of the layout that it was built for?
  *
  * What the caller answers for: a pointer is valid for its length, for reading or, where it is not const, for reading and
  * writing; memory that is written to overlaps nothing else that is passed. A pointer with length 0 may be NULL. The
@@ -55,7 +57,7 @@ extern "C" {
 
 /* The least that a call needs, in entries of the type that is lent. */
 #define SWARMBANNER_REPLY_LEAST 3u
-#define SWARMBANNER_SPACE_LEAST 5873u
+#define SWARMBANNER_SPACE_LEAST (SWARMBANNER_AT_BAD + SWARMBANNER_BAD_ENTRIES_MOST * SWARMBANNER_BAD_ROW)
 #define SWARMBANNER_TABLE_LEAST 32512u
 #define SWARMBANNER_CONTENTS_LEAST 32768u
 
@@ -66,38 +68,63 @@ extern "C" {
 #define SWARMBANNER_QUEUES_MOST 4u
 #define SWARMBANNER_MESSAGES_MOST 32u
 #define SWARMBANNER_TRANSITIONS_MOST 128u
-#define SWARMBANNER_WORD_MOST 4u
+#define SWARMBANNER_WORD_MOST 16u
 #define SWARMBANNER_POOL_STATES_MOST 127u
 #define SWARMBANNER_BAD_ENTRIES_MOST 64u
 
 /* The number of this layout of the tables and of the replies; another one has another number. */
-#define SWARMBANNER_LAYOUT 1u
+#define SWARMBANNER_LAYOUT 2u
 
 /*
- * Where the tables lie in the space of `swarmbanner_read`, one byte an entry; entries beyond the counts are 0.
+ * Where the tables lie in the space of `swarmbanner_read`, one byte an entry; entries beyond the counts are 0. Each begins
+ * where the one before it ends.
  *
- *   AT_COUNTS       6        machines, queues, messages of all queues, transitions, pool states, bad entries
- *   AT_STATES       4        states of each machine
- *   AT_STARTS       4        starting state of each machine
- *   AT_MESSAGES     4        messages of each queue
- *   AT_TRANSITIONS  128 x 10 machine, from, to, kind (0 local, 1 send, 2 receive), queue, word length, 4 messages
- *   AT_FINALS       127      1 for a final pool state
- *   AT_ARCS         127 x 32 for a pool state and a message: 0 for no arc, else 1 plus the target
- *   AT_ROOTS        256      for a control state: 0 for no root, else 1 plus the root
- *   AT_BAD          64 x 2   control state, root (as it is, without the 1 added)
+ *   AT_COUNTS          0  6        machines, queues, messages of all queues, transitions, pool states, bad entries
+ *   AT_STATES          6  4        states of each machine
+ *   AT_STARTS         10  4        starting state of each machine
+ *   AT_MESSAGES       14  4        messages of each queue
+ *   AT_TRANSITIONS    18  128 x 22 machine, from, to, kind (0 local, 1 send, 2 receive), queue, word length, 16 messages
+ *   AT_FINALS       2834  127      1 for a final pool state
+ *   AT_ARCS         2961  127 x 32 for a pool state and a message: 0 for no arc, else 1 plus the target
+ *   AT_ROOTS        7025  256      for a control state: 0 for no root, else 1 plus the root
+ *   AT_BAD          7281  64 x 2   control state, root (as it is, without the 1 added)
+ *   SPACE_LEAST     7409
  */
-#define SWARMBANNER_AT_COUNTS 0u
-#define SWARMBANNER_AT_STATES 6u
-#define SWARMBANNER_AT_STARTS 10u
-#define SWARMBANNER_AT_MESSAGES 14u
-#define SWARMBANNER_AT_TRANSITIONS 18u
-#define SWARMBANNER_AT_FINALS 1298u
-#define SWARMBANNER_AT_ARCS 1425u
-#define SWARMBANNER_AT_ROOTS 5489u
-#define SWARMBANNER_AT_BAD 5745u
-#define SWARMBANNER_TRANSITION_ROW 10u
-#define SWARMBANNER_ARC_ROW 32u
+#define SWARMBANNER_COUNTS 6u
+#define SWARMBANNER_TRANSITION_WORD 6u /* where in its row a transition's word begins */
+#define SWARMBANNER_TRANSITION_ROW (SWARMBANNER_TRANSITION_WORD + SWARMBANNER_WORD_MOST)
+#define SWARMBANNER_ARC_ROW SWARMBANNER_MESSAGES_MOST
 #define SWARMBANNER_BAD_ROW 2u
+
+#define SWARMBANNER_AT_COUNTS 0u
+#define SWARMBANNER_AT_STATES (SWARMBANNER_AT_COUNTS + SWARMBANNER_COUNTS)
+#define SWARMBANNER_AT_STARTS (SWARMBANNER_AT_STATES + SWARMBANNER_MACHINES_MOST)
+#define SWARMBANNER_AT_MESSAGES (SWARMBANNER_AT_STARTS + SWARMBANNER_MACHINES_MOST)
+#define SWARMBANNER_AT_TRANSITIONS (SWARMBANNER_AT_MESSAGES + SWARMBANNER_QUEUES_MOST)
+#define SWARMBANNER_AT_FINALS (SWARMBANNER_AT_TRANSITIONS + SWARMBANNER_TRANSITIONS_MOST * SWARMBANNER_TRANSITION_ROW)
+#define SWARMBANNER_AT_ARCS (SWARMBANNER_AT_FINALS + SWARMBANNER_POOL_STATES_MOST)
+#define SWARMBANNER_AT_ROOTS (SWARMBANNER_AT_ARCS + SWARMBANNER_POOL_STATES_MOST * SWARMBANNER_ARC_ROW)
+#define SWARMBANNER_AT_BAD (SWARMBANNER_AT_ROOTS + SWARMBANNER_CONTROL_STATES_MOST)
+
+/*
+ * The number of the library's layout. It takes nothing and touches nothing. A library of layout 1 does not have it, so a
+ * program that asks is not linked with one.
+ */
+size_t swarmbanner_layout(void);
+
+/*
+ * Is the library of the layout of this header? Where it is not, the offsets and lengths above are not the library's: a caller
+ * looks for tables in wrong places, or never has room for them. So a program begins with
+ *
+ *   if (!swarmbanner_fits()) {
+ *       fprintf(stderr, "built for layout %u, the library has %zu\n", SWARMBANNER_LAYOUT, swarmbanner_layout());
+ *       exit(EXIT_FAILURE);
+ *   }
+ */
+static inline int swarmbanner_fits(void)
+{
+    return swarmbanner_layout() == SWARMBANNER_LAYOUT;
+}
 
 /*
  * Reads a file.

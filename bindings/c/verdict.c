@@ -1,7 +1,7 @@
 /*
  * Prints the verdict on each session file named, with its name before it where there are several.
- * Exit status, the highest over all files: 0 closed; 1 outside, leaves or bad; 2 refused; 3 wrong usage, a file that cannot
- * be read, or a verdict that cannot be written.
+ * Exit status, the highest over all files: 0 closed; 1 outside, leaves or bad; 2 refused; 3 wrong usage, a library of another
+ * layout, a file that cannot be read, or a verdict that cannot be written.
  */
 #include "swarmbanner.h"
 
@@ -85,6 +85,11 @@ int main(int count, char **words)
     int status = 0;
     int i;
 
+    if (!swarmbanner_fits()) {
+        fprintf(stderr, "verdict: built for layout %u, the library has layout %zu\n", SWARMBANNER_LAYOUT,
+                swarmbanner_layout());
+        return 3;
+    }
     if (count < 2) {
         fprintf(stderr, "usage: verdict FILE..\n");
         return 3;
