@@ -14,10 +14,13 @@
 #define PAIRS_MOST 1066385472u
 
 int LLVMFuzzerTestOneInput(const uint8_t *data, size_t size);
+int fuzz_met_long_words(void);
 
 static struct lend file_lend, asked_lend, space_lend, seen_lend, queue_lend, contents_lend, reply_lend;
 
 #ifdef SWARMBANNER_LIBFUZZER
+#include "generate.h"
+
 /*
  * The library is not built for coverage. What a reply says stands in for it: an input that gets further into a file, or
  * to another kind of verdict, is kept and built upon.
@@ -27,9 +30,16 @@ __attribute__((section("__libfuzzer_extra_counters"))) static uint8_t reached[81
 size_t LLVMFuzzerMutate(uint8_t *data, size_t size, size_t most);
 size_t LLVMFuzzerCustomMutator(uint8_t *data, size_t size, size_t most, unsigned seed);
 
-/* Nearly every change breaks a file. A small number in the place of another is the one most likely to leave a session. */
+/*
+ * Nearly every change breaks a file. A small number in the place of another is the one most likely to leave a session. Now
+ * and then the file is one of its own, with enough memory and no question.
+ */
 size_t LLVMFuzzerCustomMutator(uint8_t *data, size_t size, size_t most, unsigned seed)
 {
+    if (seed % 16 == 1 && most >= 4 + GENERATED_MOST) {
+        memset(data, 0, 4);
+        return 4 + generate_file(seed, data + 4);
+    }
     if (size < 5 || seed % 4 == 0)
         return LLVMFuzzerMutate(data, size, most);
     data[seed / 4 % size] = (uint8_t)(seed >> 24) % 8;
@@ -55,6 +65,14 @@ static void reach(size_t kind, size_t first, size_t second)
 /* How often each kind of reply was met, so that a run that tries too little is seen to. */
 static unsigned long met[SWARMBANNER_NO + 1];
 
+/* Of files with a word of sixteen: how often they were closed, and left by sending or receiving one (1 and 2). */
+static unsigned long long_closed, long_left[3];
+
+int fuzz_met_long_words(void)
+{
+    return long_closed > 0 && long_left[1] > 0 && long_left[2] > 0;
+}
+
 static void report(void)
 {
     static const char *const names[] = {"closed", "outside", "leaves", "bad", "refused", "no room", "read", "yes", "no"};
@@ -62,6 +80,8 @@ static void report(void)
 
     for (kind = 0; kind <= SWARMBANNER_NO; kind++)
         printf("%s %lu%s", names[kind], met[kind], kind < SWARMBANNER_NO ? ", " : "\n");
+    printf("words of %u: closed %lu, left by sending %lu, by receiving %lu\n", SWARMBANNER_WORD_MOST, long_closed,
+           long_left[1], long_left[2]);
 }
 
 static void must(int holds, const char *what)
@@ -227,6 +247,26 @@ static size_t queue_of(uint8_t message)
     return queue;
 }
 
+static const uint8_t *row_of(size_t transition)
+{
+    return tables + SWARMBANNER_AT_TRANSITIONS + transition * SWARMBANNER_TRANSITION_ROW;
+}
+
+static int is_long(size_t transition)
+{
+    return row_of(transition)[5] == SWARMBANNER_WORD_MOST;
+}
+
+static int has_long_word(void)
+{
+    size_t i, count = tables[SWARMBANNER_AT_COUNTS + 3];
+
+    for (i = 0; i < count; i++)
+        if (is_long(i))
+            return 1;
+    return 0;
+}
+
 /* Does the word lead from this state, or from nowhere for 0, to a final one? States are counted from 1 here. */
 static int accepts(size_t state, const uint8_t *word, size_t length)
 {
@@ -291,11 +331,11 @@ static int contents_after(const uint8_t *row, const uint8_t *word, size_t length
         memcpy(after, word, length);
     } else if (row[3] == 1) {
         memcpy(after, word, ends);
-        memcpy(after + ends, row + 6, sent);
+        memcpy(after + ends, row + SWARMBANNER_TRANSITION_WORD, sent);
         memcpy(after + ends + sent, word + ends, length - ends);
         *after_length = length + sent;
     } else {
-        if (ends - begins < sent || memcmp(word + begins, row + 6, sent) != 0)
+        if (ends - begins < sent || memcmp(word + begins, row + SWARMBANNER_TRANSITION_WORD, sent) != 0)
             return 0;
         memcpy(after, word, begins);
         memcpy(after + begins, word + begins + sent, length - begins - sent);
@@ -308,7 +348,7 @@ static int contents_after(const uint8_t *row, const uint8_t *word, size_t length
 static int leads_outside(size_t control, size_t transition, const uint8_t *word, size_t length)
 {
     static uint8_t after[SWARMBANNER_CONTENTS_LEAST + MORE + SWARMBANNER_WORD_MOST];
-    const uint8_t *row = tables + SWARMBANNER_AT_TRANSITIONS + transition * SWARMBANNER_TRANSITION_ROW;
+    const uint8_t *row = row_of(transition);
     size_t target = control_after(control, row), after_length;
 
     if (target == control_states() || !contents_after(row, word, length, after, &after_length))
@@ -332,6 +372,7 @@ static void verdict_holds(const struct told *told, size_t control, const uint8_t
     case SWARMBANNER_LEAVES:
         must(inside(told->number[0], shown, told->number[2]), "contents shown are not inside");
         must(leads_outside(told->number[0], told->number[1], shown, told->number[2]) == 1, "the step does not leave");
+        long_left[row_of(told->number[1])[3]] += (unsigned)is_long(told->number[1]);
         break;
     case SWARMBANNER_BAD:
         must(entry < tables[SWARMBANNER_AT_COUNTS + 5], "no such bad entry");
@@ -340,6 +381,7 @@ static void verdict_holds(const struct told *told, size_t control, const uint8_t
         break;
     case SWARMBANNER_CLOSED:
         must(told->number[0] <= PAIRS_MOST, "more pairs than there are");
+        long_closed += (unsigned)has_long_word();
         if (expected_member(control, asked, count).kind != SWARMBANNER_YES)
             break;
         for (i = 0; i < tables[SWARMBANNER_AT_COUNTS + 3]; i++)
@@ -386,6 +428,7 @@ static void calls_agree(const struct lengths *n, size_t control, const uint8_t *
 
 static void make_room(void)
 {
+    must(swarmbanner_fits(), "the library has another layout");
     lend_make(&file_lend, SWARMBANNER_FILE_MOST + MORE);
     lend_make(&asked_lend, CONTENTS_MOST);
     lend_make(&space_lend, SWARMBANNER_SPACE_LEAST + MORE);

@@ -1,8 +1,10 @@
 /*
  * A loop of its own for `fuzz.c`, where libFuzzer is not to be had: fuzz_loop SEED COUNT FILE..
  *
- * The session files named are changed at random: bytes set, moved, taken out, put in, cut off, or joined with another.
+ * The session files named, and others with long words, are changed at random: bytes set, moved, taken out, put in, cut off,
+ * or joined with another.
  */
+#include "generate.h"
 #include "swarmbanner.h"
 
 #include <stdio.h>
@@ -13,21 +15,20 @@
 #define FILES 64
 #define INPUT_MOST (HEAD + SWARMBANNER_FILE_MOST)
 
+/* A run of so many inputs must have met verdicts on long words. */
+#define ENOUGH 2000
+
 int LLVMFuzzerTestOneInput(const uint8_t *data, size_t size);
+int fuzz_met_long_words(void);
 
 static uint8_t files[FILES][SWARMBANNER_FILE_MOST];
 static size_t lengths[FILES];
 static uint8_t input[INPUT_MOST + 1];
 static uint64_t state;
 
-/* splitmix64 */
 static uint64_t next(void)
 {
-    uint64_t z = state += UINT64_C(0x9e3779b97f4a7c15);
-
-    z = (z ^ (z >> 30)) * UINT64_C(0xbf58476d1ce4e5b9);
-    z = (z ^ (z >> 27)) * UINT64_C(0x94d049bb133111eb);
-    return z ^ (z >> 31);
+    return generate_next(&state);
 }
 
 static size_t below(size_t count)
@@ -75,21 +76,31 @@ static size_t change(size_t from, size_t length)
     }
 }
 
+/* One of the files named. Returns its length. */
+static size_t put_named(uint8_t *at, size_t count)
+{
+    size_t of = below(count);
+
+    memcpy(at, files[of], lengths[of]);
+    return lengths[of];
+}
+
 static void one(size_t count)
 {
-    size_t of = below(count), changes = below(4), length, asked, i;
+    int is_generated = below(2) == 0;
+    /* a generated file is new by itself */
+    size_t changes = is_generated ? below(3) / 2 : below(4), length, asked, i;
 
     /* a question of up to three messages, and the file */
     asked = below(4);
     input[0] = (uint8_t)next();
-    input[1] = (uint8_t)below(20);
+    input[1] = (uint8_t)below(is_generated ? 4 : 20);
     input[2] = (uint8_t)(below(50) == 0);
     input[3] = (uint8_t)asked;
     for (i = 0; i < asked; i++)
         input[HEAD + i] = (uint8_t)below(5);
     length = HEAD + asked;
-    memcpy(input + length, files[of], lengths[of]);
-    length += lengths[of];
+    length += is_generated ? generate_file(next(), input + length) : put_named(input + length, count);
     for (i = 0; i < changes; i++)
         length = change(HEAD + asked, length);
     LLVMFuzzerTestOneInput(input, length);
@@ -129,6 +140,10 @@ int main(int count, char **words)
     loaded = load(count - 3, words + 3);
     for (i = 0; i < inputs; i++)
         one(loaded);
+    if (inputs >= ENOUGH && !fuzz_met_long_words()) {
+        fprintf(stderr, "fuzz_loop: too few verdicts on words of %u\n", SWARMBANNER_WORD_MOST);
+        return 1;
+    }
     printf("seed %s, %lu inputs, none fails\n", words[1], inputs);
     return 0;
 }

@@ -1,4 +1,4 @@
-/* What the header promises, call by call: the fourteen cases of document 01, and what is done to lent memory. */
+/* What the header promises, call by call: the fourteen cases of document 01, long words, and what is done to lent memory. */
 #define _DEFAULT_SOURCE
 
 #include "lend.h"
@@ -10,6 +10,18 @@
 #define S_SEND "00000001000100"
 #define S_POOL "02 01 02 00 00 01 01 01 01 01 01"
 #define S S_HEAD S_SEND S_POOL "01 00"
+
+/* Two states, messages 1 to 16 in queue 1; sent in that order, received in the other. */
+#define W_HEAD "01 02 00 02 01 10 "
+#define UP "0102030405060708 090a0b0c0d0e0f10"
+#define DOWN "100f0e0d0c0b0a09 0807060504030201"
+#define W_END "01 01 00 01 00 00"
+#define W W_HEAD "02 000001 0101 10" UP "000100 0201 10" DOWN W_END
+
+/* In state 1 the queues hold 0 and then 1 to 16, which are received. */
+#define RECEIVED W_HEAD "01 000101 0201 10" UP "13 0100" \
+    "00010002 00010103 00010204 00010305 00010406 00010507 00010608 00010709 0001080a" \
+    "0001090b 00010a0c 00010b0d 00010c0e 00010d0f 00010e10 00010f11 00011012 0100" "01 02 00"
 
 #define MORE 1000
 
@@ -132,6 +144,13 @@ static const struct worked cases[] = {
      "\0\1"},
     {"bad", "010100020101 00" "06 01 02 00 00 01 01 01 01 01 01 00 00 00 01 00 04 00 01 01 05 01 00" "01 02 00 02 00 03",
      SWARMBANNER_BAD, 1, 2, 0, "\0\1"},
+    /* words of sixteen are taken, the next length is refused where it stands */
+    {"sixteen sent", W, SWARMBANNER_LEAVES, 0, 0, 0, ""},
+    {"sixteen received", RECEIVED, SWARMBANNER_LEAVES, 1, 0, 17,
+     "\0\1\2\3\4\5\6\7\10\11\12\13\14\15\16\17\20"},
+    {"seventeen sent", W_HEAD "02 000001 0101 11" UP "01 000100 0201 10" DOWN W_END, SWARMBANNER_REFUSED, 5, 12, 0, ""},
+    {"seventeen received", W_HEAD "02 000001 0101 10" UP "000100 0201 11" DOWN "01" W_END, SWARMBANNER_REFUSED, 5, 34, 0,
+     ""},
 };
 
 #define CASES (sizeof cases / sizeof *cases)
@@ -287,11 +306,52 @@ static void tables(void)
     expect(memcmp(lend_at(&space_lend), expected, sizeof expected) == 0, "tables as laid out", "S");
 }
 
+/* The rows of two words of sixteen, and the byte after them, which is of a transition that is not there. */
+static void words(void)
+{
+    static const uint8_t rows[2 * SWARMBANNER_TRANSITION_ROW + 1] = {
+        0, 0, 1, 1, 1, 16, 1, 2, 3, 4, 5, 6, 7, 8, 9, 10, 11, 12, 13, 14, 15, 16,
+        0, 1, 0, 2, 1, 16, 16, 15, 14, 13, 12, 11, 10, 9, 8, 7, 6, 5, 4, 3, 2, 1,
+        0};
+    size_t length;
+    const uint8_t *file = hex(W, &length);
+
+    expect(call_read(file, length, plenty()) == SWARMBANNER_READ, "words of sixteen are read", "W");
+    expect(memcmp(lend_at(&space_lend) + SWARMBANNER_AT_TRANSITIONS, rows, sizeof rows) == 0, "rows as laid out", "W");
+}
+
+/* As many transitions as there can be, all with words of sixteen: the final mark of pool state 0 follows the last row. */
+static void full_table(void)
+{
+    static const uint8_t head[] = {1, 1, 0, 1, 16, 128, 1}, end[] = {1, 1, 0, 1, 0};
+    static uint8_t rows[SWARMBANNER_TRANSITIONS_MOST * SWARMBANNER_TRANSITION_ROW];
+    static uint8_t bytes[sizeof head + sizeof rows + sizeof end];
+    uint8_t *row = rows;
+    size_t i;
+
+    for (; row < rows + sizeof rows; row += SWARMBANNER_TRANSITION_ROW) {
+        row[3] = 2;
+        row[5] = SWARMBANNER_WORD_MOST;
+        for (i = 0; i < SWARMBANNER_WORD_MOST; i++)
+            row[SWARMBANNER_TRANSITION_WORD + i] = (uint8_t)((row - rows + i) % 16);
+    }
+    memcpy(bytes, head, sizeof head);
+    memcpy(bytes + sizeof head, rows, sizeof rows);
+    memcpy(bytes + sizeof head + sizeof rows, end, sizeof end);
+    expect(call_read(lend_copy(&file_lend, bytes, sizeof bytes), sizeof bytes, least) == SWARMBANNER_READ, "read", "full");
+    expect(memcmp(lend_at(&space_lend) + SWARMBANNER_AT_TRANSITIONS, rows, sizeof rows) == 0, "every row", "full");
+    expect(lend_at(&space_lend)[SWARMBANNER_AT_TRANSITIONS + sizeof rows] == 1, "the byte after the rows", "full");
+}
+
 int main(void)
 {
     struct lengths most = plenty();
     size_t i;
 
+    if (!swarmbanner_fits()) {
+        printf("FAILED: built for layout %u, the library has layout %zu\n", SWARMBANNER_LAYOUT, swarmbanner_layout());
+        return 1;
+    }
     lend_make(&file_lend, SWARMBANNER_FILE_MOST + 1);
     lend_make(&member_lend, 16);
     lend_make(&space_lend, most.space);
@@ -311,6 +371,8 @@ int main(void)
     null_with_nothing();
     membership();
     tables();
+    words();
+    full_table();
     printf("%u tests, %u failures\n", tests, failures);
     return failures > 0;
 }

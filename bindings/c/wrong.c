@@ -17,12 +17,36 @@
     size_t name(const uint8_t *file, size_t file_len, uint16_t *seen, size_t seen_len, uint16_t *queue, size_t queue_len, \
                 uint8_t *contents, size_t contents_len, size_t *reply, size_t reply_len)
 
+size_t __real_swarmbanner_layout(void);
+size_t __wrap_swarmbanner_layout(void);
 READ(__real_swarmbanner_read);
 READ(__wrap_swarmbanner_read);
 MEMBER(__real_swarmbanner_member);
 MEMBER(__wrap_swarmbanner_member);
 CHECK(__real_swarmbanner_check);
 CHECK(__wrap_swarmbanner_check);
+
+size_t __wrap_swarmbanner_layout(void)
+{
+    return __real_swarmbanner_layout() + (FAULT == 19);
+}
+
+/* Does something to the row of the first word of sixteen. */
+static void spoil_word(uint8_t *space)
+{
+    uint8_t *row = space + SWARMBANNER_AT_TRANSITIONS;
+
+    while (row < space + SWARMBANNER_AT_FINALS && row[5] < SWARMBANNER_WORD_MOST)
+        row += SWARMBANNER_TRANSITION_ROW;
+    if (row == space + SWARMBANNER_AT_FINALS)
+        return;
+    if (FAULT == 20)
+        row[5]--;
+    if (FAULT == 21)
+        row[SWARMBANNER_TRANSITION_ROW - 1] ^= 1;
+    if (FAULT == 22)
+        row[SWARMBANNER_TRANSITION_ROW] ^= 1;
+}
 
 READ(__wrap_swarmbanner_read)
 {
@@ -36,6 +60,11 @@ READ(__wrap_swarmbanner_read)
         space[SWARMBANNER_AT_ARCS] = 0;
     if (FAULT == 4 && kind == SWARMBANNER_REFUSED && reply[0] == SWARMBANNER_REFUSED_ORDER)
         reply[1]++;
+    if (FAULT == 23 && kind == SWARMBANNER_REFUSED && reply[0] == SWARMBANNER_REFUSED_RANGE &&
+        file[reply[1]] == SWARMBANNER_WORD_MOST + 1)
+        reply[1]++;
+    if (kind == SWARMBANNER_READ)
+        spoil_word(space);
     /* the byte after the file */
     if (FAULT == 5 && file_len > 0 && ((const volatile uint8_t *)file)[file_len] == 0)
         return kind;
