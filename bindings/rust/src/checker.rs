@@ -1,3 +1,4 @@
+use crate::fits::must_fit;
 use crate::lent::{self, CONTENTS_LEAST, TABLE_LEAST};
 use crate::{Refusal, Reply};
 
@@ -21,7 +22,12 @@ pub struct Checker {
 
 impl Checker {
     /// Allocates the memory of a check.
+    ///
+    /// # Panics
+    ///
+    /// Panics where the library has another layout than this crate ([`lent::LAYOUT`]).
     pub fn new() -> Self {
+        must_fit();
         Checker {
             seen: vec![0; TABLE_LEAST].into(),
             queue: vec![0; TABLE_LEAST].into(),
@@ -60,6 +66,10 @@ impl std::fmt::Debug for Checker {
 
 /// Checks a file, with memory that is given back afterwards. For many files, keep a [`Checker`].
 ///
+/// # Panics
+///
+/// Panics where the library has another layout than this crate ([`lent::LAYOUT`]).
+///
 /// ```
 /// let r = [2, 1, 1, 0, 0, 1, 1, 2, 0, 0, 0, 1, 0, 1, 0, 1, 0, 0, 2, 0, 1, 0, 1, 1, 1, 0, 0, 1, 0];
 /// assert!(swarmbanner::check(&r).is_closed());
@@ -75,6 +85,10 @@ pub fn check(file: &[u8]) -> Reply {
 /// Fails where the file is not a session file, and where it has no such control state (11) or message (12), or the
 /// messages are not queue after queue (13).
 ///
+/// # Panics
+///
+/// Panics where the library has another layout than this crate ([`lent::LAYOUT`]).
+///
 /// ```
 /// // Queue 0 has message 0, queue 1 has message 1; inside are any 0s, then any 1s.
 /// let s = [1, 1, 0, 2, 1, 1, 1, 0, 0, 0, 1, 0, 1, 0, 2, 1, 2, 0, 0, 1, 1, 1, 1, 1, 1, 1, 0];
@@ -82,6 +96,7 @@ pub fn check(file: &[u8]) -> Reply {
 /// assert_eq!(swarmbanner::member(&s, 0, &[1, 0]).unwrap_err().to_string(), "refused 13 at 1");
 /// ```
 pub fn member(file: &[u8], control: usize, contents: &[u8]) -> Result<bool, Refusal> {
+    must_fit();
     let mut reply = [0; 3];
     let kind = lent::member(file, control, contents, &mut reply);
     match kind {

@@ -1,15 +1,19 @@
 //! The calls as they are, on memory that the caller lends; `include/swarmbanner.h` says what each promises.
 //!
 //! A call returns the kind of its reply and puts the three numbers that go with it into the front of `reply`. All of them
-//! take slices of any length and with anything in them.
+//! take slices of any length and with anything in them. They do not ask whether the library has the layout of this crate;
+//! who calls them compares [`layout`] with [`LAYOUT`] first, as the typed calls do.
 //!
 //! ```
 //! use swarmbanner::lent;
 //!
+//! assert_eq!(lent::layout(), lent::LAYOUT);
 //! let mut reply = [7; 3];
 //! assert_eq!(lent::check(&[], &mut [], &mut [], &mut [], &mut reply), lent::REFUSED);
 //! assert_eq!(reply, [2, 0, 0]); // lent memory too short
 //! ```
+
+pub mod at;
 
 /// Nothing fails. With it go the pairs visited.
 pub const CLOSED: usize = 0;
@@ -30,13 +34,32 @@ pub const YES: usize = 7;
 /// The contents do not belong to the set.
 pub const NO: usize = 8;
 
-/// The number of the layout of the tables, SWARMBANNER_LAYOUT of the header.
-pub const LAYOUT: usize = 1;
+/// The number of the layout that this crate is written for, SWARMBANNER_LAYOUT of the header. [`layout`] is the library's.
+pub const LAYOUT: usize = 2;
+
+/// Bytes that a file can have.
+pub const FILE_MOST: usize = 16_384;
+/// Machines that a file can have.
+pub const MACHINES_MOST: usize = 4;
+/// Control states that a file can have.
+pub const CONTROL_STATES_MOST: usize = 256;
+/// Queues that a file can have.
+pub const QUEUES_MOST: usize = 4;
+/// Messages that the queues can have together.
+pub const MESSAGES_MOST: usize = 32;
+/// Transitions that a file can have.
+pub const TRANSITIONS_MOST: usize = 128;
+/// Messages that a transition can send or receive at once.
+pub const WORD_MOST: usize = 16;
+/// Diagram states that a file can have.
+pub const POOL_STATES_MOST: usize = 127;
+/// Bad entries that a file can have.
+pub const BAD_ENTRIES_MOST: usize = 64;
 
 /// Entries that `reply` needs.
 pub const REPLY_LEAST: usize = 3;
 /// Bytes that the tables of a file need.
-pub const SPACE_LEAST: usize = 5873;
+pub const SPACE_LEAST: usize = at::BAD + BAD_ENTRIES_MOST * at::BAD_ROW;
 /// Entries that each scratch table of a check needs.
 pub const TABLE_LEAST: usize = 32_512;
 /// Bytes that the contents buffer of a check needs.
@@ -44,6 +67,7 @@ pub const CONTENTS_LEAST: usize = 32_768;
 
 mod c {
     extern "C" {
+        pub fn swarmbanner_layout() -> usize;
         pub fn swarmbanner_read(
             file: *const u8,
             file_len: usize,
@@ -74,6 +98,13 @@ mod c {
             reply_len: usize,
         ) -> usize;
     }
+}
+
+/// The number of the library's layout. Where it is not [`LAYOUT`], the lengths above and the places in [`at`] are not the
+/// library's.
+pub fn layout() -> usize {
+    // SAFETY: it takes nothing and touches nothing.
+    unsafe { c::swarmbanner_layout() }
 }
 
 /// Reads a file: [`READ`], [`REFUSED`] or [`NO_ROOM`]. The tables fill the front of the space, unless the file is refused.

@@ -26,6 +26,9 @@
 //! | follow the contents that a reply shows | [`Failure`] and [`Way`] |
 //! | lend memory of one's own | [`lent`] |
 //!
+//! The library must have the layout that this crate is written for, [`lent::LAYOUT`]; with any other, [`check`], [`Checker::new`],
+//! [`member`] and [`read`] panic.
+//!
 //! Replies, contents shown and tables come from the proved library. What this crate does with them, the methods of
 //! [`Session`] among it, is plain Rust that was tested and not proved.
 
@@ -33,6 +36,7 @@
 #![deny(unsafe_code)]
 
 mod checker;
+mod fits;
 #[allow(unsafe_code)]
 pub mod lent;
 mod refusal;

@@ -1,6 +1,7 @@
 use std::ops::Range;
 
-use crate::lent::{self, SPACE_LEAST};
+use crate::fits::must_fit;
+use crate::lent::{self, at, SPACE_LEAST};
 use crate::Refusal;
 
 /// A machine.
@@ -28,14 +29,14 @@ pub enum Kind {
     Send {
         /// The queue that is sent to.
         queue: usize,
-        /// Up to four messages of that queue.
+        /// Up to sixteen messages of that queue.
         word: Vec<u8>,
     },
     /// A word is taken from the front of a queue, which must begin with it.
     Receive {
         /// The queue that is received from.
         queue: usize,
-        /// Up to four messages of that queue.
+        /// Up to sixteen messages of that queue.
         word: Vec<u8>,
     },
 }
@@ -113,6 +114,10 @@ pub struct Session {
 ///
 /// Fails where the bytes are not a session file.
 ///
+/// # Panics
+///
+/// Panics where the library has another layout than this crate ([`lent::LAYOUT`]).
+///
 /// ```
 /// use swarmbanner::Kind;
 ///
@@ -126,6 +131,7 @@ pub struct Session {
 /// # Ok::<(), swarmbanner::Refusal>(())
 /// ```
 pub fn read(file: &[u8]) -> Result<Session, Refusal> {
+    must_fit();
     let mut space = [0; SPACE_LEAST];
     let mut reply = [0; 3];
     let kind = lent::read(file, &mut space, &mut reply);
@@ -136,21 +142,13 @@ pub fn read(file: &[u8]) -> Result<Session, Refusal> {
     }
 }
 
-/// The tables as `include/swarmbanner.h` lays them out.
+/// The tables as [`at`] says.
 struct Space<'a>(&'a [u8; SPACE_LEAST]);
 
 impl Space<'_> {
-    const STATES: usize = 6;
-    const STARTS: usize = 10;
-    const MESSAGES: usize = 14;
-    const TRANSITIONS: usize = 18;
-    const FINALS: usize = 1298;
-    const ARCS: usize = 1425;
-    const ROOTS: usize = 5489;
-    const BAD: usize = 5745;
-
     fn session(&self) -> Session {
-        let [machines, queues, _, transitions, pool, bad] = [0, 1, 2, 3, 4, 5].map(|count| self.number(count));
+        let [machines, queues, _, transitions, pool, bad] =
+            [0, 1, 2, 3, 4, 5].map(|count| self.number(at::COUNTS + count));
         let machines = self.machines(machines);
         let control_states = product(&machines);
         Session {
@@ -158,24 +156,24 @@ impl Space<'_> {
             queues: self.queues(queues),
             transitions: (0..transitions).map(|number| self.transition(number)).collect(),
             pool: (0..pool).map(|state| self.pool_state(state)).collect(),
-            roots: (0..control_states).map(|control| DiagramState::after_one(self.0[Self::ROOTS + control])).collect(),
+            roots: (0..control_states).map(|control| DiagramState::after_one(self.0[at::ROOTS + control])).collect(),
             bad_entries: (0..bad).map(|entry| self.bad_entry(entry)).collect(),
         }
     }
 
-    fn number(&self, at: usize) -> usize {
-        usize::from(self.0[at])
+    fn number(&self, place: usize) -> usize {
+        usize::from(self.0[place])
     }
 
-    fn row<const LENGTH: usize>(&self, at: usize, number: usize) -> &[u8] {
-        &self.0[at + number * LENGTH..][..LENGTH]
+    fn row<const LENGTH: usize>(&self, table: usize, number: usize) -> &[u8] {
+        &self.0[table + number * LENGTH..][..LENGTH]
     }
 
     fn machines(&self, count: usize) -> Vec<Machine> {
         (0..count)
             .map(|machine| Machine {
-                states: self.number(Self::STATES + machine),
-                start: self.number(Self::STARTS + machine),
+                states: self.number(at::STATES + machine),
+                start: self.number(at::STARTS + machine),
             })
             .collect()
     }
@@ -184,7 +182,7 @@ impl Space<'_> {
         let mut first = 0;
         (0..count)
             .map(|queue| {
-                let messages = first..first + self.0[Self::MESSAGES + queue];
+                let messages = first..first + self.0[at::MESSAGES + queue];
                 first = messages.end;
                 Queue { messages }
             })
@@ -192,9 +190,9 @@ impl Space<'_> {
     }
 
     fn transition(&self, number: usize) -> Transition {
-        let row = self.row::<10>(Self::TRANSITIONS, number);
+        let row = self.row::<{ at::TRANSITION_ROW }>(at::TRANSITIONS, number);
         let queue = usize::from(row[4]);
-        let word = row[6..6 + usize::from(row[5])].to_vec();
+        let word = row[at::TRANSITION_WORD..][..usize::from(row[5])].to_vec();
         let kind = match row[3] {
             0 => Kind::Local,
             1 => Kind::Send { queue, word },
@@ -204,16 +202,16 @@ impl Space<'_> {
     }
 
     fn pool_state(&self, state: usize) -> PoolState {
-        let row = self.row::<32>(Self::ARCS, state);
+        let row = self.row::<{ at::ARC_ROW }>(at::ARCS, state);
         let arcs = (0..).zip(row).filter_map(|(message, &entry)| {
             let target = DiagramState::after_one(entry)?;
             Some(Arc { message, target })
         });
-        PoolState { is_final: self.0[Self::FINALS + state] == 1, arcs: arcs.collect() }
+        PoolState { is_final: self.0[at::FINALS + state] == 1, arcs: arcs.collect() }
     }
 
     fn bad_entry(&self, entry: usize) -> BadEntry {
-        let row = self.row::<2>(Self::BAD, entry);
+        let row = self.row::<{ at::BAD_ROW }>(at::BAD, entry);
         BadEntry { control: row[0].into(), root: DiagramState(row[1]) }
     }
 }

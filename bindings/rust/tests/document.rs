@@ -1,4 +1,4 @@
-//! The cases that document 01 gives, by the types of this crate.
+//! The cases that document 01 gives, and words of sixteen messages, by the types of this crate.
 
 use std::path::Path;
 
@@ -86,13 +86,77 @@ fn memory_that_is_just_enough_and_one_short() {
 #[test]
 fn no_room_touches_nothing() {
     let mut reply = [9; 2];
-    assert_eq!(lent::read(&hex(R), &mut [5; 5873], &mut reply), lent::NO_ROOM);
+    assert_eq!(lent::read(&hex(R), &mut [5; 7409], &mut reply), lent::NO_ROOM);
     assert_eq!(lent::member(&hex(R), 0, &[], &mut reply), lent::NO_ROOM);
     assert_eq!(lent::check(&hex(R), &mut [], &mut [], &mut [], &mut reply), lent::NO_ROOM);
     assert_eq!(reply, [9; 2]);
-    let (mut space, mut reply) = ([5; 5872], [9; 3]);
+    let (mut space, mut reply) = ([5; 7408], [9; 3]);
     assert_eq!(lent::read(&hex(R), &mut space, &mut reply), lent::NO_ROOM);
-    assert_eq!((space, reply), ([5; 5872], [9; 3]));
+    assert_eq!((space, reply), ([5; 7408], [9; 3]));
+}
+
+/// Two states, messages 1 to 16 in queue 1.
+const LONG_HEAD: [u8; 6] = [1, 2, 0, 2, 1, 16];
+
+/// Words of this length from message 1 on, sent in that order and received in the other. Messages past the sixteenth are 1.
+fn with_words(sent: u8, received: u8) -> Vec<u8> {
+    let up = |length: u8| (1..=length).map(|message| if message > 16 { 1 } else { message });
+    let mut file = LONG_HEAD.to_vec();
+    file.extend([2, 0, 0, 1, 1, 1, sent]);
+    file.extend(up(sent));
+    file.extend([0, 1, 0, 2, 1, received]);
+    file.extend(up(received).rev());
+    file.extend([1, 1, 0, 1, 0, 0]);
+    file
+}
+
+#[test]
+fn rows_of_words_of_sixteen() {
+    let (mut space, mut reply) = ([5; lent::SPACE_LEAST + 1], [9; 3]);
+    assert_eq!(lent::read(&with_words(16, 16), &mut space, &mut reply), lent::READ);
+    let sent = [0, 0, 1, 1, 1, 16, 1, 2, 3, 4, 5, 6, 7, 8, 9, 10, 11, 12, 13, 14, 15, 16];
+    let received = [0, 1, 0, 2, 1, 16, 16, 15, 14, 13, 12, 11, 10, 9, 8, 7, 6, 5, 4, 3, 2, 1];
+    let rows = &space[lent::at::TRANSITIONS..];
+    assert_eq!(rows[..22], sent);
+    assert_eq!(rows[22..44], received);
+    // a transition that is not there; the mark of pool state 0, after all rows; the space's rest
+    assert_eq!((rows[44], rows[128 * 22], space[lent::SPACE_LEAST]), (0, 1, 5));
+    let session = read(&with_words(16, 16)).expect("it is a session file");
+    let kinds: Vec<&Kind> = session.transitions().iter().map(|transition| &transition.kind).collect();
+    let word: Vec<u8> = (1..=16).collect();
+    let reversed: Vec<u8> = (1..=16).rev().collect();
+    assert_eq!(kinds, [&Kind::Send { queue: 1, word: word.clone() }, &Kind::Receive { queue: 1, word: reversed }]);
+    assert_eq!(session.step(0, 0, &[0]), Some((1, [&[0], &word[..]].concat())));
+}
+
+#[test]
+fn seventeen_messages_are_refused_at_the_length() {
+    for (sent, received, place) in [(17, 16, 12), (16, 17, 34), (17, 17, 12)] {
+        let refused = Refusal { number: 5, place };
+        assert_eq!(read(&with_words(sent, received)), Err(refused));
+        assert_eq!(check(&with_words(sent, received)), Reply::Refused(refused));
+    }
+    for length in 0..=16 {
+        assert!(read(&with_words(length, 16 - length)).is_ok(), "{length}");
+    }
+}
+
+/// In state 1 the queues hold 0 and then 1 to 16, of which the receive leaves 0.
+#[test]
+fn contents_that_hold_a_received_word_of_sixteen() {
+    let mut file = LONG_HEAD.to_vec();
+    file.extend([1, 0, 1, 1, 2, 1, 16]);
+    file.extend(1..=16);
+    file.extend([19, 1, 0]);
+    file.extend((0..17).flat_map(|message| [0, 1, message, message + 2]));
+    file.extend([1, 0, 1, 2, 0]);
+    let contents: Vec<u8> = (0..=16).collect();
+    let reply = check(&file);
+    assert_eq!(reply, Reply::Leaves { control: 1, transition: 0, contents: contents.clone() });
+    assert_eq!(reply.to_string(), "leaves 1 0 17: 0 1 2 3 4 5 6 7 8 9 10 11 12 13 14 15 16");
+    let session = read(&file).expect("it is a session file");
+    assert_eq!(session.step(1, 0, &contents), Some((1, vec![0])));
+    assert_eq!((member(&file, 1, &contents), member(&file, 1, &[0])), (Ok(true), Ok(false)));
 }
 
 #[test]
