@@ -1,0 +1,41 @@
+/*
+ * Stands in for a library of another layout: each call answers what a program that does not ask first would print as
+ * `closed 0`.
+ */
+#include "swarmbanner.h"
+
+size_t swarmbanner_layout(void)
+{
+    return SWARMBANNER_LAYOUT + 1;
+}
+
+static size_t answer(size_t kind, size_t *reply, size_t reply_len)
+{
+    size_t i;
+
+    for (i = 0; i < reply_len && i < SWARMBANNER_REPLY_LEAST; i++)
+        reply[i] = 0;
+    return kind;
+}
+
+size_t swarmbanner_read(const uint8_t *file, size_t file_len, uint8_t *space, size_t space_len,
+                        size_t *reply, size_t reply_len)
+{
+    (void)file, (void)file_len, (void)space, (void)space_len;
+    return answer(SWARMBANNER_READ, reply, reply_len);
+}
+
+size_t swarmbanner_member(const uint8_t *file, size_t file_len, size_t control, const uint8_t *contents,
+                          size_t contents_len, size_t *reply, size_t reply_len)
+{
+    (void)file, (void)file_len, (void)control, (void)contents, (void)contents_len;
+    return answer(SWARMBANNER_YES, reply, reply_len);
+}
+
+size_t swarmbanner_check(const uint8_t *file, size_t file_len, uint16_t *seen, size_t seen_len,
+                         uint16_t *queue, size_t queue_len, uint8_t *contents, size_t contents_len,
+                         size_t *reply, size_t reply_len)
+{
+    (void)file, (void)file_len, (void)seen, (void)seen_len, (void)queue, (void)queue_len, (void)contents, (void)contents_len;
+    return answer(SWARMBANNER_CLOSED, reply, reply_len);
+}

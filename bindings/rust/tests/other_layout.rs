@@ -1,0 +1,22 @@
+//! For a library of another layout: `bindings/test` links one that stands in for it, and runs what is ignored elsewhere.
+
+use std::panic::{catch_unwind, UnwindSafe};
+
+use swarmbanner::{check, lent, member, read, Checker};
+
+/// What a call panics with.
+fn said<T>(call: impl FnOnce() -> T + UnwindSafe) -> Option<String> {
+    catch_unwind(call).err()?.downcast_ref::<String>().cloned()
+}
+
+#[test]
+#[ignore = "needs a library of another layout"]
+fn typed_calls_panic() {
+    let (here, library) = (lent::LAYOUT, lent::layout());
+    assert_ne!(here, library, "the library is to have another layout");
+    let why = format!("swarmbanner: the crate is written for layout {here}, the library has layout {library}");
+    assert_eq!(said(|| check(&[])), Some(why.clone()));
+    assert_eq!(said(Checker::new), Some(why.clone()));
+    assert_eq!(said(|| member(&[], 0, &[])), Some(why.clone()));
+    assert_eq!(said(|| read(&[])), Some(why));
+}
