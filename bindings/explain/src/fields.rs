@@ -3,6 +3,13 @@
 //! The walk judges nothing: the library has said whether the file is read, or at which number it is refused. So every number
 //! before that one is good, and the walk only has to know which one is next.
 
+use swarmbanner::lent::{
+    BAD_ENTRIES_MOST, MACHINES_MOST, MESSAGES_MOST, POOL_STATES_MOST, QUEUES_MOST, TRANSITIONS_MOST, WORD_MOST,
+};
+
+/// States that a machine can have.
+const STATES_MOST: usize = 16;
+
 /// What else than its range limits a number.
 #[derive(Clone, Copy, Debug, PartialEq, Eq)]
 pub enum Limit {
@@ -133,11 +140,11 @@ impl Walk<'_> {
 
     fn machines(&mut self) -> Step<()> {
         self.begin();
-        let machines = self.number("the number of machines".into(), (1, 4))?;
+        let machines = self.number("the number of machines".into(), (1, MACHINES_MOST))?;
         let mut product = 1;
         for machine in 0..machines {
             let what = format!("the number of states of machine {machine}");
-            let states = self.limited(what, (1, 16), Limit::Product(product))?;
+            let states = self.limited(what, (1, STATES_MOST), Limit::Product(product))?;
             product *= states;
             self.met.states.push(states);
         }
@@ -149,11 +156,12 @@ impl Walk<'_> {
 
     fn queues(&mut self) -> Step<()> {
         self.begin();
-        let queues = self.number("the number of queues".into(), (1, 4))?;
+        let queues = self.number("the number of queues".into(), (1, QUEUES_MOST))?;
         let mut sum = 0;
         self.met.queues.push(sum);
         for queue in 0..queues {
-            sum += self.limited(format!("the number of messages of queue {queue}"), (1, 32), Limit::Sum(sum))?;
+            let what = format!("the number of messages of queue {queue}");
+            sum += self.limited(what, (1, MESSAGES_MOST), Limit::Sum(sum))?;
             self.met.queues.push(sum);
         }
         Ok(())
@@ -165,7 +173,7 @@ impl Walk<'_> {
 
     fn transitions(&mut self) -> Step<()> {
         self.begin();
-        for number in 0..self.number("the number of transitions".into(), (0, 128))? {
+        for number in 0..self.number("the number of transitions".into(), (0, TRANSITIONS_MOST))? {
             self.met.transitions.push(self.at);
             self.transition(number)?;
         }
@@ -184,7 +192,7 @@ impl Walk<'_> {
         let queue = self.index(format!("the queue of transition {number}"), self.met.queues.len() - 1)?;
         let ends = self.met.queues.get(queue).copied().zip(self.met.queues.get(queue + 1).copied());
         let limit = Limit::Queue(queue, ends.unwrap_or_default());
-        let length = self.number(format!("the length of the word of transition {number}"), (0, 4))?;
+        let length = self.number(format!("the length of the word of transition {number}"), (0, WORD_MOST))?;
         for place in 1..=length {
             let what = format!("message {place} of {length} in the word of transition {number}");
             self.limited(what, (0, self.messages() - 1), limit)?;
@@ -195,7 +203,7 @@ impl Walk<'_> {
     /// How many diagram states there are.
     fn pool(&mut self) -> Step<usize> {
         self.begin();
-        let states = self.number("the number of diagram states".into(), (1, 127))?;
+        let states = self.number("the number of diagram states".into(), (1, POOL_STATES_MOST))?;
         for state in 0..states {
             self.met.pool.push(self.at);
             self.met.arcs.push(vec![]);
@@ -233,7 +241,7 @@ impl Walk<'_> {
 
     fn bad(&mut self, states: usize) -> Step<()> {
         self.begin();
-        for entry in 0..self.number("the number of bad entries".into(), (0, 64))? {
+        for entry in 0..self.number("the number of bad entries".into(), (0, BAD_ENTRIES_MOST))? {
             self.met.bad.push(self.at);
             self.index(format!("the control state of bad entry {entry}"), self.controls())?;
             self.index(format!("the root of bad entry {entry} (the diagram state itself)"), states)?;

@@ -190,3 +190,18 @@ fn lines_of_the_page() {
         assert_eq!(lines[lines.len() - told.len()..], *told, "{bytes}");
     }
 }
+
+#[test]
+fn a_word_of_seventeen() {
+    let file = [1, 2, 0, 2, 1, 16, 1, 0, 0, 1, 1, 1, 17, 1, 2, 3];
+    let refusal = swarmbanner::read(&file).expect_err("it is refused");
+    assert_eq!(
+        Refused::new(&file, refusal).lines(),
+        [
+            "a number is outside its field's range",
+            "field 3, byte 12: the length of the word of transition 0",
+            "there stands 11 (hex), the number 17",
+            "allowed there: 0 to 16",
+        ]
+    );
+}

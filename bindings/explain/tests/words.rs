@@ -5,7 +5,7 @@ use std::ffi::OsStr;
 use reference_checker::generate::document;
 use reference_checker::generate::verdicts::Plans;
 use swarmbanner::{Checker, Reply};
-use swarmbanner_explain::{explained, object};
+use swarmbanner_explain::{explained, listing, object};
 
 const FILES: usize = 6_000;
 const SEED: u64 = 20_261_115;
@@ -67,6 +67,57 @@ fn contents_that_are_bad() {
             "bad: the diagram of bad entry 0 reads 0 of 0 messages, from diagram state 0 to 0, which is final",
         ]
     );
+}
+
+/// Messages 0 to 15 are received in state 1 where they wait alone, and nothing may wait after them there.
+fn sixteen_received() -> Vec<u8> {
+    let mut file = vec![1, 2, 0, 1, 16, 1, 0, 1, 1, 2, 0, 16];
+    file.extend(0..16);
+    file.extend([18, 1, 0]);
+    file.extend((0..16).flat_map(|message| [0, 1, message, message + 2]));
+    file.extend([1, 0, 1, 2, 0]);
+    file
+}
+
+#[test]
+fn a_received_word_of_sixteen() {
+    let file = sixteen_received();
+    let reply = swarmbanner::check(&file);
+    assert_eq!(
+        explained(&file, &reply),
+        [
+            "before: control state 1: machine 0 in state 1",
+            "  queue 0 holds 16 messages: 0 1 2 3 4 5 6 7 8 9 10 11 12 13 14 15",
+            "inside: the set of control state 1 reads 16 of 16 messages, from diagram state 1 to 17, which is final",
+            "step: transition 0: machine 0 goes from state 1 to state 1 and takes 0 1 2 3 4 5 6 7 8 9 10 11 12 13 14 15 from \
+             the front of queue 0",
+            "after: control state 1: machine 0 in state 1",
+            "  queue 0 is empty",
+            "outside: the set of control state 1 reads 0 of 0 messages, from diagram state 1 to 1, which is not final",
+        ]
+    );
+    let word = "[0,1,2,3,4,5,6,7,8,9,10,11,12,13,14,15]";
+    assert_eq!(
+        object(OsStr::new("f"), &file, &reply.to_string(), 1, &reply),
+        format!(
+            "{{\"file\":\"f\",\"line\":\"leaves 1 0 16: 0 1 2 3 4 5 6 7 8 9 10 11 12 13 14 15\",\"verdict\":\"leaves\",\
+             \"status\":1,\"control\":1,\"machines\":[1],\"contents\":{word},\"queues\":[{word}],\
+             \"transition\":{{\"number\":0,\"machine\":0,\"from\":1,\"to\":1,\"kind\":\"receive\",\"queue\":0,\"word\":{word}}},\
+             \"after\":{{\"control\":1,\"machines\":[1],\"contents\":[],\"queues\":[[]]}},\
+             \"lost\":{{\"why\":\"not final\",\"read\":0,\"states\":[1]}}}}"
+        )
+    );
+}
+
+#[test]
+fn a_listing_has_the_whole_word() {
+    let file = sixteen_received();
+    let lines = listing(&file, &swarmbanner::read(&file).expect("it is a session file"));
+    let transition =
+        "  0, byte 6: machine 0 goes from state 1 to state 1 and takes 0 1 2 3 4 5 6 7 8 9 10 11 12 13 14 15 from \
+                      the front of queue 0";
+    assert!(lines.iter().any(|line| line == transition), "{lines:?}");
+    assert!(lines.iter().any(|line| line == "field 4, byte 28: diagram states"), "{lines:?}");
 }
 
 /// What membership, asked of the library, says of the configuration after a step agrees with the words.
