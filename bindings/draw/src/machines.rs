@@ -5,7 +5,7 @@ use std::collections::BTreeMap;
 use swarmbanner::Session;
 
 use crate::dot::{Attribute, Dot};
-use crate::text::{action, ranges};
+use crate::text::{label, ranges};
 
 const MARKED: &str = "#c62828";
 const MARKED_FILL: &str = "#fbdede";
@@ -60,7 +60,7 @@ fn draw_transitions(dot: &mut Dot, session: &Session, machine: usize, marked: Op
         if transition.machine != machine {
             continue;
         }
-        let label = format!("{number}: {}", action(&transition.kind));
+        let label = label(number, transition);
         if marked == Some(number) {
             let attributes = [("label", &label[..]), ("color", MARKED), ("fontcolor", MARKED), ("penwidth", "2")];
             dot.arrow(&name(machine, transition.from), &name(machine, transition.to), &attributes);

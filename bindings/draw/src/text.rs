@@ -5,12 +5,18 @@ use swarmbanner::{Kind, Session, Transition};
 /// More messages of a queue than this are not written out.
 const MESSAGES_SHOWN: usize = 16;
 
-fn messages(word: &[u8]) -> String {
-    let shown: Vec<String> = word.iter().take(MESSAGES_SHOWN).map(u8::to_string).collect();
-    match word.len() {
+/// More messages of a word than this stand on further lines beside an arrow.
+const MESSAGES_ON_A_LINE: usize = 8;
+
+fn listed(messages: &[u8]) -> String {
+    messages.iter().map(u8::to_string).collect::<Vec<_>>().join(" ")
+}
+
+fn waiting(messages: &[u8]) -> String {
+    match messages.len() {
         0 => "ε".to_string(),
-        1..=MESSAGES_SHOWN => shown.join(" "),
-        length => format!("{} .. ({length} messages)", shown.join(" ")),
+        1..=MESSAGES_SHOWN => listed(messages),
+        length => format!("{} .. ({length} messages)", listed(&messages[..MESSAGES_SHOWN])),
     }
 }
 
@@ -18,22 +24,31 @@ fn messages(word: &[u8]) -> String {
 pub fn contents(session: &Session, contents: &[u8]) -> String {
     let queues = session.split(contents).expect("contents shown by the checker are queue after queue");
     let written: Vec<String> =
-        queues.iter().zip(0..).map(|(word, queue)| format!("q{queue}: {}", messages(word))).collect();
+        queues.iter().zip(0..).map(|(word, queue)| format!("q{queue}: {}", waiting(word))).collect();
     written.join("   ")
 }
 
-/// `q!m..`, `q?m..` or `local`.
-pub fn action(kind: &Kind) -> String {
-    match kind {
-        Kind::Local => "local".to_string(),
-        Kind::Send { queue, word } => format!("q{queue}!{}", messages(word)),
-        Kind::Receive { queue, word } => format!("q{queue}?{}", messages(word)),
-    }
+/// `q!m..`, `q?m..` or `local`, in lines of so many messages. A word is written out whole.
+fn action(kind: &Kind, on_a_line: usize) -> String {
+    let (queue, mark, word) = match kind {
+        Kind::Local => return "local".to_string(),
+        Kind::Send { queue, word } => (queue, '!', word),
+        Kind::Receive { queue, word } => (queue, '?', word),
+    };
+    let lines: Vec<String> = word.chunks(on_a_line).map(listed).collect();
+    let written = if lines.is_empty() { "ε".to_string() } else { lines.join("\n") };
+    format!("q{queue}{mark}{written}")
 }
 
+/// What stands beside the arrow of a transition.
+pub fn label(number: usize, transition: &Transition) -> String {
+    format!("{number}: {}", action(&transition.kind, MESSAGES_ON_A_LINE))
+}
+
+/// A transition in a title, which has room for the longest word.
 pub fn step(number: usize, transition: &Transition) -> String {
     let Transition { machine, from, to, kind } = transition;
-    format!("transition {number} (machine {machine} from {from} to {to}, {})", action(kind))
+    format!("transition {number} (machine {machine} from {from} to {to}, {})", action(kind, usize::MAX))
 }
 
 /// A control state with the states of its machines.

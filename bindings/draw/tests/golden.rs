@@ -9,6 +9,14 @@ const E: &str = "02 01 01 00 00 01 01 02 00 00 00 01 00 01 00 01 00 00 02 00 01 
 /// File S: `closed 3`.
 const S: &str = "01 01 00 02 01 01 01 00 00 00 01 00 01 00 02 01 02 00 00 01 01 01 01 01 01 01 00";
 
+/// Words of 16 sent and received, of 9 and of 8; the first step leaves, as nothing is inside in state 1.
+const W: &str = "01 02 00 01 20 04 \
+                 00 00 01 01 00 10 10 11 12 13 14 15 16 17 18 19 1a 1b 1c 1d 1e 1f \
+                 00 00 01 02 00 10 00 01 02 03 04 05 06 07 08 09 0a 0b 0c 0d 0e 0f \
+                 00 00 01 01 00 09 00 01 02 03 04 05 06 07 08 \
+                 00 01 00 02 00 08 00 01 02 03 04 05 06 07 \
+                 01 01 00 01 00 00";
+
 fn drawn(file: &str, control: Option<usize>) -> Vec<Picture> {
     let bytes: Vec<u8> =
         file.split_whitespace().map(|byte| u8::from_str_radix(byte, 16).expect("two hexadecimal digits")).collect();
@@ -46,4 +54,11 @@ fn nothing_fails() {
     let machines = include_str!("golden/s-machines.dot");
     let control = include_str!("golden/s-control-0.dot");
     assert_drawn(S, None, &[("machines", machines), ("control-0", control)]);
+}
+
+#[test]
+fn words_of_sixteen() {
+    let machines = include_str!("golden/w-machines.dot");
+    let leaves = include_str!("golden/w-leaves-0-0.dot");
+    assert_drawn(W, None, &[("machines", machines), ("leaves-0-0", leaves)]);
 }
