@@ -2,7 +2,7 @@
 
 use reference_checker::membership::membership;
 use reference_checker::random::Random;
-use reference_checker::read::{read, Refusal, Tables, LONGEST_FILE};
+use reference_checker::read::{read, Refusal, Tables, LONGEST_FILE, MESSAGES};
 use reference_checker::verdict::{line, Reply, Verdict};
 use reference_checker::walk::{check_tables, Scratch};
 use swarmbanner::lent::{self, CONTENTS_LEAST, REPLY_LEAST, SPACE_LEAST, TABLE_LEAST};
@@ -101,8 +101,11 @@ impl Comparer {
             compare_session(file, &tables)?;
         }
         if checks {
-            let reply = tables.map(|tables| check_tables(&tables, &mut self.scratch));
-            self.compare_checking(file, &reply, random)?;
+            let reply = match &tables {
+                Ok(tables) => Ok(check_tables(tables, &mut self.scratch)),
+                Err(refusal) => Err(*refusal),
+            };
+            self.compare_checking(file, tables.as_ref().ok(), &reply, random)?;
             if is_typed {
                 self.compare_typed_checking(file, &reply)?;
             }
@@ -134,6 +137,7 @@ impl Comparer {
         match tables {
             Ok(tables) => {
                 self.tally.count("read: read");
+                self.tally.count_words(tables.used_transitions());
                 demand(told == (lent::READ, [0; 3]), &format!("read: told {told:?} of a file that is read"))?;
                 demand(self.space.now()[..SPACE_LEAST] == flat(tables), "read: other tables")?;
                 demand(self.space.kept_from(SPACE_LEAST), "read: the space's rest has changed")
@@ -176,7 +180,13 @@ impl Comparer {
         demand(typed == expected.map_err(|refusal| refusal.to_string()), "member: the typed call says something else")
     }
 
-    fn compare_checking(&mut self, file: &[u8], expected: &Reply, random: &mut Random) -> Result<(), String> {
+    fn compare_checking(
+        &mut self,
+        file: &[u8],
+        tables: Option<&Tables>,
+        expected: &Reply,
+        random: &mut Random,
+    ) -> Result<(), String> {
         let [seen_length, queue_length] = [(); 2].map(|()| length(random, TABLE_LEAST));
         let (contents_length, reply_length) = (length(random, CONTENTS_LEAST), length(random, REPLY_LEAST));
         let kind = lent::check(
@@ -197,7 +207,7 @@ impl Comparer {
         let is_short = seen_length < TABLE_LEAST || queue_length < TABLE_LEAST || contents_length < CONTENTS_LEAST;
         let short = Err(Refusal { number: 2, place: 0 });
         let expected = if is_short && file.len() <= LONGEST_FILE { &short } else { expected };
-        self.tally.count_reply(expected);
+        self.tally.count_reply(expected, tables);
         let told_here = self.reply(kind, "check")?;
         demand(told_here == told(expected), &format!("check: told {told_here:?}, the reference {}", line(expected)))?;
         if expected.is_err() {
@@ -270,8 +280,8 @@ fn way(tables: &Tables, control: usize, random: &mut Random) -> Vec<u8> {
     let mut entry = usize::from(root);
     for _ in 0..random.below(9) {
         let Some(state) = entry.checked_sub(1) else { break };
-        let row = &tables.arcs[state * 32..][..32];
-        let arcs: Vec<u8> = (0..32).filter(|&message| row[usize::from(message)] > 0).collect();
+        let row = &tables.arcs[state * MESSAGES..][..MESSAGES];
+        let arcs: Vec<u8> = (0..).zip(row).filter(|(_, &entry)| entry > 0).map(|(message, _)| message).collect();
         let Some(&message) = random.pick(&arcs) else { break };
         contents.push(message);
         entry = row[usize::from(message)].into();

@@ -22,7 +22,7 @@ const DEEP: Shape = Shape {
     control_states: 4,
     queues: QUEUES,
     messages: MESSAGES,
-    transitions: WORD_LENGTH,
+    transitions: 4,
     pool_states: POOL_STATES,
     bad: 4,
 };
@@ -43,7 +43,8 @@ impl Files {
         self.plans.random = Random::new(mixed);
         let file = match self.plans.random.below(1000) {
             0..350 => self.plans.small().bytes(),
-            350..450 => self.raw(&Shape::SMALL),
+            350..430 => self.raw(&Shape::SMALL),
+            430..450 => self.with_words_of_any_length(),
             450..460 => self.plans.mended(&Shape::MEDIUM).bytes(),
             460..461 => self.raw(&DEEP),
             461..480 => self.wide(),
@@ -64,6 +65,18 @@ impl Files {
     fn wide(&mut self) -> Vec<u8> {
         let shape = WIDE[self.plans.random.below(WIDE.len())];
         self.raw(&shape)
+    }
+
+    fn with_words_of_any_length(&mut self) -> Vec<u8> {
+        let random = &mut self.plans.random;
+        let mut plan = random_plan(random, &SHAPE);
+        let queues: Vec<_> = (0..plan.queues.len()).map(|queue| plan.messages_of(queue)).collect();
+        for action in plan.transitions.iter_mut().filter_map(|transition| transition.action.as_mut()) {
+            let messages = &queues[action.queue];
+            let length = random.between(0, WORD_LENGTH);
+            action.word = (0..length).map(|_| random.between(messages.start, messages.end - 1)).collect();
+        }
+        plan.bytes()
     }
 
     fn small_draft(&mut self) -> Draft {

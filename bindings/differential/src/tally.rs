@@ -2,18 +2,22 @@
 
 use std::collections::BTreeMap;
 
+use reference_checker::read::{Kind, Tables, Transition, WORD_LENGTH};
 use reference_checker::verdict::{Reply, Verdict};
 
 #[derive(Default)]
 pub struct Tally {
     counts: BTreeMap<String, u64>,
     longest_shown: usize,
+    /// Words of each length in files that were read.
+    words: [u64; WORD_LENGTH + 1],
 }
 
 /// What a run of some size must have met.
 const DEMANDED: [&str; 6] =
     ["read: read", "read: no room", "member: yes", "member: no", "member: no room", "check: no room"];
 const VERDICTS: [&str; 4] = ["closed", "outside", "leaves", "bad"];
+const LEFT: [&str; 2] = ["check: leaves by sending a longest word", "check: leaves by receiving a longest word"];
 
 impl Tally {
     pub fn count(&mut self, what: &str) {
@@ -23,11 +27,12 @@ impl Tally {
         }
     }
 
-    pub fn count_reply(&mut self, reply: &Reply) {
+    pub fn count_reply(&mut self, reply: &Reply, tables: Option<&Tables>) {
         let name = match reply {
             Ok(Verdict::Closed { .. }) => "check: closed",
             Ok(Verdict::Outside) => "check: outside",
-            Ok(Verdict::Leaves { contents, .. }) => {
+            Ok(Verdict::Leaves { contents, transition, .. }) => {
+                self.count_left(tables.map(|tables| &tables.transitions[*transition]));
                 self.longest_shown = self.longest_shown.max(contents.len());
                 "check: leaves"
             }
@@ -40,11 +45,30 @@ impl Tally {
         self.count(name);
     }
 
+    pub fn count_words(&mut self, transitions: &[Transition]) {
+        for transition in transitions.iter().filter(|transition| transition.kind != Kind::Local) {
+            self.words[usize::from(transition.length)] += 1;
+        }
+    }
+
+    /// The transition by which a file is left.
+    fn count_left(&mut self, transition: Option<&Transition>) {
+        let [sending, receiving] = LEFT;
+        match transition.filter(|transition| transition.word().len() == WORD_LENGTH).map(|transition| transition.kind) {
+            Some(Kind::Send) => self.count(sending),
+            Some(Kind::Receive) => self.count(receiving),
+            _ => {}
+        }
+    }
+
     pub fn add(&mut self, other: Tally) {
         for (what, count) in other.counts {
             *self.counts.entry(what).or_default() += count;
         }
         self.longest_shown = self.longest_shown.max(other.longest_shown);
+        for (count, more) in self.words.iter_mut().zip(other.words) {
+            *count += more;
+        }
     }
 
     /// What was never met.
@@ -54,8 +78,11 @@ impl Tally {
         let read = refused_files.map(|number| format!("read: refused {number}"));
         let check = (1..=10).map(|number| format!("check: refused {number}"));
         let member = refused_files.into_iter().chain(11..=13).map(|number| format!("member: refused {number}"));
-        let demanded = DEMANDED.map(str::to_string).into_iter().chain(verdicts).chain(read).chain(check).chain(member);
-        demanded.filter(|what| !self.counts.contains_key(what)).collect()
+        let fixed = DEMANDED.into_iter().chain(LEFT).map(str::to_string);
+        let demanded = fixed.chain(verdicts).chain(read).chain(check).chain(member);
+        let lengths = self.words.iter().zip(0..).filter(|(&count, _)| count == 0);
+        let words = lengths.map(|(_, length)| format!("a word of length {length}"));
+        demanded.filter(|what| !self.counts.contains_key(what)).chain(words).collect()
     }
 
     pub fn report(&self) -> String {
@@ -67,6 +94,8 @@ impl Tally {
             });
             report += &format!("  {call}: {}\n", of_call.collect::<Vec<_>>().join(", "));
         }
+        let words = self.words.map(|count| count.to_string()).join(" ");
+        report += &format!("  words read, by length from 0: {words}\n");
         report + &format!("  longest contents shown: {} messages\n", self.longest_shown)
     }
 }
