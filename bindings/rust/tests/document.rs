@@ -193,6 +193,9 @@ fn samples() {
         ("producer-consumer-bad", "bad 0 1: 4"),
         ("takeover-two-feeds", "bad 0 4: 0 1 3 2"),
         ("takeover-sequenced", "closed 173"),
+        ("sliding-window", "closed 1080"),
+        ("logon-burst", "closed 97"),
+        ("logon-burst-leaves", "leaves 3 1 11: 0 1 2 3 4 5 6 7 8 9 10"),
     ];
     for (name, line) in lines {
         assert_eq!(check(&sample(&format!("{name}.session"))).to_string(), line, "{name}");

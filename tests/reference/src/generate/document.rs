@@ -58,5 +58,11 @@ pub fn samples() -> Vec<Worked> {
         worked("half-duplex", include_str!("../../samples/half-duplex.hex"), "closed 48"),
         worked("takeover-two-feeds", include_str!("../../samples/takeover-two-feeds.hex"), "bad 0 4: 0 1 3 2"),
         worked("takeover-sequenced", include_str!("../../samples/takeover-sequenced.hex"), "closed 173"),
+        worked("logon-burst", include_str!("../../samples/logon-burst.hex"), "closed 97"),
+        worked(
+            "logon-burst-leaves",
+            include_str!("../../samples/logon-burst-leaves.hex"),
+            "leaves 3 1 11: 0 1 2 3 4 5 6 7 8 9 10",
+        ),
     ]
 }
