@@ -34,20 +34,27 @@ fn message_at(rows: &[u8], i: usize) -> Message
     Message(rows[i])
 }
 
-// Where so many messages more lead, those of the word at this entry of the table of transitions.
+// Where so many messages more lead, those of the word at this entry of the table of transitions. The first that has nowhere to go
+// ends it.
 pub fn follow(arcs: &[u8], rows: &[u8], at: usize, n: usize, from: Reached) -> Reached
     requires { ⌜ ArcsSmall (now arcs) ⌝ }
     requires { ⌜ WordWithin (now rows) at n ⌝ }
     requires { ⌜ from .0 ≤ mostPool ⌝ }
     ensures { λ r. ⌜ Follows (now (arcs .entry)) (now (rows .entry)) at n (from .0) (r .0) ⌝ }
 {
-    let mut s = from;
+    if from.is_nowhere() {
+        return from;
+    }
+    let mut s = from.state();
     let mut i: usize = 0;
     while i < n {
-        s = along(arcs, s, message_at(rows, at + i));
+        let Arc::Target(next) = arc_at(arcs, s, message_at(rows, at + i)) else {
+            return Reached::nowhere();
+        };
+        s = next;
         i += 1;
     }
-    s
+    Reached::at(s)
 }
 
 // The pair that a letter leads to. For a bad entry it is dropped where the target is nowhere; for a step that is the pair that

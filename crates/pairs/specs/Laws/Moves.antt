@@ -12,18 +12,19 @@ use borrow.Author.Tests.{lt-ltb}
 use Rattle.tables.specs.Pool.{arcAt}
 use Rattle.numbers.specs.Laws.Parts.{one-more}
 use Rattle.tables.specs.Limits.{mostPool, mostMessages}
-use Rattle.tables.specs.Lookup.{alongArc, AlongTo}
+use Rattle.tables.specs.Lookup.{alongArc, ArcsSmall, AlongTo}
 use Rattle.meaning.specs.Tables.{arcOf}
 use Rattle.model.specs.Diagram.{along, follow}
 use Rattle.model.specs.Verdict.{Pair, after}
 use Rattle.model.specs.Judge.{pair}
+use Rattle.model.specs.Laws.Walks.{follow-none}
 use Rattle.pairs.specs.declared.pairs.Node.{Node}
 use Rattle.pairs.specs.declared.pairs.Walk.{Walk}
 use Rattle.pairs.specs.declared.moves.Next.{Next}
 use Rattle.pairs.specs.declared.moves.Next.the-variants as Answer
 use Rattle.tables.specs.Kinds.{reachedOf}
 use Rattle.pairs.specs.Pairs.{nowhere, afterSide, sideOf, pairOf, Coded}
-use Rattle.tables.specs.Laws.Lookup.{reached-nowhere, reached-state, reached-small}
+use Rattle.tables.specs.Laws.Lookup.{reached-nowhere, reached-state, reached-small, along-missing, along-arc}
 use Rattle.pairs.specs.Over.{poolOver, wordOver, readOver, jumpOver, WordWithin, MessageRead, Follows}
 use Rattle.pairs.specs.Leads.{LeadsTo}
 
@@ -38,6 +39,17 @@ along-is arcs (some s) {m} h = arc-is arcs s m h
 pub reads-along : {arcs : List ℕ} {t m k r : ℕ} → m ≡ k → k < mostMessages → AlongTo arcs t m r → MessageRead arcs t k r
 reads-along {arcs} {t} e h a =
     record { is = a .is ∙ ap (alongArc arcs (reachedOf t)) e ∙ sym (along-is arcs (reachedOf t) h); most = a .most }
+
+-- of a state, with an arc and without
+some-state : {s : ℕ} → s < mostPool → s ≡ mostPool → ⊥
+some-state h e = omega arith
+
+module _ {arcs : List ℕ} {s m k : ℕ} (e : m ≡ k) (h : k < mostMessages) (state : s < mostPool) where
+  pub reads-missing : arcAt arcs s m ≡ none → MessageRead arcs s k mostPool
+  reads-missing z = reads-along e h (along-missing (some-state state) refl z refl)
+
+  pub reads-arc : {t : ℕ} → ArcsSmall arcs → arcAt arcs s m ≡ some t → MessageRead arcs s k t
+  reads-arc small z = reads-along e h (along-arc (some-state state) refl small z refl)
 
 -- A WORD
 word-none : (rows : List ℕ) (at i n : ℕ) → n ≤ i → wordOver rows (at + i) (n - i) ≡ []
@@ -71,6 +83,26 @@ follow-next {arcs} {rows} {at} {n} {t} {i} {s} f h g z =
 pub follow-end : {arcs rows : List ℕ} {at n t i s : ℕ} → Following arcs rows at n t i s → n ≤ i → Follows arcs rows at n t s
 follow-end {arcs} {rows} {at} {n} {t} {i} {s} f h =
     record { is = sym (ap (follow (poolOver arcs) (reachedOf s)) (word-none rows at i n h)) ∙ f .is; most = f .most }
+
+-- from nowhere the rest of the word leads nowhere
+pub follow-lost : {arcs rows : List ℕ} {at n t i s r : ℕ} → Following arcs rows at n t i s → s ≡ mostPool → r ≡ mostPool → Follows arcs rows at n t r
+follow-lost {arcs} {rows} {at} {n} {t} {i} {s} f e h =
+    record {
+      is =
+          reached-nowhere h
+          ∙ sym (follow-none (poolOver arcs) (wordOver rows (at + i) (n - i)))
+          ∙ sym (ap (λ o. follow (poolOver arcs) o (wordOver rows (at + i) (n - i))) (reached-nowhere e))
+          ∙ f .is;
+      most = omega arith;
+    }
+
+-- the same of equal places
+pub follows-as : {arcs rows : List ℕ} {at n t t′ s r : ℕ} → Follows arcs rows at n t s → t ≡ t′ → r ≡ s → Follows arcs rows at n t′ r
+follows-as {arcs} {rows} {at} {n} f e h =
+    record {
+      is = ap reachedOf h ∙ f .is ∙ ap (λ k. follow (poolOver arcs) (reachedOf k) (wordOver rows at n)) e;
+      most = omega (arith, f .most);
+    }
 
 -- A PAIR
 pub pair-dropped : {entry : Bool} (y : Node) → entry ≡ true → y .target .0 ≡ nowhere
