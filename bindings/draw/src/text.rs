@@ -8,6 +8,9 @@ const MESSAGES_SHOWN: usize = 16;
 /// More messages of a word than this stand on further lines beside an arrow.
 const MESSAGES_ON_A_LINE: usize = 8;
 
+/// More runs of numbers than this are not written out. A word of sixteen in turn from two arcs has eight on each.
+const RUNS_SHOWN: usize = 8;
+
 fn listed(messages: &[u8]) -> String {
     messages.iter().map(u8::to_string).collect::<Vec<_>>().join(" ")
 }
@@ -66,7 +69,7 @@ pub fn ranges(numbers: &[usize]) -> String {
     });
     let runs: Vec<String> = runs.collect();
     match runs.len() {
-        0..=6 => runs.join(", "),
+        0..=RUNS_SHOWN => runs.join(", "),
         count => format!("{}, .. {}", runs[..4].join(", "), runs[count - 1]),
     }
 }

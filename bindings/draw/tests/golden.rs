@@ -17,6 +17,10 @@ const W: &str = "01 02 00 01 20 04 \
                  00 01 00 02 00 08 00 01 02 03 04 05 06 07 \
                  01 01 00 01 00 00";
 
+/// A word of 16 is received that takes two arcs in turn: `leaves 0 0 16: 0 1 0 1 ..`.
+const T: &str = "01 02 00 01 02 01 00 00 01 02 00 10 00 01 00 01 00 01 00 01 00 01 00 01 00 01 00 01 \
+                 02 01 01 00 01 00 01 01 00 01 00 00";
+
 fn drawn(file: &str, control: Option<usize>) -> Vec<Picture> {
     let bytes: Vec<u8> =
         file.split_whitespace().map(|byte| u8::from_str_radix(byte, 16).expect("two hexadecimal digits")).collect();
@@ -61,4 +65,11 @@ fn words_of_sixteen() {
     let machines = include_str!("golden/w-machines.dot");
     let leaves = include_str!("golden/w-leaves-0-0.dot");
     assert_drawn(W, None, &[("machines", machines), ("leaves-0-0", leaves)]);
+}
+
+#[test]
+fn a_word_of_sixteen_on_two_arcs() {
+    let machines = include_str!("golden/t-machines.dot");
+    let leaves = include_str!("golden/t-leaves-0-0.dot");
+    assert_drawn(T, None, &[("machines", machines), ("leaves-0-0", leaves)]);
 }
