@@ -86,7 +86,7 @@ fn the_places_of_a_file_that_is_read() {
 }
 
 /// Bytes of docs/FORMAT.md, "Refusals", and the last lines that explain them.
-const TOLD: [(&str, &[&str]); 12] = [
+const TOLD: [(&str, &[&str]); 13] = [
     (
         "02 01 01 00 00 01 01 02 00 00 00 01",
         &[
@@ -132,6 +132,15 @@ const TOLD: [(&str, &[&str]); 12] = [
             "field 1, byte 3: the starting state of machine 0",
             "there stands 01 (hex), the number 1",
             "allowed there: 0",
+        ],
+    ),
+    (
+        "01 01 00 01 01 01 00 00 00 01 00 11",
+        &[
+            "a number is outside its field's range",
+            "field 3, byte 11: the length of the word of transition 0",
+            "there stands 11 (hex), the number 17",
+            "allowed there: 0 to 16",
         ],
     ),
     (
@@ -189,19 +198,4 @@ fn lines_of_the_page() {
         let lines = Refused::new(&file, refusal).lines();
         assert_eq!(lines[lines.len() - told.len()..], *told, "{bytes}");
     }
-}
-
-#[test]
-fn a_word_of_seventeen() {
-    let file = [1, 2, 0, 2, 1, 16, 1, 0, 0, 1, 1, 1, 17, 1, 2, 3];
-    let refusal = swarmbanner::read(&file).expect_err("it is refused");
-    assert_eq!(
-        Refused::new(&file, refusal).lines(),
-        [
-            "a number is outside its field's range",
-            "field 3, byte 12: the length of the word of transition 0",
-            "there stands 11 (hex), the number 17",
-            "allowed there: 0 to 16",
-        ]
-    );
 }
