@@ -4,13 +4,8 @@ use crate::queues::read_queues;
 use crate::transitions::read_transitions;
 use numbers::number::Filled;
 use numbers::refusal::Refusal;
-use tables::tables::MOST_MACHINES;
-use tables::tables::MOST_QUEUES;
-use tables::tables::Machines;
+use tables::empty::empty_model;
 use tables::tables::ModelTables;
-use tables::tables::Queues;
-use tables::tables::ROWS;
-use tables::tables::Transitions;
 ghost use mathlib.Core.Path.{_≡_};
 ghost use Rattle.numbers.specs.Part.{refused};
 ghost use Rattle.numbers.specs.Said.{numberOf, placeOf, filledWith};
@@ -25,25 +20,10 @@ pub struct ModelRead {
 fn refused(why: Refusal) -> ModelRead
     ensures { λ r. ⌜ filledWith (r .filled) (r .model) ≡ refused (numberOf why) (placeOf why) ⌝ }
 {
+    let model = empty_model();
     ModelRead {
         filled: Filled::Refused(why),
-        model: ModelTables {
-            machines: Machines {
-                count: 0,
-                product: 0,
-                states: [0u8; MOST_MACHINES as usize],
-                starts: [0u8; MOST_MACHINES as usize],
-            },
-            queues: Queues {
-                count: 0,
-                sum: 0,
-                messages: [0u8; MOST_QUEUES as usize],
-            },
-            transitions: Transitions {
-                count: 0,
-                rows: [0u8; ROWS],
-            },
-        },
+        model,
     }
 }
 

@@ -5,11 +5,12 @@ use mathlib.Core.List.{List}
 use lib.ListN.{length, replicate}
 use lib.Dec.{leb}
 use Rattle.numbers.specs.Limits.{mostBytes}
-use Rattle.tables.specs.Limits.{mostMachines, mostControls, mostQueues, mostMessages, mostTransitions, mostPool, mostBad}
+use Rattle.tables.specs.Limits.{mostControls, mostPool, mostBad}
 use Rattle.numbers.specs.Part.{Part, got, refused, provided, andThen}
 use Rattle.session.specs.Said.{ReadReply, saidAnswer, read, refusal}
 use Rattle.reading_model.specs.Model.{readModel}
 use Rattle.tables.specs.Pool.{poolArcs}
+use Rattle.tables.specs.Empty.{emptyModel}
 use Rattle.reading_pool.specs.Pool.{readPool}
 use Rattle.reading_pool.specs.Lowest.{inQueueOrder}
 use Rattle.session.specs.Sets.{readSets}
@@ -18,7 +19,6 @@ use Rattle.tables.specs.declared.tables.Pool.{Pool}
 use Rattle.tables.specs.declared.tables.SetTables.{SetTables}
 use Rattle.tables.specs.declared.tables.Tables.{Tables}
 use Rattle.session.specs.declared.reading.Reading.{Reading}
-use Rattle.tables.specs.Rows.{rowLength}
 
 -- the tables of a model, a pool and sets over it
 abbrev pub joined : ModelTables → Pool → SetTables → Tables
@@ -45,20 +45,9 @@ readFile s =
 -- the tables of no file: all entries 0
 abbrev pub empty : Tables
 empty =
-    record {
-      machines =
-          record { count = 0; product = 0; states = replicate mostMachines 0; starts = replicate mostMachines 0 };
-      queues = record { count = 0; sum = 0; messages = replicate mostQueues 0 };
-      transitions = record { count = 0; rows = replicate (mostTransitions * rowLength) 0 };
-      pool =
-          record {
-            count = 0;
-            finals = replicate mostPool 0;
-            arcs = replicate poolArcs 0;
-          };
-      map = record { roots = replicate mostControls 0 };
-      bad = record { count = 0; rows = replicate (mostBad * 2) 0 };
-    }
+    joined emptyModel
+    (record { count = 0; finals = replicate mostPool 0; arcs = replicate poolArcs 0 })
+    (record { map = record { roots = replicate mostControls 0 }; bad = record { count = 0; rows = replicate (mostBad * 2) 0 } })
 
 abbrev pub readReplyOf : Part Tables → ReadReply
 readReplyOf (got T next) = read

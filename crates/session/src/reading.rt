@@ -7,22 +7,17 @@ use numbers::refusal::Refusal;
 use reading_model::model::read_model;
 use reading_pool::order::in_queue_order;
 use reading_pool::pool::read_pool;
+use tables::empty::empty_model;
 use tables::kinds::DiagramState;
 use tables::tables::BadList;
 use tables::tables::ENTRIES;
 use tables::tables::MOST_CONTROLS;
-use tables::tables::MOST_MACHINES;
-use tables::tables::MOST_QUEUES;
-use tables::tables::Machines;
 use tables::tables::Map;
 use tables::tables::ModelTables;
 use tables::tables::POOL_ARCS;
 use tables::tables::Pool;
-use tables::tables::Queues;
-use tables::tables::ROWS;
 use tables::tables::SetTables;
 use tables::tables::Tables;
-use tables::tables::Transitions;
 ghost use mathlib.Core.Path.{_≡_};
 ghost use Rattle.numbers.specs.Part.{refused};
 ghost use Rattle.numbers.specs.Said.{numberOf, placeOf};
@@ -65,24 +60,16 @@ fn joined(model: ModelTables, pool: Pool, sets: SetTables) -> Reading
 fn refused(why: Refusal) -> Reading
     ensures { λ r. ⌜ Reads (refused (numberOf why) (placeOf why)) r ⌝ }
 {
+    let model = empty_model();
+    let machines = model.machines;
+    let queues = model.queues;
+    let transitions = model.transitions;
     Reading {
         answer: Answer::Refused(why),
         tables: Tables {
-            machines: Machines {
-                count: 0,
-                product: 0,
-                states: [0u8; MOST_MACHINES as usize],
-                starts: [0u8; MOST_MACHINES as usize],
-            },
-            queues: Queues {
-                count: 0,
-                sum: 0,
-                messages: [0u8; MOST_QUEUES as usize],
-            },
-            transitions: Transitions {
-                count: 0,
-                rows: [0u8; ROWS],
-            },
+            machines,
+            queues,
+            transitions,
             pool: Pool {
                 count: 0,
                 finals: [0u8; DiagramState::LIMIT],

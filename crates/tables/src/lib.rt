@@ -1,4 +1,5 @@
 // The tables of a session: the kinds of number, the limits, the layout of each table, lookup of roots, arcs and final marks.
+pub mod empty;
 pub mod kinds;
 pub mod lookup;
 pub mod spans;
