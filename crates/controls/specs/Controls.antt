@@ -49,8 +49,8 @@ pub record Partable (states : List ℕ) (count c machine : ℕ) : Type 0 where
   pub within : machine < count
 
 -- WHAT IS ASKED to number the states of so many machines
-pub record Numberable (states starts : List ℕ) (count : ℕ) : Type 0 where
+pub record Numberable (states places : List ℕ) (count : ℕ) : Type 0 where
   pub stepped : Stepped states count
   pub statesLong : count ≤ length states
-  pub startsLong : count ≤ length starts
-  pub small : number (take count states) (take count starts) ≤ mostControls
+  pub placesLong : count ≤ length places
+  pub small : number (take count states) (take count places) ≤ mostControls

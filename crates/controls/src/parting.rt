@@ -18,7 +18,7 @@ pub struct Parted {
 }
 
 // The product of the states of the machines from number i on.
-pub(crate) fn product_from(states: [u8; 4], count: usize, i: usize) -> usize
+fn product_from(states: [u8; 4], count: usize, i: usize) -> usize
     requires { ⌜ Stepped states count ⌝ }
     requires { ⌜ i ≤ count ⌝ }
     ensures { λ r. ⌜ r ≡ product (drop i (take count states)) ⌝ }

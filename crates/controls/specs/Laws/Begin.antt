@@ -1,56 +1,81 @@
--- The starting control state machine by machine.
+-- The number of the machines' states, machine by machine from the first: each takes what was numbered so far times its states.
 use Prim.Native.Nat.{ℕ, _+_, _*_, _≤_, _<_}
-use mathlib.Core.Path.{_≡_, sym, ap, ap₂, _∙_}
+use mathlib.Core.Path.{_≡_, refl, sym, ap, ap₂, _∙_}
 use mathlib.Core.List.{List, _∷_}
 use native.Mathlib.Omega.{arith}
 use native.Mathlib.Numerals.{add-one}
-use native.Mathlib.Nat.{add-assoc}
+use native.Mathlib.Nat.{add-assoc, add-mul, mul-assoc, mul-le-mul, mul-one, le-refl}
 use lib.ListN.{length, getD, take, drop, drop-of-length-le, length-take}
 use lib.Seq.{drop-cons, getD-take}
 use Rattle.tables.specs.Limits.{mostControls}
 use Rattle.tables.specs.Valid.{MachinesValid}
 use Rattle.tables.specs.declared.tables.Machines.{Machines}
 use Rattle.model.specs.Model.{product, number}
+use Rattle.model.specs.Session.{States}
 use Rattle.model.specs.Laws.Controls.{number-below}
 use Rattle.meaning.specs.Laws.Counts.{states-are}
 use Rattle.controls.specs.Controls.{sizesOf, startsOf, Numberable, Stepped}
 use Rattle.controls.specs.Laws.Parting.{sizes-stepped, sizes-product}
 
-pub number-step : (states starts : List ℕ) (count i sum p P : ℕ) → Numberable states starts count → i < count
-    → p ≡ getD starts i 0 → P ≡ product (drop (i + 1) (take count states))
-    → sum + number (drop i (take count states)) (drop i (take count starts))
-    ≡ sum + p * P + number (drop (i + 1) (take count states)) (drop (i + 1) (take count starts))
-number-step states starts count i sum p P a h e f =
-    ap₂ (λ ks ps. sum + number ks ps) cut-states cut-starts
-    ∙ ap₂ (λ x y. sum + (x * y + number (drop (i + 1) (take count states)) (drop (i + 1) (take count starts))))
-    (getD-take count starts i 0 h ∙ sym e) (sym f)
-    ∙ sym (add-assoc sum (p * P) _)
+-- the machines before number i are numbered by sum: what all of them give
+abbrev pub withRest : List ℕ → List ℕ → ℕ → ℕ → ℕ → ℕ
+withRest states places count i sum =
+    sum * product (drop i (take count states)) + number (drop i (take count states)) (drop i (take count places))
+
+gathered : (sum k p P N : ℕ) → sum * (k * P) + (p * P + N) ≡ (sum * k + p) * P + N
+gathered sum k p P N =
+    ap (λ (x : ℕ). x + (p * P + N)) (sym (mul-assoc sum k P))
+    ∙ sym (add-assoc (sum * k * P) (p * P) N)
+    ∙ ap (λ (x : ℕ). x + N) (sym (add-mul (sum * k) p P))
+
+-- one machine more
+pub number-step : (states places : List ℕ) (count i sum k p : ℕ) → Numberable states places count → i < count
+    → k ≡ getD states i 0 → p ≡ getD places i 0
+    → withRest states places count i sum ≡ withRest states places count (i + 1) (sum * k + p)
+number-step states places count i sum k p a h e f =
+    ap₂ (λ ks ps. sum * product ks + number ks ps) cut-states cut-places
+    ∙ gathered sum k p (product (drop (i + 1) (take count states))) _
   where
-    cut-states : drop i (take count states) ≡ getD (take count states) i 0 ∷ drop (i + 1) (take count states)
+    cut-states : drop i (take count states) ≡ k ∷ drop (i + 1) (take count states)
     cut-states =
         drop-cons (take count states) i 0 (omega (arith, length-take count states, a .statesLong))
-        ∙ ap (λ n. getD (take count states) i 0 ∷ drop n (take count states)) (sym (add-one i))
+        ∙ ap₂ (λ x n. x ∷ drop n (take count states)) (getD-take count states i 0 h ∙ sym e) (sym (add-one i))
 
-    cut-starts : drop i (take count starts) ≡ getD (take count starts) i 0 ∷ drop (i + 1) (take count starts)
-    cut-starts =
-        drop-cons (take count starts) i 0 (omega (arith, length-take count starts, a .startsLong))
-        ∙ ap (λ n. getD (take count starts) i 0 ∷ drop n (take count starts)) (sym (add-one i))
+    cut-places : drop i (take count places) ≡ p ∷ drop (i + 1) (take count places)
+    cut-places =
+        drop-cons (take count places) i 0 (omega (arith, length-take count places, a .placesLong))
+        ∙ ap₂ (λ x n. x ∷ drop n (take count places)) (getD-take count places i 0 h ∙ sym f) (sym (add-one i))
 
-pub number-end : (states starts : List ℕ) (count i : ℕ) → Numberable states starts count → count ≤ i
-    → number (drop i (take count states)) (drop i (take count starts)) ≡ 0
-number-end states starts count i a h =
-    ap (λ ks. number ks (drop i (take count starts))) (drop-of-length-le (take count states) {i = i} (omega (arith, length-take count states, a .statesLong)))
+-- and it stays small
+pub number-small : (states places : List ℕ) (count i sum : ℕ) → Numberable states places count
+    → withRest states places count i sum ≡ number (take count states) (take count places) → sum ≤ mostControls
+number-small states places count i sum a e =
+    let g : sum * 1 ≤ sum * product (drop i (take count states)) = mul-le-mul (le-refl sum) (a .stepped .small i .0) in
+    omega (arith, g, e, a .small, mul-one sum)
 
--- machines that were read can be numbered, and start in one of their control states
-pub start-below : (m : Machines) → MachinesValid m → number (sizesOf m) (startsOf m) < m .product
-start-below m v =
-    omega (arith, number-below (sizesOf m) (startsOf m) (states-are (m .count) (m .states) (m .starts) (omega (arith, v .statesLong, v .most)) (omega (arith, v .startsLong, v .most)) (v .starts)), sizes-product m v)
+pub number-end : (states places : List ℕ) (count i sum : ℕ) → Numberable states places count → count ≤ i
+    → withRest states places count i sum ≡ sum
+number-end states places count i sum a h =
+    ap (λ ks. sum * product ks + number ks (drop i (take count places)))
+    (drop-of-length-le (take count states) {i = i} (omega (arith, length-take count states, a .statesLong)))
+    ∙ omega (arith, mul-one sum)
 
-pub read-numberable : (m : Machines) → MachinesValid m → Numberable (m .states) (m .starts) (m .count)
-read-numberable m v =
-    record {
-      stepped = sizes-stepped m v;
-      statesLong = omega (arith, v .statesLong, v .most);
-      startsLong = omega (arith, v .startsLong, v .most);
-      small = omega (arith, start-below m v, v .productMost);
-    }
+-- states of machines that were read can be numbered, and are those of a control state
+module _ (m : Machines) (v : MachinesValid m) where
+  pub read-numberable : (places : List ℕ) → m .count ≤ length places → States (sizesOf m) (take (m .count) places)
+      → Numberable (m .states) places (m .count)
+  read-numberable places long s =
+      record {
+        stepped = sizes-stepped m v;
+        statesLong = omega (arith, v .statesLong, v .most);
+        placesLong = long;
+        small = omega (arith, number-below (sizesOf m) (take (m .count) places) s, sizes-product m v, v .productMost);
+      }
+
+  pub number-is-control : (places : List ℕ) → States (sizesOf m) (take (m .count) places) → number (sizesOf m) (take (m .count) places) < m .product
+  number-is-control places s = omega (arith, number-below (sizesOf m) (take (m .count) places) s, sizes-product m v)
+
+  -- the starting states among them
+  pub starts-are-states : States (sizesOf m) (startsOf m)
+  starts-are-states =
+      states-are (m .count) (m .states) (m .starts) (omega (arith, v .statesLong, v .most)) (omega (arith, v .startsLong, v .most)) (v .starts)
