@@ -1,17 +1,11 @@
 -- The tables of a file one after the other, each over its whole length.
 use Prim.Native.Nat.{ℕ, _+_, _*_}
 use mathlib.Core.List.{List, [], _∷_, _++_}
-use lib.ListN.{length}
+use Rattle.numbers.specs.Put.{four}
 use Rattle.tables.specs.Limits.{mostMachines, mostControls, mostQueues, mostPool, mostBad}
 use Rattle.tables.specs.Rows.{rowsLength}
 use Rattle.tables.specs.Pool.{poolArcs}
 use Rattle.tables.specs.declared.tables.Tables.{Tables}
-
-abbrev pub four : List ℕ → List ℕ → List ℕ → List ℕ → List ℕ
-four a b c d = ((a ++ b) ++ c) ++ d
-
-abbrev pub fourLong : List ℕ → List ℕ → List ℕ → List ℕ → ℕ
-fourLong a b c d = length a + length b + length c + length d
 
 -- machines, queues, messages in all, transitions, pool states, bad entries
 abbrev pub countsOf : Tables → List ℕ

@@ -29,17 +29,11 @@ use Rattle.line.specs.declared.verdict.Verdict.the-variants.{Closed, Outside, L
 use Rattle.answer.specs.Printed.{printedOf}
 use Rattle.answer.specs.Laws.{counted-by}
 use Rattle.capi.specs.Told.{NO-ROOM, toldOf, toldReply, toldAnswer, toldMember, toldLine, replyAfter, Tells}
-use Rattle.capi.specs.Flat.{four, fourLong, countsOf, small, large, flat, smallLong, largeLong, tablesLeast}
+use Rattle.capi.specs.Flat.{countsOf, small, large, flat, smallLong, largeLong, tablesLeast}
 use Rattle.capi.specs.Calls.{replyFits, kindIf, keepUnless, spaceAfter, ReadCall, MemberCall, CheckCall}
 use Rattle.capi.specs.declared.told.Told.{Told}
 
 -- TABLES ONE AFTER THE OTHER
-pub put-four : {s₀ s₁ s₂ s₃ s₄ a b c d : List ℕ} {at p q r z : ℕ} → Put s₀ at (length a) a s₁ p → Put s₁ p (length b) b s₂ q
-    → Put s₂ q (length c) c s₃ r → Put s₃ r (length d) d s₄ z → Put s₀ at (fourLong a b c d) (four a b c d) s₄ z
-put-four {a = a} {b} {c} {d} w x y z =
-    put-then {m = length a + length b + length c} {k = length d}
-    (put-then {m = length a + length b} {k = length c} (put-then {m = length a} {k = length b} w x (omega arith)) y (omega arith)) z (omega arith)
-
 module _ (T : Tables) (v : Valid T) where
   pub put-flat : {s₀ s₁ s₂ s₃ : List ℕ} {p q r : ℕ} → Put s₀ 0 smallLong (small T) s₁ p → Put s₁ p largeLong (large T) s₂ q
       → Put s₂ q (length (T .bad .rows)) (T .bad .rows) s₃ r → Put s₀ 0 tablesLeast (flat T) s₃ r

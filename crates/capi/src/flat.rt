@@ -1,4 +1,5 @@
 // The tables of a file that was read, one after the other in lent bytes.
+use numbers::put::put_four;
 use numbers::put::put_word;
 use tables::kinds::DiagramState;
 use tables::tables::ENTRIES;
@@ -11,7 +12,7 @@ use tables::tables::Tables;
 ghost use Prim.Native.Nat.{_+_, _≤_};
 ghost use lib.ListN.{length};
 ghost use Rattle.numbers.specs.Put.{Put};
-ghost use Rattle.capi.specs.Flat.{four, fourLong, smallLong, largeLong, tablesLeast, small, large, flat};
+ghost use Rattle.capi.specs.Flat.{smallLong, largeLong, tablesLeast, small, large, flat};
 ghost use Rattle.tables.specs.Valid.{Valid};
 
 // Bytes of the counts with the tables of machines and queues, of the large tables, and of all.
@@ -25,17 +26,6 @@ pub const TABLES_LEAST: usize = SMALL + LARGE + ENTRIES;
 
 // The number of this layout.
 pub const LAYOUT: usize = 2;
-
-// Four tables, from a place on.
-fn put_four(space: &mut [u8], at: usize, a: &[u8], b: &[u8], c: &[u8], d: &[u8]) -> usize
-    requires { ⌜ at + fourLong (now a) (now b) (now c) (now d) ≤ length (now space) ⌝ }
-    ensures { λ r. ⌜ Put (now (space .entry)) at (fourLong (now (a .entry)) (now (b .entry)) (now (c .entry)) (now (d .entry))) (four (now (a .entry)) (now (b .entry)) (now (c .entry)) (now (d .entry))) (now (space .exit)) r ⌝ }
-{
-    let second = put_word(space, at, a);
-    let third = put_word(space, second, b);
-    let fourth = put_word(space, third, c);
-    put_word(space, fourth, d)
-}
 
 // The counts, and the tables of four entries.
 fn put_small(space: &mut [u8], t: Tables) -> usize

@@ -6,7 +6,7 @@ use lib.ListN.{length, getD, drop, set, length-append, length-set, drop-of-lengt
 use lib.Seq.{sets, length-sets, sets-eq, drop-cons}
 use native.Mathlib.Omega.{arith}
 use native.Mathlib.Nat.{add-zero, zero-add}
-use Rattle.numbers.specs.Put.{Put}
+use Rattle.numbers.specs.Put.{Put, four, fourLong}
 use Rattle.numbers.specs.Laws.Lists.{sets-append}
 
 -- UNDERWAY: to put the rest from place p on is to put the text from place at on
@@ -75,3 +75,10 @@ module _ {entry text now : List ℕ} {at i : ℕ} where
 
 pub left-zero : (s : List ℕ) (at : ℕ) (text : List ℕ) → Left s at text s (at + 0) text
 left-zero s at text = record { buffer = ap (λ (k : ℕ). sets s k text) (add-zero at); place = omega arith; long = refl }
+
+-- four of them
+pub put-four : {s₀ s₁ s₂ s₃ s₄ a b c d : List ℕ} {at p q r z : ℕ} → Put s₀ at (length a) a s₁ p → Put s₁ p (length b) b s₂ q
+    → Put s₂ q (length c) c s₃ r → Put s₃ r (length d) d s₄ z → Put s₀ at (fourLong a b c d) (four a b c d) s₄ z
+put-four {a = a} {b} {c} {d} w x y z =
+    put-then {m = length a + length b + length c} {k = length d}
+    (put-then {m = length a + length b} {k = length c} (put-then {m = length a} {k = length b} w x (omega arith)) y (omega arith)) z (omega arith)
