@@ -1,5 +1,4 @@
 -- The laws of membership, each proved once from the definition.
-pub mod Tables
 pub mod Queues
 pub mod Judging
 pub mod Asking

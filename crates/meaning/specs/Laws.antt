@@ -3,6 +3,7 @@ pub mod Counts
 pub mod Rows
 pub mod Order
 pub mod Sessions
+pub mod Lookup
 pub mod Claims
 pub mod Checking
 pub mod Shown

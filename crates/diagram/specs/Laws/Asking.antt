@@ -17,7 +17,7 @@ use Rattle.model.specs.Model.{controls}
 use Rattle.meaning.specs.Tables.{poolOf, sessionOf}
 use Rattle.tables.specs.Lookup.{rootOf}
 use Rattle.diagram.specs.Member.{refusal, judge, ask, memberOf}
-use Rattle.diagram.specs.Laws.Tables.{controls-are}
+use Rattle.meaning.specs.Laws.Lookup.{controls-are}
 
 module _ {T : Tables} (v : Valid T) (c : ℕ) (contents : List ℕ) where
   pub ask-unknown : T .machines .product ≤ c → ask (sessionOf T) c contents ≡ refusal 11 0

@@ -18,7 +18,7 @@ use Rattle.meaning.specs.Tables.{poolOf}
 use Rattle.tables.specs.Lookup.{alongArc, finalAt}
 use Rattle.diagram.specs.Member.{MemberReply, refusal, answer, judge}
 use Rattle.meaning.specs.Laws.Order.{messages-are}
-use Rattle.diagram.specs.Laws.Tables.{along-is, final-is}
+use Rattle.meaning.specs.Laws.Lookup.{along-is, final-is}
 use Rattle.diagram.specs.Laws.Queues.{drop-all}
 
 -- the queues and the pool of the tables

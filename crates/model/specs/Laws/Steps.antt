@@ -80,7 +80,7 @@ receive-is q w qs qs′ = (
 )
 
 -- CONTENTS STAY CONTENTS
-contents-act : (M : Model) (a : Action) (qs qs′ : List (List ℕ)) → OwnWord M a → Contents M qs → act a qs ≡ some qs′ → Contents M qs′
+pub contents-act : (M : Model) (a : Action) (qs qs′ : List (List ℕ)) → OwnWord M a → Contents M qs → act a qs ≡ some qs′ → Contents M qs′
 contents-act M local qs qs′ w h e = let same : qs ≡ qs′ = cc in subst (Contents M) same h
 contents-act M (send q w) qs qs′ (l, b) h e =
     let A = around q l h in
