@@ -1,0 +1,7 @@
+-- What the proofs of rings rest on, and what a step finds in them.
+pub mod Waiting
+pub mod Each
+pub mod Rings
+pub mod Words
+pub mod Follow
+pub mod Settle

@@ -1,0 +1,92 @@
+-- Where the messages of a word lead, one after the other and queue after queue.
+use Prim.Native.Nat.{ℕ, _≤_, _<_}
+use mathlib.Core.Path.{_≡_, refl, sym, ap, subst, _∙_}
+use mathlib.Core.Option.{Option, none}
+use mathlib.Core.List.{List, [], _∷_, _++_}
+use native.Mathlib.Omega.{arith}
+use Rattle.tables.specs.Limits.{mostPool, mostMessages}
+use Rattle.tables.specs.Kinds.{reachedOf}
+use Rattle.tables.specs.Lookup.{alongArc, AlongTo}
+use Rattle.tables.specs.Laws.Lookup.{reached-nowhere}
+use Rattle.model.specs.Model.{total, Between, message, Own}
+use Rattle.model.specs.Diagram.{word}
+use Rattle.model.specs.Laws.Queues.{between-wide, between-front, between-back, word-between}
+use Rattle.rings.specs.Ring.{followArcs}
+use Rattle.rings.specs.Lent.{FollowsTo}
+
+pub follow-none : (arcs u : List ℕ) → followArcs arcs none u ≡ none
+unfolding followArcs
+follow-none arcs [] = refl
+follow-none arcs (m ∷ u) = follow-none arcs u
+
+pub follow-append : (arcs : List ℕ) (x : Option ℕ) (u v : List ℕ) → followArcs arcs x (u ++ v) ≡ followArcs arcs (followArcs arcs x u) v
+unfolding followArcs
+follow-append arcs x [] v = refl
+follow-append arcs x (m ∷ u) v = follow-append arcs (alongArc arcs x m) u v
+
+-- the messages of queues that have messages of their own
+pub own-small : {ns : List ℕ} {qs : List (List ℕ)} → total ns ≤ mostMessages → Own 0 ns qs → Between 0 mostMessages (word qs)
+own-small {ns} h own = between-wide (omega arith) (omega arith) (word-between own)
+
+-- UNDERWAY from t through u: s is reached, and the messages of v are left
+pub record Following (arcs : List ℕ) (t : ℕ) (u : List ℕ) (s : ℕ) (v : List ℕ) : Type 0 where
+  pub is : followArcs arcs (reachedOf s) v ≡ followArcs arcs (reachedOf t) u
+  pub most : s ≤ mostPool
+  pub small : Between 0 mostMessages v
+
+pub follow-begin : {arcs u v : List ℕ} {t : ℕ} → t ≤ mostPool → Between 0 mostMessages u → u ≡ v → Following arcs t u t v
+follow-begin {arcs} {u} {v} {t} h b e = record { is = ap (followArcs arcs (reachedOf t)) (sym e); most = h; small = subst (Between 0 mostMessages) e b }
+
+-- a state is not nowhere
+pub state-some : {s : ℕ} → s < mostPool → s ≡ mostPool → ⊥
+state-some h e = omega arith
+
+between-first : {lo hi m : ℕ} {u : List ℕ} → Between lo hi (m ∷ u) → m < hi
+between-first (message a b c) = b
+
+module _ {arcs u : List ℕ} {t s : ℕ} {v : List ℕ} (f : Following arcs t u s v) where
+  -- one message
+  pub message-small : {m : ℕ} {rest : List ℕ} → v ≡ m ∷ rest → m < mostMessages
+  message-small e = between-first (subst (Between 0 mostMessages) e (f .small))
+
+  pub follow-message : {m r : ℕ} {rest : List ℕ} → v ≡ m ∷ rest → AlongTo arcs s m r → Following arcs t u r rest
+  unfolding followArcs
+  follow-message {m} {r} {rest} e a =
+      record {
+        is = ap (λ x. followArcs arcs x rest) (a .is) ∙ ap (followArcs arcs (reachedOf s)) (sym e) ∙ f .is;
+        most = a .most;
+        small = between-back (m ∷ []) rest (subst (Between 0 mostMessages) e (f .small));
+      }
+
+  -- the messages of a queue
+  pub queue-small : (w rest : List ℕ) → v ≡ w ++ rest → Between 0 mostMessages w
+  queue-small w rest e = between-front w rest (subst (Between 0 mostMessages) e (f .small))
+
+  pub follow-queue : {r : ℕ} (w rest : List ℕ) → v ≡ w ++ rest → FollowsTo arcs s w r → Following arcs t u r rest
+  follow-queue {r} w rest e a =
+      record {
+        is =
+            ap (λ x. followArcs arcs x rest) (a .is) ∙ sym (follow-append arcs (reachedOf s) w rest)
+            ∙ ap (followArcs arcs (reachedOf s)) (sym e) ∙ f .is;
+        most = a .most;
+        small = between-back w rest (subst (Between 0 mostMessages) e (f .small));
+      }
+
+  pub follow-end : {r : ℕ} → v ≡ [] → r ≡ s → FollowsTo arcs t u r
+  unfolding followArcs
+  follow-end {r} e h =
+      record {
+        is = ap reachedOf h ∙ ap (followArcs arcs (reachedOf s)) (sym e) ∙ f .is;
+        most = omega (arith, f .most);
+      }
+
+  -- from nowhere the rest leads nowhere
+  pub follow-lost : {r : ℕ} → s ≡ mostPool → r ≡ mostPool → FollowsTo arcs t u r
+  follow-lost {r} e h =
+      record {
+        is = reached-nowhere h ∙ sym (follow-none arcs v) ∙ sym (ap (λ x. followArcs arcs x v) (reached-nowhere e)) ∙ f .is;
+        most = omega arith;
+      }
+
+pub follows-as : {arcs u : List ℕ} {t t′ r : ℕ} → t ≡ t′ → FollowsTo arcs t u r → FollowsTo arcs t′ u r
+follows-as {arcs} {u} e l = record { is = l .is ∙ ap (λ k. followArcs arcs (reachedOf k) u) e; most = l .most }

@@ -1,0 +1,116 @@
+-- The loops over a ring and over a word of the table, turn by turn.
+use Prim.Native.Nat.{ℕ, suc, _+_, _-_, _%_, _≤_, _<_}
+use mathlib.Core.Path.{_≡_, refl, sym, ap, ap₂, _∙_}
+use mathlib.Core.Bool.{true, false}
+use mathlib.Core.Option.{Option, none, some}
+use mathlib.Core.List.{List, [], _∷_}
+use native.Mathlib.Omega.{arith}
+use native.Mathlib.Nat.{sub-zero, add-zero, sub-eq-zero-of-le}
+use lib.Dec.{eqb}
+use lib.ListN.{length, getD, set, take, drop, length-set, length-drop}
+use lib.Seq.{drop-cons, length-take-le}
+use borrow.Author.Tests.{eq-eqb, ne-eqb}
+use Rattle.numbers.specs.Laws.Parts.{one-more}
+use Rattle.trace.specs.Rules.{room}
+use Rattle.model.specs.Model.{strip}
+use Rattle.model.specs.Laws.Basics.{byTest}
+use Rattle.rings.specs.Ring.{waiting, putRound, began}
+use Rattle.rings.specs.Laws.Waiting.{waiting-length}
+
+-- WHAT IS LEFT of the messages that wait, of a word of the table
+abbrev pub waitingFrom : List ℕ → ℕ → ℕ → ℕ → ℕ → List ℕ
+waitingFrom mem base head n i = waiting mem base (head + i) (n - i)
+
+abbrev pub wordFrom : List ℕ → ℕ → ℕ → ℕ → List ℕ
+wordFrom rows at n i = take (n - i) (drop (at + i) rows)
+
+module _ (mem : List ℕ) (base head n : ℕ) where
+  pub waiting-begin : waiting mem base head n ≡ waitingFrom mem base head n 0
+  waiting-begin = rw (add-zero, sub-zero)
+
+  pub waiting-next : {i : ℕ} → i < n
+      → waitingFrom mem base head n i ≡ getD mem (base + (head + i) % room) 0 ∷ waitingFrom mem base head n (i + 1)
+  unfolding waiting
+  waiting-next {i} h =
+      ap (waiting mem base (head + i)) (one-more h)
+      ∙ ap (λ k. getD mem (base + (head + i) % room) 0 ∷ waiting mem base k (n - (i + 1))) (let z : head + i + 1 ≡ head + (i + 1) = omega arith in z)
+
+  pub waiting-end : {i : ℕ} → n ≤ i → waitingFrom mem base head n i ≡ []
+  unfolding waiting
+  waiting-end h = rw (sub-eq-zero-of-le h)
+
+module _ (rows : List ℕ) (at n : ℕ) where
+  pub word-begin : take n (drop at rows) ≡ wordFrom rows at n 0
+  word-begin = rw (add-zero, sub-zero)
+
+  pub word-next : {i : ℕ} → i < n → at + n ≤ length rows → wordFrom rows at n i ≡ getD rows (at + i) 0 ∷ wordFrom rows at n (i + 1)
+  word-next {i} h g =
+      ap₂ (λ k l. take k l) (one-more h) (drop-cons rows (at + i) 0 (omega arith))
+      ∙ ap (λ j. getD rows (at + i) 0 ∷ take (n - (i + 1)) (drop j rows)) (let z : suc (at + i) ≡ at + (i + 1) = omega arith in z)
+
+  pub word-end : {i : ℕ} → n ≤ i → wordFrom rows at n i ≡ []
+  word-end h = rw (sub-eq-zero-of-le h)
+
+-- A WORD IS PUT
+pub record Putting (mem₀ : List ℕ) (base from : ℕ) (w mem : List ℕ) (p : ℕ) (rest : List ℕ) : Type 0 where
+  pub is : putRound mem base p rest ≡ putRound mem₀ base from w
+  pub long : length mem ≡ length mem₀
+
+pub put-begin : (mem : List ℕ) (base from : ℕ) {w v : List ℕ} → w ≡ v → Putting mem base from w mem (from + 0) v
+put-begin mem base from e = record { is = ap₂ (putRound mem base) (add-zero from) (sym e); long = refl }
+
+module _ {mem₀ mem w v : List ℕ} {base from p : ℕ} (t : Putting mem₀ base from w mem p v) where
+  pub put-next : {m : ℕ} {rest : List ℕ} {p′ : ℕ} → v ≡ m ∷ rest → p′ ≡ p + 1 → Putting mem₀ base from w (set mem (base + p % room) m) p′ rest
+  unfolding putRound
+  put-next {m} {rest} e next =
+      record {
+        is = ap (λ k. putRound (set mem (base + p % room) m) base k rest) next ∙ ap (putRound mem base p) (sym e) ∙ t .is;
+        long = length-set mem (base + p % room) m ∙ t .long;
+      }
+
+  pub put-end : v ≡ [] → mem ≡ putRound mem₀ base from w
+  unfolding putRound
+  put-end e = ap (putRound mem base p) (sym e) ∙ t .is
+
+-- A WORD IS ASKED FOR: v is left of it, and r of the queue
+pub record Asking (w q v r : List ℕ) : Type 0 where
+  pub is : strip v r ≡ strip w q
+
+pub ask-begin : {w q v r : List ℕ} → w ≡ v → q ≡ r → Asking w q v r
+ask-begin e f = record { is = sym (ap₂ strip e f) }
+
+module _ {w q v r : List ℕ} (t : Asking w q v r) where
+  pub ask-next : {m n : ℕ} {v′ r′ : List ℕ} → v ≡ m ∷ v′ → r ≡ n ∷ r′ → n ≡ m → Asking w q v′ r′
+  ask-next {m} {n} {v′} {r′} e f same =
+      record { is = sym (ap₂ strip e f ∙ rw (eq-eqb m n (sym same), strip)) ∙ t .is }
+
+  pub ask-differs : {m n : ℕ} {v′ r′ : List ℕ} → v ≡ m ∷ v′ → r ≡ n ∷ r′ → (n ≡ m → ⊥) → false ≡ began (strip w q)
+  ask-differs {m} {n} {v′} {r′} e f other =
+      let gone : strip (m ∷ v′) (n ∷ r′) ≡ none = rw (ne-eqb m n (λ s. other (sym s)), strip) in
+      sym (ap began (sym (t .is) ∙ ap₂ strip e f ∙ gone))
+
+  pub ask-end : v ≡ [] → true ≡ began (strip w q)
+  ask-end e = sym (ap began (sym (t .is) ∙ ap (λ l. strip l r) e))
+
+-- a queue shorter than the word does not begin with it
+strip-short : (w q : List ℕ) → length q < length w → strip w q ≡ none
+strip-short [] q h = absurd (omega arith)
+strip-short (m ∷ w) [] h = refl
+strip-short (m ∷ w) (n ∷ q) h = byTest (eqb m n) (λ t. rw (t, strip) (strip-short w q (omega arith))) (λ f. rw (f, strip))
+
+pub ask-short : (mem : List ℕ) (base head count : ℕ) (rows : List ℕ) (at n : ℕ) → at + n ≤ length rows → count < n
+    → false ≡ began (strip (take n (drop at rows)) (waiting mem base head count))
+ask-short mem base head count rows at n within short =
+    let w = take n (drop at rows) in
+    let q = waiting mem base head count in
+    let long : length w ≡ n = length-take-le n (drop at rows) (simp length-drop (omega arith)) in
+    sym (ap began (strip-short w q (omega (arith, waiting-length mem base head count))))
+
+-- a queue begins with a word where what is left of it can be said
+pub began-some : (o : Option (List ℕ)) → true ≡ began o → (r : List ℕ) × (o ≡ some r)
+began-some none e = let z : _≡_ {A = ℕ} 0 1 = cc in absurd (omega arith)
+began-some (some r) e = (r, refl)
+
+pub began-none : (o : Option (List ℕ)) → false ≡ began o → o ≡ none
+began-none none e = refl
+began-none (some r) e = let z : _≡_ {A = ℕ} 0 1 = cc in absurd (omega arith)

@@ -1,0 +1,4 @@
+pub mod Ring
+pub mod Laid
+pub mod Lent
+pub mod Laws

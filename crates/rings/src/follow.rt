@@ -1,0 +1,68 @@
+// Where the messages that wait lead by the table of arcs: those of one ring, and those of all rings, queue 0 first.
+use crate::ROOM;
+use tables::kinds::Message;
+use tables::kinds::Reached;
+use tables::lookup::Arc;
+use tables::lookup::arc_at;
+use tables::tables::MOST_QUEUES;
+ghost use Prim.Native.Nat.{_≤_};
+ghost use Rattle.model.specs.Model.{Between};
+ghost use Rattle.model.specs.Diagram.{word};
+ghost use Rattle.tables.specs.Limits.{mostMessages, mostPool};
+ghost use Rattle.tables.specs.Lookup.{ArcsSmall};
+ghost use Rattle.rings.specs.Ring.{waiting, rings};
+ghost use Rattle.rings.specs.Lent.{Ring, Rings, FollowsTo};
+
+// Where what waits in the ring at base leads. The first message that has nowhere to go ends it.
+pub fn follow_ring(
+    arcs: &[u8],
+    from: Reached,
+    memory: &[u8],
+    base: usize,
+    head: usize,
+    count: usize,
+) -> Reached
+    requires { ⌜ ArcsSmall (now arcs) ⌝ }
+    requires { ⌜ from .0 ≤ mostPool ⌝ }
+    requires { ⌜ Ring (now memory) base head count ⌝ }
+    requires { ⌜ Between 0 mostMessages (waiting (now memory) base head count) ⌝ }
+    ensures { λ r. ⌜ FollowsTo (now (arcs .entry)) (from .0) (waiting (now (memory .entry)) base head count) (r .0) ⌝ }
+{
+    if from.is_nowhere() {
+        return from;
+    }
+    let mut s = from.state();
+    let mut i: usize = 0;
+    while i < count {
+        let Arc::Target(next) = arc_at(arcs, s, Message(memory[base + (head + i) % ROOM])) else {
+            return Reached::nowhere();
+        };
+        s = next;
+        i += 1;
+    }
+    Reached::at(s)
+}
+
+// Where what waits in so many rings leads.
+pub fn follow_rings(
+    arcs: &[u8],
+    from: Reached,
+    memory: &[u8],
+    heads: [usize; MOST_QUEUES as usize],
+    lengths: [usize; MOST_QUEUES as usize],
+    count: usize,
+) -> Reached
+    requires { ⌜ ArcsSmall (now arcs) ⌝ }
+    requires { ⌜ from .0 ≤ mostPool ⌝ }
+    requires { ⌜ Rings (now memory) heads lengths count ⌝ }
+    requires { ⌜ Between 0 mostMessages (word (rings (now memory) heads lengths count)) ⌝ }
+    ensures { λ r. ⌜ FollowsTo (now (arcs .entry)) (from .0) (word (rings (now (memory .entry)) heads lengths count)) (r .0) ⌝ }
+{
+    let mut at = from;
+    let mut q: usize = 0;
+    while q < count {
+        at = follow_ring(arcs, at, memory, q * ROOM, heads[q], lengths[q]);
+        q += 1;
+    }
+    at
+}

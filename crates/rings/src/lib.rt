@@ -1,0 +1,7 @@
+// Queues in lent memory: each in a ring of its own while a replay runs, oldest first and then 0 at its end.
+pub mod follow;
+pub mod settle;
+pub mod words;
+
+// A queue holds so many messages at most, each in a byte of its ring.
+pub const ROOM: usize = 1024;
