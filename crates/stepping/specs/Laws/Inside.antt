@@ -1,0 +1,65 @@
+-- Whether the configuration of a record is inside, by what the code finds in the tables.
+use Prim.Native.Nat.{ℕ, _+_, _*_, _≤_, _<_}
+use mathlib.Core.Path.{_≡_, refl, sym, ap, ap₂, subst, _∙_}
+use mathlib.Core.Bool.{Bool}
+use mathlib.Core.Option.{Option}
+use mathlib.Core.List.{List, [], _∷_}
+use native.Mathlib.Omega.{arith}
+use lib.ListN.{length, getD, take}
+use Rattle.tables.specs.Limits.{mostMessages, mostPool}
+use Rattle.tables.specs.Kinds.{reachedOf}
+use Rattle.tables.specs.Lookup.{rootOf, alongArc, finalAt, RootAt, ArcsSmall}
+use Rattle.tables.specs.Laws.Lookup.{arcs-small}
+use Rattle.tables.specs.declared.tables.Pool as Declared
+use Rattle.model.specs.Model.{Between, nothing, message, number}
+use Rattle.model.specs.Diagram.{follow, word}
+use Rattle.meaning.specs.Tables.{poolOf}
+use Rattle.meaning.specs.Laws.Lookup.{along-is, final-is}
+use Rattle.meaning.specs.Laws.Order.{messages-are}
+use Rattle.controls.specs.Controls.{sizesOf}
+use Rattle.rings.specs.Ring.{rings, followArcs}
+use Rattle.rings.specs.Lent.{Rings, FollowsTo}
+use Rattle.rings.specs.Laws.Follow.{own-small}
+use Rattle.stepping.specs.Frame.{poolIn, insideOf}
+use Rattle.stepping.specs.Configurations.{configOf}
+use Rattle.stepping.specs.Inside.{Mapped}
+use Rattle.stepping.specs.Laws.Shifting.{ringed-rings}
+use Rattle.stepping.specs.declared.frame.Frame.{Frame}
+use Rattle.stepping.specs.declared.runs.RunRecord.{RunRecord}
+
+-- the table's arcs lead where the diagram's do
+follow-is : (P : Declared.Pool) (x : Option ℕ) (u : List ℕ) → Between 0 mostMessages u → followArcs (P .arcs) x u ≡ follow (poolOf P) x u
+unfolding followArcs
+follow-is P x [] b = refl
+follow-is P x (m ∷ u) (message l h b) =
+    ap (λ y. followArcs (P .arcs) y u) (sym (along-is P x m h)) ∙ follow-is P _ u b
+
+module _ {f : Frame} {finals arcs roots : List ℕ} {r : RunRecord} {mem : List ℕ} (A : Mapped f finals arcs roots r mem) where
+  pub root-small : (c : ℕ) → getD roots c 0 ≤ mostPool
+  root-small c = omega (arith, A .map .roots c, A .pool .most)
+
+  pub small-arcs : ArcsSmall arcs
+  small-arcs = arcs-small (A .pool)
+
+  pub in-rings : Rings mem (r .heads) (r .lengths) (f .queues .count)
+  in-rings = ringed-rings (A .queues) (A .holds .ringed) (A .holds .enough)
+
+  pub messages-small : Between 0 mostMessages (word (rings mem (r .heads) (r .lengths) (f .queues .count)))
+  messages-small = own-small (omega (arith, messages-are (A .queues), A .queues .sumMost)) (A .holds .contents)
+
+  pub inside-is : {b : Bool} {c t s : ℕ} → c ≡ number (sizesOf (f .machines)) (take (f .machines .count) (r .states)) → RootAt roots c t
+      → FollowsTo arcs t (word (rings mem (r .heads) (r .lengths) (f .queues .count))) s → b ≡ finalAt finals (reachedOf s)
+      → b ≡ insideOf f finals arcs roots (configOf (f .machines) (f .queues) r mem)
+  inside-is e root leads final =
+      final
+      ∙ ap (finalAt finals)
+      (leads .is
+      ∙ ap (λ x. followArcs arcs x waiting) (root .is ∙ ap (rootOf roots) e)
+      ∙ follow-is (poolIn f finals arcs) start waiting messages-small)
+      ∙ sym (final-is (poolIn f finals arcs) (follow (poolOf (poolIn f finals arcs)) start waiting))
+    where
+      start : Option ℕ
+      start = rootOf roots (number (sizesOf (f .machines)) (take (f .machines .count) (r .states)))
+
+      waiting : List ℕ
+      waiting = word (rings mem (r .heads) (r .lengths) (f .queues .count))

@@ -1,0 +1,6 @@
+pub mod Frame
+pub mod After
+pub mod Configurations
+pub mod Inside
+pub mod Taking
+pub mod Laws

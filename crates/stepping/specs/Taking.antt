@@ -1,0 +1,82 @@
+-- A transition taken on the record and the queue memory.
+use Prim.Native.Nat.{ℕ, _+_, _*_, _≤_, _<_}
+use mathlib.Core.Path.{_≡_}
+use mathlib.Core.Bool.{true, false}
+use mathlib.Core.Option.{none, some}
+use mathlib.Core.List.{List}
+use lib.ListN.{length, drop}
+use Rattle.tables.specs.Rows.{rowLength, wordEntry, queueAt, lengthAt}
+use Rattle.tables.specs.Valid.{MachinesValid, QueuesValid, TransitionsValid, ActionValid}
+use Rattle.tables.specs.declared.tables.Queues.{Queues}
+use Rattle.model.specs.Model.{Action, Configuration, act, take?}
+use Rattle.trace.specs.Rules.{room, fits}
+use Rattle.stepping.specs.Frame.{transitionsOf, modelIn}
+use Rattle.rings.specs.Ring.{rings}
+use Rattle.stepping.specs.Configurations.{configOf, InRings, Holds}
+use Rattle.stepping.specs.declared.frame.Frame.{Frame}
+use Rattle.stepping.specs.declared.runs.RunRecord.{RunRecord}
+use Rattle.stepping.specs.declared.taking.Took.{Took}
+use Rattle.stepping.specs.declared.taking.Took.the-variants.{Yes, NotPossible, NoRoom}
+
+-- WHAT IS ASKED to take transition i: the tables were read, and record and memory hold a configuration
+pub record Takeable (f : Frame) (rows : List ℕ) (r : RunRecord) (mem : List ℕ) (i : ℕ) : Type 0 where
+  pub machines : MachinesValid (f .machines)
+  pub queues : QueuesValid (f .queues)
+  pub transitions : TransitionsValid (f .machines) (f .queues) (transitionsOf f rows)
+  pub number : i < f .transitions
+  pub holds : Holds (f .machines) (f .queues) r mem
+
+-- whose these are
+pub record TakeAsked (rows : List ℕ) (r : RunRecord) (mem : List ℕ) (i : ℕ) : Type 0 where
+  pub frame : Frame
+  pub takeable : Takeable frame rows r mem i
+
+-- the record and the memory stay
+pub record Stays (r : RunRecord) (mem : List ℕ) (r′ : RunRecord) (mem′ : List ℕ) : Type 0 where
+  pub same : r′ ≡ r
+  pub kept : mem′ ≡ mem
+
+-- WHAT A ROW DOES TO ITS QUEUE
+-- what is asked: the row is of these queues, and record and memory have their rings
+pub record Shiftable (q : Queues) (rows : List ℕ) (row : ℕ) (r : RunRecord) (mem : List ℕ) : Type 0 where
+  pub queues : QueuesValid q
+  pub action : ActionValid q (queueAt rows row) (lengthAt rows row) (wordEntry row) rows
+  pub within : row + rowLength ≤ length rows
+  pub ringed : InRings q (r .heads) (r .lengths)
+  pub enough : q .count * room ≤ length mem
+
+pub record ShiftAsked (rows : List ℕ) (row : ℕ) (r : RunRecord) (mem : List ℕ) : Type 0 where
+  pub queues : Queues
+  pub shiftable : Shiftable queues rows row r mem
+
+-- the action is possible, and leads to these rings; no machine moves, and the memory past the queues stays
+pub record Shifted (q : Queues) (a : Action) (r : RunRecord) (mem : List ℕ) (r′ : RunRecord) (mem′ : List ℕ) : Type 0 where
+  pub unmoved : r′ .states ≡ r .states
+  pub acted : act a (rings mem (r .heads) (r .lengths) (q .count)) ≡ some (rings mem′ (r′ .heads) (r′ .lengths) (q .count))
+  pub ringed : InRings q (r′ .heads) (r′ .lengths)
+  pub past : drop (q .count * room) mem′ ≡ drop (q .count * room) mem
+  pub long : length mem′ ≡ length mem
+
+abbrev pub Shifts : Queues → Action → RunRecord → List ℕ → Took → RunRecord → List ℕ → Type 0
+Shifts q a r mem Yes r′ mem′ = Shifted q a r mem r′ mem′
+Shifts q a r mem NotPossible r′ mem′ = (act a (rings mem (r .heads) (r .lengths) (q .count)) ≡ none) × Stays r mem r′ mem′
+Shifts q a r mem NoRoom r′ mem′ =
+    ((qs : List (List ℕ)) × (act a (rings mem (r .heads) (r .lengths) (q .count)) ≡ some qs) × (fits qs ≡ false)) × Stays r mem r′ mem′
+
+-- WHAT IS FOUND OF A TRANSITION
+-- the step is taken, and the memory past the queues stays
+pub record Moves (f : Frame) (rows : List ℕ) (i : ℕ) (r : RunRecord) (mem : List ℕ) (r′ : RunRecord) (mem′ : List ℕ) : Type 0 where
+  pub taken : take? (modelIn f rows) i (configOf (f .machines) (f .queues) r mem) ≡ some (configOf (f .machines) (f .queues) r′ mem′)
+  pub fitting : fits (configOf (f .machines) (f .queues) r′ mem′ .queues) ≡ true
+  pub holds : Holds (f .machines) (f .queues) r′ mem′
+  pub past : drop (f .queues .count * room) mem′ ≡ drop (f .queues .count * room) mem
+  pub long : length mem′ ≡ length mem
+
+-- not possible, or a queue would pass its room: record and memory stay
+abbrev pub Takes : Frame → List ℕ → ℕ → RunRecord → List ℕ → Took → RunRecord → List ℕ → Type 0
+Takes f rows i r mem Yes r′ mem′ = Moves f rows i r mem r′ mem′
+Takes f rows i r mem NotPossible r′ mem′ =
+    (take? (modelIn f rows) i (configOf (f .machines) (f .queues) r mem) ≡ none) × Stays r mem r′ mem′
+Takes f rows i r mem NoRoom r′ mem′ =
+    ((γ : Configuration) × (take? (modelIn f rows) i (configOf (f .machines) (f .queues) r mem) ≡ some γ) × (fits (γ .queues) ≡ false))
+    × Stays r mem r′ mem′
