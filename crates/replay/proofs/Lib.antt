@@ -1,0 +1,5 @@
+-- Laws that several functions' proofs cite.
+pub mod Again
+pub mod Calls
+pub mod Lent
+pub mod Shared

@@ -1,0 +1,182 @@
+-- The beginning of a replay: a refusal, or the state in which the session starts.
+use Prim.Native.Nat.{ℕ, _+_, _-_, _*_, _≤_, _<_}
+use mathlib.Core.Path.{_≡_, refl, sym, ap, ap₂, subst, _∙_}
+use mathlib.Core.Bool.{true, false}
+use mathlib.Core.List.{List, [], map}
+use native.Mathlib.Omega.{arith}
+use native.Mathlib.Nat.{sub-zero}
+use lib.ListN.{length, getD, take, replicate, length-replicate}
+use lib.Seq.{length-take-le}
+use lib.Dec.{leb}
+use borrow.Author.Tests.{le-leb, lt-leb}
+use Rattle.numbers.specs.Limits.{mostBytes}
+use Rattle.numbers.specs.Part.{got, refused}
+use Rattle.numbers.specs.Said.{numberOf, placeOf}
+use Rattle.numbers.specs.Laws.Written.{zeros-hold}
+use Rattle.numbers.specs.declared.refusal.Refusal.{Refusal}
+use Rattle.tables.specs.Limits.{mostMachines, mostQueues}
+use Rattle.tables.specs.Valid.{Valid}
+use Rattle.tables.specs.declared.tables.Tables.{Tables}
+use Rattle.session.specs.File.{readFile}
+use Rattle.session.specs.Laws.Valid.{valid}
+use Rattle.model.specs.Model.{Configuration, Own, begin, number}
+use Rattle.model.specs.Laws.Basics.{false-not-true}
+use Rattle.model.specs.Laws.Queues.{all-empty}
+use Rattle.meaning.specs.Tables.{sessionOf}
+use Rattle.controls.specs.Laws.Begin.{starts-are-states}
+use Rattle.controls.specs.Controls.{sizesOf, startsOf}
+use Rattle.trace.specs.Rules.{room, Ended}
+use Rattle.trace.specs.Replay.{replayed, replayFrom}
+use Rattle.trace.specs.Laws.Turns.{replayed-without-bad}
+use Rattle.rings.specs.Ring.{each, rings}
+use Rattle.rings.specs.Laws.Rings.{rings-empty}
+use Rattle.rings.specs.Laws.Each.{each-empty}
+use Rattle.stepping.specs.Configurations.{configOf, countsOf, InRings, Holds}
+use Rattle.stepping.specs.Frame.{noBad}
+use Rattle.stepping.specs.declared.runs.RunRecord.{RunRecord}
+use Rattle.replay.specs.Flat.{flatOf, frameOf, view, begunOf, refusedBy}
+use Rattle.replay.specs.Reply.{Reply, file, trace, memory, turnedAway, ranTo, lentTo, replayTo, replayOf, saidStop, Replays}
+use Rattle.replay.specs.Run.{state, stands, endedOf, sessionIn, Ready, rest, Ran, Begins, refuses, starts}
+use Rattle.replay.specs.Laws.Flat.{valid-sized, flat-long, view-is, view-valid, goodTables}
+use Rattle.replay.specs.declared.progress.Stop.{Stop}
+use Rattle.replay.specs.declared.progress.Progress.{Progress}
+use Rattle.replay.specs.declared.progress.Begun.{Begun}
+
+-- the record of the start: starting states, and empty queues
+abbrev pub startOf : Tables → RunRecord
+startOf T = record { states = T .machines .starts; heads = replicate mostQueues 0; lengths = replicate mostQueues 0 }
+
+-- A REFUSAL, and what is replied to it
+module _ (bytes s : List ℕ) (n : ℕ) (r : RunRecord) (why : Stop) (T : Tables) {p : Progress} {b : Begun} (refusing : p ≡ refusedBy why)
+    (made : b ≡ begunOf r T p) where
+  begins-refused : ((mem : List ℕ) → length mem ≡ n → replayOf bytes s mem r ≡ turnedAway (saidStop why) r mem) → Begins bytes s n r b
+  begins-refused e =
+      refuses (ap (λ x. x .progress .going) is) (ap (λ x. x .«record») is) (ap (λ x. x .progress .steps) is)
+      (λ mem l. e mem l ∙ ap (λ x. turnedAway (saidStop (x .progress .why)) r mem) (sym is))
+    where
+      is : b ≡ begunOf r T (refusedBy why)
+      is = made ∙ ap (begunOf r T) refusing
+
+  pub begin-unread : (k q : ℕ) → readFile bytes ≡ refused k q → saidStop why ≡ file k q → Begins bytes s n r b
+  unfolding replayOf
+  begin-unread k q e w = begins-refused (λ mem _. ap (λ x. replayTo x s mem r) e ∙ ap (λ x. turnedAway x r mem) (sym w))
+
+  module _ {U : Tables} {next : ℕ} (e : readFile bytes ≡ got U next) where
+    pub begin-long : mostBytes < length s → saidStop why ≡ trace 1 mostBytes → Begins bytes s n r b
+    unfolding replayOf
+    begin-long h w =
+        begins-refused
+        (λ mem _.
+        ap (λ x. replayTo x s mem r) e
+        ∙ ap (λ x. lentTo x (leb (U .queues .count * room) (length mem)) U s mem r) (lt-leb (length s) mostBytes h)
+        ∙ ap (λ x. turnedAway x r mem) (sym w))
+
+    pub begin-short : length s ≤ mostBytes → n < U .queues .count * room → saidStop why ≡ memory 2 0 → Begins bytes s n r b
+    unfolding replayOf
+    begin-short h l w =
+        begins-refused
+        (λ mem long.
+        ap (λ x. replayTo x s mem r) e
+        ∙ ap₂ (λ x y. lentTo x y U s mem r) (le-leb (length s) mostBytes h) (lt-leb (U .queues .count * room) (length mem) (omega arith))
+        ∙ ap (λ x. turnedAway x r mem) (sym w))
+
+-- THE START
+module _ (T : Tables) (v : Valid T) where
+  no-messages : (q : ℕ) → getD (startOf T .lengths) q 0 ≡ 0
+  no-messages q = zeros-hold mostQueues q
+
+  queues-long : length (countsOf (T .queues)) ≡ T .queues .count
+  queues-long = length-take-le (T .queues .count) (T .queues .messages) (omega (arith, v .queues .most, v .queues .long))
+
+  empty-rings : (mem : List ℕ) → rings mem (startOf T .heads) (startOf T .lengths) (T .queues .count) ≡ map (λ n. []) (countsOf (T .queues))
+  empty-rings mem =
+      rings-empty mem (startOf T .heads) (startOf T .lengths) (T .queues .count) no-messages
+      ∙ ap (λ n. each (λ q. []) n 0) (sym queues-long)
+      ∙ each-empty (countsOf (T .queues)) 0
+
+  start-is : (mem : List ℕ) → configOf (T .machines) (T .queues) (startOf T) mem ≡ begin (sessionOf T .model)
+  start-is mem = ap (λ qs. record { control = number (sizesOf (T .machines)) (startsOf (T .machines)); queues = qs }) (empty-rings mem)
+
+  start-holds : (mem : List ℕ) → T .queues .count * room ≤ length mem → Holds (T .machines) (T .queues) (startOf T) mem
+  start-holds mem enough =
+      record {
+        statesLong = v .machines .startsLong;
+        placed = starts-are-states (T .machines) (v .machines);
+        rest = v .machines .startsRest;
+        ringed =
+            record {
+              headsLong = length-replicate {A = ℕ} mostQueues 0;
+              lengthsLong = length-replicate {A = ℕ} mostQueues 0;
+              placed = λ i. omega (arith, zeros-hold mostQueues i);
+              held = λ i. omega (arith, zeros-hold mostQueues i);
+              rest = λ i _. zeros-hold mostQueues i;
+            };
+        contents = subst (Own 0 (countsOf (T .queues))) (sym (empty-rings mem)) (all-empty (countsOf (T .queues)));
+        enough = enough;
+      }
+
+  -- the session that is replayed is the file's, less its bad entries, which no replay looks at
+  view-replayed : (s : List ℕ) → replayed (sessionIn (frameOf T) (flatOf T)) s ≡ replayed (sessionOf T) s
+  view-replayed s =
+      ap (λ U. replayed (sessionOf U) s) (view-is T (valid-sized v))
+      ∙ replayed-without-bad (sessionOf T .model) (sessionOf T .pool) (sessionOf T .root) (sessionOf (goodTables T (valid-sized v)) .bad) (sessionOf T .bad) s
+
+pub begin-replay : (bytes s : List ℕ) (n : ℕ) (r : RunRecord) {T : Tables} {next : ℕ} → readFile bytes ≡ got T next → length s ≤ mostBytes
+    → T .queues .count * room ≤ n → (p : Progress) → p .going ≡ true → p .at ≡ 0 → p .steps ≡ 0 → Begins bytes s n r (begunOf (startOf T) T p)
+unfolding replayOf
+begin-replay bytes s n r {T} {next} e h l p g at steps = starts g (λ mem long. (ready mem long, is mem long))
+  where
+    v : Valid T
+    v = valid bytes e
+
+    ready : (mem : List ℕ) → length mem ≡ n → Ready (frameOf T) (flatOf T) s (state (startOf T) mem p)
+    ready mem long =
+        record {
+          valid = view-valid T v;
+          flatLong = flat-long T (valid-sized v);
+          holds = start-holds T v mem (omega arith);
+          most = h;
+          within = omega arith;
+          counted = omega arith;
+        }
+
+    all : (mem : List ℕ) → rest (frameOf T) (flatOf T) s (state (startOf T) mem p) ≡ replayed (sessionOf T) s
+    all mem =
+        ap₂ (λ k a. replayFrom (sessionIn (frameOf T) (flatOf T)) s (length s - k) k a (configOf (T .machines) (T .queues) (startOf T) mem)) steps at
+        ∙ ap₂ (λ k γ. replayFrom (sessionIn (frameOf T) (flatOf T)) s k 0 0 γ) (sub-zero (length s)) (start-is T v mem)
+        ∙ view-replayed T v s
+
+    is : (mem : List ℕ) → length mem ≡ n
+        → replayOf bytes s mem r ≡ ranTo (view (frameOf T) (flatOf T)) mem (rest (frameOf T) (flatOf T) s (state (startOf T) mem p))
+    is mem long =
+        ap (λ x. replayTo x s mem r) e
+        ∙ ap₂ (λ x y. lentTo x y T s mem r) (le-leb (length s) mostBytes h) (le-leb (T .queues .count * room) (length mem) (omega arith))
+        ∙ ap (ranTo T mem) (sym (all mem))
+
+-- WHAT THE LOOP NEEDS of a beginning, and what both together promise
+pub begins-ready : {bytes s : List ℕ} {n : ℕ} {r : RunRecord} {b : Begun} → Begins bytes s n r b → (mem : List ℕ) → length mem ≡ n
+    → b .progress .going ≡ true → Ready (b .frame) (b .flat) s (state (b .«record») mem (b .progress))
+begins-ready (refuses idle same none-taken e) mem long g = false-not-true idle g
+begins-ready (starts going h) mem long g = h mem long .0
+
+pub replays : {bytes s mem : List ℕ} {r : RunRecord} {b : Begun} {r₁ : RunRecord} {mem₁ : List ℕ} {p₁ : Progress}
+    → Begins bytes s (length mem) r b → Ran (b .frame) (b .flat) s (state (b .«record») mem (b .progress)) (state r₁ mem₁ p₁)
+    → Replays bytes s mem r (endedOf p₁) r₁ mem₁
+replays {mem = mem} (refuses idle same none-taken e) R =
+    let stays = R .idle idle in
+    let is = e mem refl in
+    record {
+      reply = ap (λ x. saidStop (x .progress .why)) stays ∙ sym (ap (λ o. o .reply) is);
+      steps = ap (λ x. x .progress .steps) stays ∙ none-taken ∙ sym (ap (λ o. o .steps) is);
+      lent = ap (λ x. x .lent) stays ∙ same ∙ sym (ap (λ o. o .lent) is);
+      queues = ap (λ x. x .memory) stays ∙ sym (ap (λ o. o .queues) is);
+    }
+replays {mem = mem} (starts going h) R =
+    let F = R .ends going in
+    let is = h mem refl .1 in
+    record {
+      reply = F .why ∙ sym (ap (λ o. o .reply) is);
+      steps = F .steps ∙ sym (ap (λ o. o .steps) is);
+      lent = F .lent ∙ sym (ap (λ o. o .lent) is);
+      queues = F .memory ∙ sym (ap (λ o. o .queues) is);
+    }

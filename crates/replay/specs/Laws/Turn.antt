@@ -1,0 +1,164 @@
+-- One turn on record and memory is the turn on their configuration, by what the code finds.
+use Prim.Native.Nat.{ℕ, _+_, _≤_, _<_}
+use mathlib.Core.Path.{_≡_, refl, sym, ap, subst, _∙_}
+use mathlib.Core.Bool.{Bool, true, false}
+use mathlib.Core.List.{List}
+use native.Mathlib.Omega.{arith}
+use lib.ListN.{length}
+use borrow.Author.Tests.{lt-ltb}
+use Rattle.numbers.specs.Part.{got, refused}
+use Rattle.numbers.specs.Said.{numberOf, placeOf}
+use Rattle.numbers.specs.Number.{readBelow}
+use Rattle.numbers.specs.Laws.Ranges.{below-range}
+use Rattle.numbers.specs.declared.refusal.Refusal.{Refusal}
+use Rattle.model.specs.Model.{Configuration, take?}
+use Rattle.model.specs.Session.{Session, inside}
+use Rattle.meaning.specs.Laws.Rows.{transitions-length}
+use Rattle.trace.specs.Rules.{Why, end, outside, refusal}
+use Rattle.trace.specs.Replay.{Turn, stops, kept, moved, turn}
+use Rattle.trace.specs.Laws.Turns.{turn-outside, turn-end, turn-unread}
+use Rattle.stepping.specs.Frame.{modelIn, insideOf}
+use Rattle.stepping.specs.Configurations.{configOf, Holds, Settleable}
+use Rattle.stepping.specs.Inside.{Mapped}
+use Rattle.stepping.specs.Taking.{Takeable, Stays, Takes}
+use Rattle.stepping.specs.declared.frame.Frame.{Frame}
+use Rattle.stepping.specs.declared.runs.RunRecord.{RunRecord}
+use Rattle.stepping.specs.declared.taking.Took.the-variants.{Yes, NotPossible, NoRoom}
+use Rattle.replay.specs.Flat.{rowsIn, finalsIn, arcsIn, rootsIn}
+use Rattle.replay.specs.Reply.{ran, saidStop}
+use Rattle.replay.specs.Run.{State, state, sessionIn, stands, Ready, Turned, on, off, Stepped, Stopped, TurnAsked}
+use Rattle.replay.specs.declared.progress.Stop.{Stop}
+use Rattle.replay.specs.declared.progress.Stop.the-variants.{End, Outside, Unread}
+use Rattle.replay.specs.declared.progress.Progress.{Progress}
+
+-- a turn that stops, as the code has stopped
+pub turned-off : {f : Frame} {t : Turn} {x y : State} {why : Stop} (w : Why) → t ≡ stops w → saidStop why ≡ ran w → Stopped f x why y
+    → Turned f t x y
+turned-off w e said S =
+    off w e
+    (record {
+      idle = ap (λ p. p .going) (S .progress);
+      why = ap (λ p. saidStop (p .why)) (S .progress) ∙ said;
+      steps = ap (λ p. p .steps) (S .progress);
+      lent = S .lent;
+      memory = S .memory;
+    })
+
+turned-as : {f : Frame} {t u : Turn} {x y : State} → t ≡ u → Turned f u x y → Turned f t x y
+turned-as e (on next g G) = on next (e ∙ g) G
+turned-as e (off w g F) = off w (e ∙ g) F
+
+-- a state whose record and memory are those of another
+same-state : {f : Frame} {x y : State} {why : Stop} {r : RunRecord} {mem : List ℕ} → Stays (x .lent) (x .memory) r mem
+    → Stopped f (state r mem (x .progress)) why y → Stopped f x why y
+same-state {f} {x} {y} {why} {r} {mem} s S =
+    subst (λ m. Stopped f (state (x .lent) m (x .progress)) why y) (s .kept)
+    (subst (λ r. Stopped f (state r mem (x .progress)) why y) (s .same) S)
+
+-- THE NUMBER IS TAKEN, or refused
+module _ (f : Frame) (rows : List ℕ) (i next : ℕ) (x : State) where
+  abbrev model-turn : Turn
+  model-turn = moved (x .progress .at) next (take? (modelIn f rows) i (stands f x))
+
+  pub turned-untaken : {r : RunRecord} {mem : List ℕ} {why : Stop} {y : State} → Takes f rows i (x .lent) (x .memory) NotPossible r mem
+      → saidStop why ≡ ran (refusal 14 (x .progress .at)) → Stopped f (state r mem (x .progress)) why y → Turned f model-turn x y
+  turned-untaken (e, s) said S =
+      turned-off (refusal 14 (x .progress .at)) (ap (moved (x .progress .at) next) e) said (same-state s S)
+
+  pub turned-full : {r : RunRecord} {mem : List ℕ} {why : Stop} {y : State} → Takes f rows i (x .lent) (x .memory) NoRoom r mem
+      → saidStop why ≡ ran (refusal 15 (x .progress .at)) → Stopped f (state r mem (x .progress)) why y → Turned f model-turn x y
+  turned-full ((γ, e, n), s) said S =
+      turned-off (refusal 15 (x .progress .at))
+      (ap (moved (x .progress .at) next) e ∙ ap (λ b. kept b (x .progress .at) next γ) n) said (same-state s S)
+
+  pub turned-on : {r : RunRecord} {mem : List ℕ} {p : Progress} → Takes f rows i (x .lent) (x .memory) Yes r mem
+      → p .going ≡ true → p .at ≡ next → p .steps ≡ x .progress .steps + 1 → Turned f model-turn x (state r mem p)
+  turned-on {r} {mem} T g a n =
+      on next
+      (ap (moved (x .progress .at) next) (T .taken)
+      ∙ ap (λ b. kept b (x .progress .at) next (configOf (f .machines) (f .queues) r mem)) (T .fitting))
+      (record { going = g; at = a; steps = n; holds = T .holds; kept = record { past = T .past; long = T .long } })
+
+-- A TURN whose configuration is inside and whose number is read is that of its transition
+module _ (S : Session) (s : List ℕ) (at : ℕ) (γ : Configuration) where
+  turn-is : inside S γ ≡ true → at < length s → {t next : ℕ} → readBelow s at (length (S .model .transitions)) ≡ got t next
+      → turn S s at γ ≡ moved at next (take? (S .model) t γ)
+  unfolding turn
+  turn-is i h e = rw (i, lt-ltb at (length s) h, e)
+
+-- WHAT A STEP'S STATE GIVES to its parts
+module _ {f : Frame} {flat s : List ℕ} {x : State} (R : Ready f flat s x) where
+  pub transitions-counted : length (sessionIn f flat .model .transitions) ≡ f .transitions
+  transitions-counted = transitions-length (rowsIn flat) (f .transitions) 0
+
+  pub ready-mapped : Mapped f (finalsIn flat) (arcsIn flat) (rootsIn flat) (x .lent) (x .memory)
+  ready-mapped =
+      record {
+        machines = R .valid .machines;
+        queues = R .valid .queues;
+        pool = R .valid .pool;
+        map = R .valid .map;
+        holds = R .holds;
+      }
+
+  pub ready-takeable : {i : ℕ} → i < f .transitions → Takeable f (rowsIn flat) (x .lent) (x .memory) i
+  ready-takeable h =
+      record {
+        machines = R .valid .machines;
+        queues = R .valid .queues;
+        transitions = R .valid .transitions;
+        number = h;
+        holds = R .holds;
+      }
+
+  abbrev isInside : Bool
+  isInside = insideOf f (finalsIn flat) (arcsIn flat) (rootsIn flat) (stands f x)
+
+  pub stepped-outside : {y : State} → false ≡ isInside → Stopped f x Outside y → Stepped f flat s x y
+  stepped-outside i S =
+      record { turned = turned-off outside (turn-outside (sessionIn f flat) s (x .progress .at) (stands f x) (sym i)) refl S }
+
+  pub stepped-end : {y : State} → true ≡ isInside → length s ≤ x .progress .at → Stopped f x End y → Stepped f flat s x y
+  stepped-end i h S =
+      record { turned = turned-off end (turn-end (sessionIn f flat) s (x .progress .at) (stands f x) (sym i) h) refl S }
+
+  pub stepped-unread : {y : State} {why : Refusal} → true ≡ isInside → x .progress .at < length s
+      → refused (numberOf why) (placeOf why) ≡ readBelow s (x .progress .at) (f .transitions) → Stopped f x (Unread why) y → Stepped f flat s x y
+  stepped-unread {why = why} i h e S =
+      record {
+        turned =
+            turned-off (refusal (numberOf why) (placeOf why))
+            (turn-unread (sessionIn f flat) s (x .progress .at) (stands f x) (sym i) h
+            (ap (readBelow s (x .progress .at)) transitions-counted ∙ sym e)) refl S;
+      }
+
+  pub stepped-taken : {t next : ℕ} {y : State} → true ≡ isInside → x .progress .at < length s
+      → got t next ≡ readBelow s (x .progress .at) (f .transitions)
+      → Turned f (moved (x .progress .at) next (take? (modelIn f (rowsIn flat)) t (stands f x))) x y → Stepped f flat s x y
+  stepped-taken i h e T =
+      record {
+        turned =
+            turned-as
+            (turn-is (sessionIn f flat) s (x .progress .at) (stands f x) (sym i) h
+            (ap (readBelow s (x .progress .at)) transitions-counted ∙ sym e)) T;
+      }
+
+  -- the number that was read is a transition's
+  pub number-asked : {t next : ℕ} → got t next ≡ readBelow s (x .progress .at) (f .transitions) → TurnAsked f (rowsIn flat) x t
+  number-asked e =
+      record {
+        takeable = ready-takeable (below-range s (x .progress .at) (f .transitions) (sym e));
+        few = omega (arith, R .counted, R .within, R .most);
+      }
+
+-- a refused step leaves what the form of the end asks
+pub stays-settleable : {f : Frame} {rows : List ℕ} {r r′ : RunRecord} {mem mem′ : List ℕ} {i : ℕ} → Takeable f rows r mem i
+    → Stays r mem r′ mem′ → Settleable f r′ mem′
+stays-settleable {f} {r′ = r′} {mem = mem} A s =
+    record {
+      machines = A .machines;
+      queues = A .queues;
+      holds =
+          subst (λ m. Holds (f .machines) (f .queues) r′ m) (sym (s .kept))
+          (subst (λ z. Holds (f .machines) (f .queues) z mem) (sym (s .same)) (A .holds));
+    }

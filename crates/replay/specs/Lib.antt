@@ -1,0 +1,4 @@
+pub mod Flat
+pub mod Reply
+pub mod Run
+pub mod Laws

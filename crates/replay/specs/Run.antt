@@ -1,0 +1,119 @@
+-- What the functions under the service promise: a step, the loop over steps, and the beginning.
+use Prim.Native.Nat.{ℕ, _+_, _-_, _*_, _≤_}
+use mathlib.Core.Path.{_≡_}
+use mathlib.Core.Bool.{true, false}
+use mathlib.Core.List.{List}
+use lib.ListN.{length, drop}
+use Rattle.numbers.specs.Limits.{mostBytes}
+use Rattle.tables.specs.Valid.{Valid}
+use Rattle.model.specs.Model.{Configuration}
+use Rattle.model.specs.Session.{Session}
+use Rattle.meaning.specs.Tables.{sessionOf}
+use Rattle.trace.specs.Rules.{room, Why, Ended, ended}
+use Rattle.trace.specs.Replay.{Turn, stops, goes, turn, replayFrom}
+use Rattle.rings.specs.Laid.{memoryAfter}
+use Rattle.stepping.specs.Configurations.{configOf, Holds}
+use Rattle.stepping.specs.After.{recordAfter}
+use Rattle.stepping.specs.Taking.{Takeable}
+use Rattle.stepping.specs.declared.runs.RunRecord.{RunRecord}
+use Rattle.stepping.specs.declared.frame.Frame.{Frame}
+use Rattle.replay.specs.Flat.{flatLong, view}
+use Rattle.replay.specs.Reply.{ran, Outcome, turnedAway, ranTo, saidStop, replayOf}
+use Rattle.replay.specs.declared.progress.Stop.{Stop}
+use Rattle.replay.specs.declared.progress.Progress.{Progress}
+use Rattle.replay.specs.declared.progress.Ended as Code
+use Rattle.replay.specs.declared.progress.Begun.{Begun}
+
+-- a replay underway: the record, the queue memory, and how far it has come
+pub record State : Type 0 where
+  pub lent : RunRecord
+  pub memory : List ℕ
+  pub progress : Progress
+
+abbrev pub state : RunRecord → List ℕ → Progress → State
+state r mem p = record { lent = r; memory = mem; progress = p }
+
+abbrev pub endedOf : Progress → Code.Ended
+endedOf p = record { why = p .why; steps = p .steps }
+
+-- the session that is replayed, less its bad entries; and the configuration that record and memory stand for
+abbrev pub sessionIn : Frame → List ℕ → Session
+sessionIn f flat = sessionOf (view f flat)
+
+abbrev pub stands : Frame → State → Configuration
+stands f x = configOf (f .machines) (f .queues) (x .lent) (x .memory)
+
+-- WHAT A STEP ASKS of tables, trace and state
+pub record Ready (f : Frame) (flat s : List ℕ) (x : State) : Type 0 where
+  pub valid : Valid (view f flat)
+  pub flatLong : length flat ≡ flatLong
+  pub holds : Holds (f .machines) (f .queues) (x .lent) (x .memory)
+  pub most : length s ≤ mostBytes
+  pub within : x .progress .at ≤ length s
+  pub counted : x .progress .steps ≤ x .progress .at
+
+-- the memory past the queues stays
+pub record Kept (f : Frame) (mem mem′ : List ℕ) : Type 0 where
+  pub past : drop (f .queues .count * room) mem′ ≡ drop (f .queues .count * room) mem
+  pub long : length mem′ ≡ length mem
+
+-- the replay has ended so, in the form of the end
+pub record Final (f : Frame) (e : Ended) (mem : List ℕ) (y : State) : Type 0 where
+  pub idle : y .progress .going ≡ false
+  pub why : saidStop (y .progress .why) ≡ ran (e .why)
+  pub steps : y .progress .steps ≡ e .steps
+  pub lent : y .lent ≡ recordAfter (f .machines) (e .last)
+  pub memory : y .memory ≡ memoryAfter (e .last .queues) mem
+
+-- ONE STEP: it goes on, or the replay has ended
+pub record Gone (f : Frame) (x y : State) (next : ℕ) : Type 0 where
+  pub going : y .progress .going ≡ true
+  pub at : y .progress .at ≡ next
+  pub steps : y .progress .steps ≡ x .progress .steps + 1
+  pub holds : Holds (f .machines) (f .queues) (y .lent) (y .memory)
+  pub kept : Kept f (x .memory) (y .memory)
+
+pub data Turned (f : Frame) (t : Turn) (x y : State) : Type 0 where
+  on : (next : ℕ) → t ≡ goes (stands f y) next → Gone f x y next → Turned f t x y
+  off : (w : Why) → t ≡ stops w → Final f (ended w (x .progress .steps) (stands f x)) (x .memory) y → Turned f t x y
+
+pub record Stepped (f : Frame) (flat s : List ℕ) (x y : State) : Type 0 where
+  pub turned : Turned f (turn (sessionIn f flat) s (x .progress .at) (stands f x)) x y
+
+-- the replay ends where it stands, for this reason
+pub record Stopped (f : Frame) (x : State) (why : Stop) (y : State) : Type 0 where
+  pub progress : y .progress ≡ record { going = false; why = why; at = x .progress .at; steps = x .progress .steps }
+  pub lent : y .lent ≡ recordAfter (f .machines) (stands f x)
+  pub memory : y .memory ≡ memoryAfter (stands f x .queues) (x .memory)
+
+-- what is asked to take the number that was read
+pub record TurnAsked (f : Frame) (rows : List ℕ) (x : State) (i : ℕ) : Type 0 where
+  pub takeable : Takeable f rows (x .lent) (x .memory) i
+  pub few : x .progress .steps ≤ mostBytes
+
+-- THE LOOP: all that is left of the trace
+abbrev pub rest : Frame → List ℕ → List ℕ → State → Ended
+rest f flat s x =
+    replayFrom (sessionIn f flat) s (length s - x .progress .steps) (x .progress .steps) (x .progress .at) (stands f x)
+
+pub record Ran (f : Frame) (flat s : List ℕ) (x y : State) : Type 0 where
+  pub idle : x .progress .going ≡ false → y ≡ x
+  pub ends : x .progress .going ≡ true → Final f (rest f flat s x) (x .memory) y
+
+-- and underway from x to y
+pub record Reached (f : Frame) (flat s : List ℕ) (x y : State) : Type 0 where
+  pub idle : x .progress .going ≡ false → y ≡ x
+  pub on : x .progress .going ≡ true → y .progress .going ≡ true
+      → (Ready f flat s x → Ready f flat s y) × (rest f flat s y ≡ rest f flat s x) × Kept f (x .memory) (y .memory)
+  pub off : x .progress .going ≡ true → y .progress .going ≡ false → Final f (rest f flat s x) (x .memory) y
+
+-- THE BEGINNING, with n bytes of memory lent, whatever they hold: a refusal with the record as it was, or the first state
+pub data Begins (bytes s : List ℕ) (n : ℕ) (r : RunRecord) (b : Begun) : Type 0 where
+  refuses : b .progress .going ≡ false → b .record ≡ r → b .progress .steps ≡ 0
+      → ((mem : List ℕ) → length mem ≡ n → replayOf bytes s mem r ≡ turnedAway (saidStop (b .progress .why)) r mem)
+      → Begins bytes s n r b
+  starts : b .progress .going ≡ true
+      → ((mem : List ℕ) → length mem ≡ n
+      → Ready (b .frame) (b .flat) s (state (b .record) mem (b .progress))
+      × (replayOf bytes s mem r ≡ ranTo (view (b .frame) (b .flat)) mem (rest (b .frame) (b .flat) s (state (b .record) mem (b .progress)))))
+      → Begins bytes s n r b

@@ -1,0 +1,72 @@
+// The loop of a replay over the record that a caller lends, and the service itself. The checker derives no proof for a function over a
+// reference to a struct, so these are thin, and each is proved by hand; `replay_from` has plain parameters, so whoever calls it needs no such proof.
+use crate::progress::Ended;
+use crate::progress::Progress;
+use crate::progress::Replayed;
+use crate::start::start;
+use crate::turn::ended;
+use crate::turn::turn;
+use stepping::frame::Frame;
+use stepping::runs::RunRecord;
+ghost use mathlib.Core.Path.{_≡_};
+ghost use mathlib.Core.Bool.{true};
+ghost use Rattle.replay.specs.Reply.{Replays};
+ghost use Rattle.replay.specs.Run.{state, Ready, Stepped, Ran};
+
+// One step: the record is taken by value, and what comes back is stored.
+pub(crate) fn step(
+    r: &mut RunRecord,
+    f: Frame,
+    flat: &[u8],
+    trace: &[u8],
+    memory: &mut [u8],
+    p: Progress,
+) -> Progress
+    requires { ⌜ Ready f (now flat) (now trace) (state (now r) (now memory) p) ⌝ }
+    ensures { λ a. ⌜ Stepped f (now (flat .entry)) (now (trace .entry)) (state (now (r .entry)) (now (memory .entry)) p) (state (now (r .exit)) (now (memory .exit)) a) ⌝ }
+{
+    let a = turn(*r, f, flat, trace, memory, p);
+    *r = a.record;
+    a.progress
+}
+
+// Step after step; the record and the memory are lent on for each.
+pub(crate) fn run(
+    r: &mut RunRecord,
+    f: Frame,
+    flat: &[u8],
+    trace: &[u8],
+    memory: &mut [u8],
+    begun: Progress,
+) -> Progress
+    requires { ⌜ (begun .going ≡ true → Ready f (now flat) (now trace) (state (now r) (now memory) begun)) ⌝ }
+    ensures { λ a. ⌜ Ran f (now (flat .entry)) (now (trace .entry)) (state (now (r .entry)) (now (memory .entry)) begun) (state (now (r .exit)) (now (memory .exit)) a) ⌝ }
+{
+    let mut p = begun;
+    while p.going {
+        p = step(r, f, flat, trace, memory, p);
+    }
+    p
+}
+
+// The service: a trace replayed against a file, in the record and the queue memory that the caller lends.
+pub fn replay(r: &mut RunRecord, file: &[u8], trace: &[u8], memory: &mut [u8]) -> Ended
+    ensures { λ e. ⌜ Replays (now (file .entry)) (now (trace .entry)) (now (memory .entry)) (now (r .entry)) e (now (r .exit)) (now (memory .exit)) ⌝ }
+{
+    let b = start(*r, file, trace, memory.len());
+    *r = b.record;
+    let f = b.frame;
+    let flat = b.flat;
+    let begun = b.progress;
+    let p = run(r, f, &flat, trace, memory, begun);
+    ended(p)
+}
+
+// The same on a record by value.
+pub fn replay_from(before: RunRecord, file: &[u8], trace: &[u8], memory: &mut [u8]) -> Replayed
+    ensures { λ a. ⌜ Replays (now (file .entry)) (now (trace .entry)) (now (memory .entry)) before (a .ended) (a .record) (now (memory .exit)) ⌝ }
+{
+    let mut r = before;
+    let ended = replay(&mut r, file, trace, memory);
+    Replayed { record: r, ended }
+}
