@@ -70,7 +70,7 @@ returns c = λ q S. receive-none S (sym (not-true _ (c .if1 .taken)) ∙ c .befo
 
 -- src/taking.rt:78:22
 add-next : tie.Need-add-next
-add-next c = let S = c .before .before .before .before .before .before .before .before .pre .shiftable in omega (arith, S .ringed .placed (queueAt (now (c .before .before .before .before .before .before .before .before .args .rows)) (c .before .before .before .before .before .before .before .before .args .row)), S .action .most)
+add-next c = let S = c .before .before .before .before .before .before .before .before .pre .shiftable in let k = queueAt (now (c .before .before .before .before .before .before .before .before .args .rows)) (c .before .before .before .before .before .before .before .before .args .row) in omega (arith, S .ringed .placed k, S .ringed .held k, S .action .most)
 
 -- src/taking.rt:78:5
 mul-next : tie.Need-mul-next
