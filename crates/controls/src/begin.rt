@@ -13,5 +13,5 @@ pub fn first_control(m: Machines) -> ControlState
     ensures { λ r. ⌜ r .0 ≡ number (sizesOf m) (startsOf m) ⌝ }
 {
     let starts = m.starts;
-    control_of(m, starts)
+    control_of(m, &starts)
 }

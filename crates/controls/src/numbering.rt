@@ -11,9 +11,9 @@ ghost use Rattle.controls.specs.Controls.{sizesOf, Numberable};
 ghost use Rattle.tables.specs.Valid.{MachinesValid};
 
 // The number where machine i, of states[i] states, is in state at[i]; machine 0 is most significant.
-fn number_of(states: [u8; 4], at: [u8; 4], count: usize) -> usize
-    requires { ⌜ Numberable states at count ⌝ }
-    ensures { λ r. ⌜ r ≡ number (take count states) (take count at) ⌝ }
+fn number_of(states: [u8; 4], at: &[u8; 4], count: usize) -> usize
+    requires { ⌜ Numberable states (now at) count ⌝ }
+    ensures { λ r. ⌜ r ≡ number (take count states) (take count (now (at .entry))) ⌝ }
 {
     let mut sum: usize = 0;
     let mut i: usize = 0;
@@ -25,10 +25,10 @@ fn number_of(states: [u8; 4], at: [u8; 4], count: usize) -> usize
 }
 
 // The control state in which each machine is in the state given for it.
-pub fn control_of(m: Machines, at: [u8; MOST_MACHINES as usize]) -> ControlState
+pub fn control_of(m: Machines, at: &[u8; MOST_MACHINES as usize]) -> ControlState
     requires { ⌜ MachinesValid m ⌝ }
-    requires { ⌜ States (sizesOf m) (take (m .count) at) ⌝ }
-    ensures { λ r. ⌜ r .0 ≡ number (sizesOf m) (take (m .count) at) ⌝ }
+    requires { ⌜ States (sizesOf m) (take (m .count) (now at)) ⌝ }
+    ensures { λ r. ⌜ r .0 ≡ number (sizesOf m) (take (m .count) (now (at .entry))) ⌝ }
 {
     let states = m.states;
     ControlState::new(number_of(states, at, wide(m.count)))

@@ -1,5 +1,6 @@
 -- Laws that several functions' proofs cite.
 pub mod Again
 pub mod Calls
+pub mod Fields
 pub mod Lent
 pub mod Shared

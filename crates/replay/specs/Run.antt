@@ -12,7 +12,7 @@ use Rattle.meaning.specs.Tables.{sessionOf}
 use Rattle.trace.specs.Rules.{room, Why, Ended, ended}
 use Rattle.trace.specs.Replay.{Turn, stops, goes, turn, replayFrom}
 use Rattle.rings.specs.Laid.{memoryAfter}
-use Rattle.stepping.specs.Configurations.{configOf, Holds}
+use Rattle.stepping.specs.Configurations.{configOf, Holds, Settles}
 use Rattle.stepping.specs.After.{recordAfter}
 use Rattle.stepping.specs.Taking.{Takeable}
 use Rattle.stepping.specs.declared.runs.RunRecord.{RunRecord}
@@ -85,6 +85,11 @@ pub record Stopped (f : Frame) (x : State) (why : Stop) (y : State) : Type 0 whe
   pub progress : y .progress ≡ record { going = false; why = why; at = x .progress .at; steps = x .progress .steps }
   pub lent : y .lent ≡ recordAfter (f .machines) (stands f x)
   pub memory : y .memory ≡ memoryAfter (stands f x .queues) (x .memory)
+
+-- in the parts of the record: states and lengths stay
+pub record Ends (f : Frame) (hs ls mem : List ℕ) (p : Progress) (why : Stop) (a : Progress) (hs′ mem′ : List ℕ) : Type 0 where
+  pub progress : a ≡ record { going = false; why = why; at = p .at; steps = p .steps }
+  pub settled : Settles f hs ls mem hs′ mem′
 
 -- what is asked to take the number that was read
 pub record TurnAsked (f : Frame) (rows : List ℕ) (x : State) (i : ℕ) : Type 0 where

@@ -37,12 +37,6 @@ pub struct Ended {
     pub steps: usize,
 }
 
-// After a step.
-pub struct Advanced {
-    pub record: RunRecord,
-    pub progress: Progress,
-}
-
 // After a replay.
 pub struct Replayed {
     pub record: RunRecord,

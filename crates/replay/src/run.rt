@@ -13,7 +13,7 @@ ghost use mathlib.Core.Bool.{true};
 ghost use Rattle.replay.specs.Reply.{Replays};
 ghost use Rattle.replay.specs.Run.{state, Ready, Stepped, Ran};
 
-// One step: the record is taken by value, and what comes back is stored.
+// One step: the record's three tables are lent on, each by itself, so none is copied.
 pub(crate) fn step(
     r: &mut RunRecord,
     f: Frame,
@@ -25,9 +25,16 @@ pub(crate) fn step(
     requires { ⌜ Ready f (now flat) (now trace) (state (now r) (now memory) p) ⌝ }
     ensures { λ a. ⌜ Stepped f (now (flat .entry)) (now (trace .entry)) (state (now (r .entry)) (now (memory .entry)) p) (state (now (r .exit)) (now (memory .exit)) a) ⌝ }
 {
-    let a = turn(*r, f, flat, trace, memory, p);
-    *r = a.record;
-    a.progress
+    turn(
+        &mut r.states,
+        &mut r.heads,
+        &mut r.lengths,
+        f,
+        flat,
+        trace,
+        memory,
+        p,
+    )
 }
 
 // Step after step; the record and the memory are lent on for each.

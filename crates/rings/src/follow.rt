@@ -48,15 +48,15 @@ pub fn follow_rings(
     arcs: &[u8],
     from: Reached,
     memory: &[u8],
-    heads: [usize; MOST_QUEUES as usize],
-    lengths: [usize; MOST_QUEUES as usize],
+    heads: &[usize; MOST_QUEUES as usize],
+    lengths: &[usize; MOST_QUEUES as usize],
     count: usize,
 ) -> Reached
     requires { ⌜ ArcsSmall (now arcs) ⌝ }
     requires { ⌜ from .0 ≤ mostPool ⌝ }
-    requires { ⌜ Rings (now memory) heads lengths count ⌝ }
-    requires { ⌜ Between 0 mostMessages (word (rings (now memory) heads lengths count)) ⌝ }
-    ensures { λ r. ⌜ FollowsTo (now (arcs .entry)) (from .0) (word (rings (now (memory .entry)) heads lengths count)) (r .0) ⌝ }
+    requires { ⌜ Rings (now memory) (now heads) (now lengths) count ⌝ }
+    requires { ⌜ Between 0 mostMessages (word (rings (now memory) (now heads) (now lengths) count)) ⌝ }
+    ensures { λ r. ⌜ FollowsTo (now (arcs .entry)) (from .0) (word (rings (now (memory .entry)) (now (heads .entry)) (now (lengths .entry)) count)) (r .0) ⌝ }
 {
     let mut at = from;
     let mut q: usize = 0;

@@ -2,9 +2,9 @@
 use Prim.Native.Nat.{ℕ, _*_, _≤_, _<_}
 use mathlib.Core.Path.{_≡_}
 use mathlib.Core.List.{List}
-use lib.ListN.{length, getD, take}
+use lib.ListN.{length, getD, take, replicate}
 use Rattle.tables.specs.Limits.{mostMachines, mostQueues}
-use Rattle.tables.specs.Valid.{MachinesValid, QueuesValid}
+use Rattle.tables.specs.Valid.{QueuesValid}
 use Rattle.tables.specs.declared.tables.Machines.{Machines}
 use Rattle.tables.specs.declared.tables.Queues.{Queues}
 use Rattle.model.specs.Model.{Configuration, Own, number}
@@ -13,9 +13,12 @@ use Rattle.controls.specs.Controls.{sizesOf}
 use Rattle.trace.specs.Rules.{room}
 use Rattle.rings.specs.Ring.{rings}
 use Rattle.rings.specs.Laid.{memoryAfter}
-use Rattle.stepping.specs.After.{recordAfter}
 use Rattle.stepping.specs.declared.frame.Frame.{Frame}
 use Rattle.stepping.specs.declared.runs.RunRecord.{RunRecord}
+
+-- a record of its parts
+abbrev pub runOf : List ℕ → List ℕ → List ℕ → RunRecord
+runOf states heads lengths = record { states = states; heads = heads; lengths = lengths }
 
 -- THE CONFIGURATION
 abbrev pub configOf : Machines → Queues → RunRecord → List ℕ → Configuration
@@ -46,12 +49,12 @@ pub record Holds (m : Machines) (q : Queues) (r : RunRecord) (mem : List ℕ) : 
   pub contents : Own 0 (countsOf q) (rings mem (r .heads) (r .lengths) (q .count))
   pub enough : q .count * room ≤ length mem
 
--- what is asked for the form of the end, and what is found
-pub record Settleable (f : Frame) (r : RunRecord) (mem : List ℕ) : Type 0 where
-  pub machines : MachinesValid (f .machines)
+-- what is asked for the form of the end, and what is found: no heads, each queue's messages at its front, and the rest as it was
+pub record Settleable (f : Frame) (hs ls mem : List ℕ) : Type 0 where
   pub queues : QueuesValid (f .queues)
-  pub holds : Holds (f .machines) (f .queues) r mem
+  pub ringed : InRings (f .queues) hs ls
+  pub enough : f .queues .count * room ≤ length mem
 
-pub record Settles (f : Frame) (r : RunRecord) (mem : List ℕ) (r′ : RunRecord) (mem′ : List ℕ) : Type 0 where
-  pub lent : r′ ≡ recordAfter (f .machines) (configOf (f .machines) (f .queues) r mem)
-  pub memory : mem′ ≡ memoryAfter (configOf (f .machines) (f .queues) r mem .queues) mem
+pub record Settles (f : Frame) (hs ls mem hs′ mem′ : List ℕ) : Type 0 where
+  pub heads : hs′ ≡ replicate mostQueues 0
+  pub memory : mem′ ≡ memoryAfter (rings mem hs ls (f .queues .count)) mem

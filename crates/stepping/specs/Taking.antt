@@ -31,37 +31,37 @@ pub record TakeAsked (rows : List ℕ) (r : RunRecord) (mem : List ℕ) (i : ℕ
   pub frame : Frame
   pub takeable : Takeable frame rows r mem i
 
--- the record and the memory stay
-pub record Stays (r : RunRecord) (mem : List ℕ) (r′ : RunRecord) (mem′ : List ℕ) : Type 0 where
-  pub same : r′ ≡ r
-  pub kept : mem′ ≡ mem
-
 -- WHAT A ROW DOES TO ITS QUEUE
--- what is asked: the row is of these queues, and record and memory have their rings
-pub record Shiftable (q : Queues) (rows : List ℕ) (row : ℕ) (r : RunRecord) (mem : List ℕ) : Type 0 where
+-- what is asked: the row is of these queues, and heads, lengths and memory have their rings
+pub record Shiftable (q : Queues) (rows : List ℕ) (row : ℕ) (hs ls mem : List ℕ) : Type 0 where
   pub queues : QueuesValid q
   pub action : ActionValid q (queueAt rows row) (lengthAt rows row) (wordEntry row) rows
   pub within : row + rowLength ≤ length rows
-  pub ringed : InRings q (r .heads) (r .lengths)
+  pub ringed : InRings q hs ls
   pub enough : q .count * room ≤ length mem
 
-pub record ShiftAsked (rows : List ℕ) (row : ℕ) (r : RunRecord) (mem : List ℕ) : Type 0 where
+pub record ShiftAsked (rows : List ℕ) (row : ℕ) (hs ls mem : List ℕ) : Type 0 where
   pub queues : Queues
-  pub shiftable : Shiftable queues rows row r mem
+  pub shiftable : Shiftable queues rows row hs ls mem
 
--- the action is possible, and leads to these rings; no machine moves, and the memory past the queues stays
-pub record Shifted (q : Queues) (a : Action) (r : RunRecord) (mem : List ℕ) (r′ : RunRecord) (mem′ : List ℕ) : Type 0 where
-  pub unmoved : r′ .states ≡ r .states
-  pub acted : act a (rings mem (r .heads) (r .lengths) (q .count)) ≡ some (rings mem′ (r′ .heads) (r′ .lengths) (q .count))
-  pub ringed : InRings q (r′ .heads) (r′ .lengths)
+-- the action is possible, and leads to these rings; the memory past the queues stays
+pub record Shifted (q : Queues) (a : Action) (hs ls mem hs′ ls′ mem′ : List ℕ) : Type 0 where
+  pub acted : act a (rings mem hs ls (q .count)) ≡ some (rings mem′ hs′ ls′ (q .count))
+  pub ringed : InRings q hs′ ls′
   pub past : drop (q .count * room) mem′ ≡ drop (q .count * room) mem
   pub long : length mem′ ≡ length mem
 
-abbrev pub Shifts : Queues → Action → RunRecord → List ℕ → Took → RunRecord → List ℕ → Type 0
-Shifts q a r mem Yes r′ mem′ = Shifted q a r mem r′ mem′
-Shifts q a r mem NotPossible r′ mem′ = (act a (rings mem (r .heads) (r .lengths) (q .count)) ≡ none) × Stays r mem r′ mem′
-Shifts q a r mem NoRoom r′ mem′ =
-    ((qs : List (List ℕ)) × (act a (rings mem (r .heads) (r .lengths) (q .count)) ≡ some qs) × (fits qs ≡ false)) × Stays r mem r′ mem′
+-- all stay
+pub record Unshifted (hs ls mem hs′ ls′ mem′ : List ℕ) : Type 0 where
+  pub heads : hs′ ≡ hs
+  pub lengths : ls′ ≡ ls
+  pub memory : mem′ ≡ mem
+
+abbrev pub Shifts : Queues → Action → List ℕ → List ℕ → List ℕ → Took → List ℕ → List ℕ → List ℕ → Type 0
+Shifts q a hs ls mem Yes hs′ ls′ mem′ = Shifted q a hs ls mem hs′ ls′ mem′
+Shifts q a hs ls mem NotPossible hs′ ls′ mem′ = (act a (rings mem hs ls (q .count)) ≡ none) × Unshifted hs ls mem hs′ ls′ mem′
+Shifts q a hs ls mem NoRoom hs′ ls′ mem′ =
+    ((qs : List (List ℕ)) × (act a (rings mem hs ls (q .count)) ≡ some qs) × (fits qs ≡ false)) × Unshifted hs ls mem hs′ ls′ mem′
 
 -- WHAT IS FOUND OF A TRANSITION
 -- the step is taken, and the memory past the queues stays
@@ -73,6 +73,10 @@ pub record Moves (f : Frame) (rows : List ℕ) (i : ℕ) (r : RunRecord) (mem : 
   pub long : length mem′ ≡ length mem
 
 -- not possible, or a queue would pass its room: record and memory stay
+pub record Stays (r : RunRecord) (mem : List ℕ) (r′ : RunRecord) (mem′ : List ℕ) : Type 0 where
+  pub same : r′ ≡ r
+  pub kept : mem′ ≡ mem
+
 abbrev pub Takes : Frame → List ℕ → ℕ → RunRecord → List ℕ → Took → RunRecord → List ℕ → Type 0
 Takes f rows i r mem Yes r′ mem′ = Moves f rows i r mem r′ mem′
 Takes f rows i r mem NotPossible r′ mem′ =

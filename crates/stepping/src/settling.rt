@@ -1,23 +1,20 @@
 // The form of the end: what waits in each queue stands at its front, and the record has no heads.
 use crate::frame::Frame;
-use crate::runs::RunRecord;
 use numbers::number::wide;
 use rings::settle::settle_queues;
 use tables::tables::MOST_QUEUES;
 ghost use Rattle.stepping.specs.Configurations.{Settleable, Settles};
 
-pub fn settle(f: Frame, r: RunRecord, memory: &mut [u8]) -> RunRecord
-    requires { ⌜ Settleable f r (now memory) ⌝ }
-    ensures { λ a. ⌜ Settles f r (now (memory .entry)) a (now (memory .exit)) ⌝ }
+pub fn settle(
+    f: Frame,
+    heads: &mut [usize; MOST_QUEUES as usize],
+    lengths: &[usize; MOST_QUEUES as usize],
+    memory: &mut [u8],
+)
+    requires { ⌜ Settleable f (now heads) (now lengths) (now memory) ⌝ }
+    ensures { λ _. ⌜ Settles f (now (heads .entry)) (now (lengths .entry)) (now (memory .entry)) (now (heads .exit)) (now (memory .exit)) ⌝ }
 {
     let queues = f.queues;
-    let states = r.states;
-    let heads = r.heads;
-    let lengths = r.lengths;
-    settle_queues(memory, heads, lengths, wide(queues.count));
-    RunRecord {
-        states,
-        heads: [0usize; MOST_QUEUES as usize],
-        lengths,
-    }
+    settle_queues(memory, *heads, *lengths, wide(queues.count));
+    *heads = [0usize; MOST_QUEUES as usize];
 }

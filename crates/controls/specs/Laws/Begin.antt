@@ -1,7 +1,7 @@
 -- The number of the machines' states, machine by machine from the first: each takes what was numbered so far times its states.
-use Prim.Native.Nat.{ℕ, _+_, _*_, _≤_, _<_}
+use Prim.Native.Nat.{ℕ, suc, _+_, _*_, _≤_, _<_}
 use mathlib.Core.Path.{_≡_, refl, sym, ap, ap₂, _∙_}
-use mathlib.Core.List.{List, _∷_}
+use mathlib.Core.List.{List, [], _∷_}
 use native.Mathlib.Omega.{arith}
 use native.Mathlib.Numerals.{add-one}
 use native.Mathlib.Nat.{add-assoc, add-mul, mul-assoc, mul-le-mul, mul-one, le-refl}
@@ -15,7 +15,7 @@ use Rattle.model.specs.Session.{States}
 use Rattle.model.specs.Laws.Controls.{number-below}
 use Rattle.meaning.specs.Laws.Counts.{states-are}
 use Rattle.controls.specs.Controls.{sizesOf, startsOf, Numberable, Stepped}
-use Rattle.controls.specs.Laws.Parting.{sizes-stepped, sizes-product}
+use Rattle.controls.specs.Laws.Parting.{sizes-length, sizes-stepped, sizes-product}
 
 -- the machines before number i are numbered by sum: what all of them give
 abbrev pub withRest : List ℕ → List ℕ → ℕ → ℕ → ℕ → ℕ
@@ -60,15 +60,20 @@ number-end states places count i sum a h =
     (drop-of-length-le (take count states) {i = i} (omega (arith, length-take count states, a .statesLong)))
     ∙ omega (arith, mul-one sum)
 
+-- a state for each machine
+states-length : (ks ps : List ℕ) → States ks ps → length ps ≡ length ks
+states-length [] [] s = refl
+states-length (k ∷ ks) (p ∷ ps) s = ap suc (states-length ks ps (s .1))
+
 -- states of machines that were read can be numbered, and are those of a control state
 module _ (m : Machines) (v : MachinesValid m) where
-  pub read-numberable : (places : List ℕ) → m .count ≤ length places → States (sizesOf m) (take (m .count) places)
-      → Numberable (m .states) places (m .count)
-  read-numberable places long s =
+  pub read-numberable : (places : List ℕ) → States (sizesOf m) (take (m .count) places) → Numberable (m .states) places (m .count)
+  read-numberable places s =
       record {
         stepped = sizes-stepped m v;
         statesLong = omega (arith, v .statesLong, v .most);
-        placesLong = long;
+        placesLong =
+            omega (arith, states-length (sizesOf m) (take (m .count) places) s, length-take (m .count) places, sizes-length m v);
         small = omega (arith, number-below (sizesOf m) (take (m .count) places) s, sizes-product m v, v .productMost);
       }
 

@@ -18,7 +18,9 @@ use Rattle.trace.specs.Rules.{Why, end, outside, refusal}
 use Rattle.trace.specs.Replay.{Turn, stops, kept, moved, turn}
 use Rattle.trace.specs.Laws.Turns.{turn-outside, turn-end, turn-unread}
 use Rattle.stepping.specs.Frame.{modelIn, insideOf}
-use Rattle.stepping.specs.Configurations.{configOf, Holds, Settleable}
+use Rattle.tables.specs.Valid.{MachinesValid, QueuesValid}
+use Rattle.stepping.specs.Configurations.{runOf, configOf, Holds, Settleable}
+use Rattle.stepping.specs.Laws.Settling.{record-is}
 use Rattle.stepping.specs.Inside.{Mapped}
 use Rattle.stepping.specs.Taking.{Takeable, Stays, Takes}
 use Rattle.stepping.specs.declared.frame.Frame.{Frame}
@@ -26,7 +28,7 @@ use Rattle.stepping.specs.declared.runs.RunRecord.{RunRecord}
 use Rattle.stepping.specs.declared.taking.Took.the-variants.{Yes, NotPossible, NoRoom}
 use Rattle.replay.specs.Flat.{rowsIn, finalsIn, arcsIn, rootsIn}
 use Rattle.replay.specs.Reply.{ran, saidStop}
-use Rattle.replay.specs.Run.{State, state, sessionIn, stands, Ready, Turned, on, off, Stepped, Stopped, TurnAsked}
+use Rattle.replay.specs.Run.{State, state, sessionIn, stands, Ready, Turned, on, off, Stepped, Stopped, Ends, TurnAsked}
 use Rattle.replay.specs.declared.progress.Stop.{Stop}
 use Rattle.replay.specs.declared.progress.Stop.the-variants.{End, Outside, Unread}
 use Rattle.replay.specs.declared.progress.Progress.{Progress}
@@ -151,14 +153,26 @@ module _ {f : Frame} {flat s : List ℕ} {x : State} (R : Ready f flat s x) wher
         few = omega (arith, R .counted, R .within, R .most);
       }
 
--- a refused step leaves what the form of the end asks
-pub stays-settleable : {f : Frame} {rows : List ℕ} {r r′ : RunRecord} {mem mem′ : List ℕ} {i : ℕ} → Takeable f rows r mem i
-    → Stays r mem r′ mem′ → Settleable f r′ mem′
-stays-settleable {f} {r′ = r′} {mem = mem} A s =
-    record {
-      machines = A .machines;
-      queues = A .queues;
-      holds =
-          subst (λ m. Holds (f .machines) (f .queues) r′ m) (sym (s .kept))
-          (subst (λ z. Holds (f .machines) (f .queues) z mem) (sym (s .same)) (A .holds));
-    }
+-- THE FORM OF THE END, in the parts of the record
+module _ {f : Frame} {r : RunRecord} {mem : List ℕ} (M : MachinesValid (f .machines)) (Q : QueuesValid (f .queues))
+    (H : Holds (f .machines) (f .queues) r mem) where
+  pub held-settleable : Settleable f (r .heads) (r .lengths) mem
+  held-settleable = record { queues = Q; ringed = H .ringed; enough = H .enough }
+
+  pub held-stopped : {p a : Progress} {why : Stop} {hs mem′ : List ℕ} → Ends f (r .heads) (r .lengths) mem p why a hs mem′
+      → Stopped f (state r mem p) why (state (runOf (r .states) hs (r .lengths)) mem′ a)
+  held-stopped E =
+      record {
+        progress = E .progress;
+        lent =
+            ap (λ hs. runOf (r .states) hs (r .lengths)) (E .settled .heads)
+            ∙ record-is (f .machines) (f .queues) r mem M Q H;
+        memory = E .settled .memory;
+      }
+
+-- a refused step leaves what the configuration was
+pub stays-held : {f : Frame} {rows : List ℕ} {r r′ : RunRecord} {mem mem′ : List ℕ} {i : ℕ} → Takeable f rows r mem i
+    → Stays r mem r′ mem′ → Holds (f .machines) (f .queues) r′ mem′
+stays-held {f} {r′ = r′} {mem = mem} A s =
+    subst (λ m. Holds (f .machines) (f .queues) r′ m) (sym (s .kept))
+    (subst (λ z. Holds (f .machines) (f .queues) z mem) (sym (s .same)) (A .holds))

@@ -15,7 +15,7 @@ use Rattle.model.specs.Laws.Controls.{places-number}
 use Rattle.controls.specs.Controls.{sizesOf}
 use Rattle.rings.specs.Ring.{waiting, each, ringAt, rings}
 use Rattle.rings.specs.Laws.Waiting.{waiting-length}
-use Rattle.stepping.specs.Configurations.{configOf, Holds}
+use Rattle.stepping.specs.Configurations.{runOf, configOf, Holds}
 use Rattle.stepping.specs.After.{padded, recordAfter}
 use Rattle.stepping.specs.declared.runs.RunRecord.{RunRecord}
 
@@ -47,9 +47,9 @@ rings-lengths mem hs ls count h = each-lengths mem hs ls count 0 (omega arith)
 
 -- THE RECORD with its heads set to 0 is that of the end
 pub record-is : (m : Machines) (q : Queues) (r : RunRecord) (mem : List ℕ) → MachinesValid m → QueuesValid q → Holds m q r mem
-    → _≡_ {A = RunRecord} (record { states = r .states; heads = replicate mostQueues 0; lengths = r .lengths }) (recordAfter m (configOf m q r mem))
+    → runOf (r .states) (replicate mostQueues 0) (r .lengths) ≡ recordAfter m (configOf m q r mem)
 record-is m q r mem M Q H =
-    ap₂ (λ ss ls. record { states = ss; heads = replicate mostQueues 0; lengths = ls })
+    ap₂ (λ ss ls. runOf ss (replicate mostQueues 0) ls)
     (front-padded mostMachines (m .count) (r .states) (H .statesLong) (M .most) (H .rest)
     ∙ ap (padded mostMachines) (sym (places-number (sizesOf m) (take (m .count) (r .states)) (H .placed))))
     (front-padded mostQueues (q .count) (r .lengths) (H .ringed .lengthsLong) (Q .most) (H .ringed .rest)

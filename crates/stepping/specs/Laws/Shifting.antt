@@ -21,9 +21,8 @@ use Rattle.rings.specs.Laws.Waiting.{waiting-length, put-past, put-length}
 use Rattle.rings.specs.Laws.Rings.{rings-length, rings-at, rings-put, rings-taken, taken-length, fits-full}
 use Rattle.rings.specs.Laws.Words.{began-some, began-none}
 use Rattle.stepping.specs.Configurations.{InRings}
-use Rattle.stepping.specs.Taking.{Stays, Shiftable, Shifted, Shifts}
+use Rattle.stepping.specs.Taking.{Shiftable, Shifts}
 use Rattle.stepping.specs.Laws.Lists.{each-of-set}
-use Rattle.stepping.specs.declared.runs.RunRecord.{RunRecord}
 use Rattle.stepping.specs.declared.taking.Took.the-variants.{Yes, NotPossible, NoRoom}
 
 -- rings in which queue k has other messages
@@ -45,13 +44,13 @@ pub ringed-rings : {q : Queues} {hs ls mem : List ℕ} → QueuesValid q → InR
 ringed-rings Q R enough = record { most = Q .most; within = enough; placed = R .placed; held = R .held }
 
 -- QUEUE k AND A WORD of length n
-module _ {q : Queues} (r : RunRecord) (mem : List ℕ) (k n : ℕ) (w : List ℕ) (Q : QueuesValid q) (R : InRings q (r .heads) (r .lengths))
+module _ {q : Queues} (hs ls mem : List ℕ) (k n : ℕ) (w : List ℕ) (Q : QueuesValid q) (R : InRings q hs ls)
     (enough : q .count * room ≤ length mem) (h : k < q .count) (long : length w ≡ n) where
   abbrev queues : List (List ℕ)
-  queues = rings mem (r .heads) (r .lengths) (q .count)
+  queues = rings mem hs ls (q .count)
 
-  waits : getD (rings mem (r .heads) (r .lengths) (q .count)) k [] ≡ ringAt mem (r .heads) (r .lengths) k
-  waits = rings-at mem (r .heads) (r .lengths) (q .count) k h
+  waits : getD (rings mem hs ls (q .count)) k [] ≡ ringAt mem hs ls k
+  waits = rings-at mem hs ls (q .count) k h
 
   below-end : k * room + room ≤ q .count * room
   below-end =
@@ -62,87 +61,80 @@ module _ {q : Queues} (r : RunRecord) (mem : List ℕ) (k n : ℕ) (w : List ℕ
   few = omega (arith, Q .most)
 
   -- a send that would pass the room
-  sent-full : room < getD (r .lengths) k 0 + n → Shifts q (send k w) r mem NoRoom r mem
+  sent-full : room < getD ls k 0 + n → Shifts q (send k w) hs ls mem NoRoom hs ls mem
   sent-full l = (
     (set queues k (getD queues k [] ++ w), refl, fits-full queues k (getD queues k [] ++ w) inside (subst (λ x. room < x) (sym size) l)),
-    record { same = refl; kept = refl },
+    record { heads = refl; lengths = refl; memory = refl },
   )
     where
       inside : k < length queues
-      inside = omega (arith, rings-length mem (r .heads) (r .lengths) (q .count))
+      inside = omega (arith, rings-length mem hs ls (q .count))
 
-      size : length (getD queues k [] ++ w) ≡ getD (r .lengths) k 0 + n
+      size : length (getD queues k [] ++ w) ≡ getD ls k 0 + n
       size =
           length-append (getD queues k []) w
           ∙ ap (λ l. length l + length w) waits
-          ∙ ap (λ x. x + length w) (waiting-length mem (k * room) (getD (r .heads) k 0) (getD (r .lengths) k 0))
-          ∙ ap (λ x. getD (r .lengths) k 0 + x) long
+          ∙ ap (λ x. x + length w) (waiting-length mem (k * room) (getD hs k 0) (getD ls k 0))
+          ∙ ap (λ x. getD ls k 0 + x) long
 
   -- a send with room
-  sent : getD (r .lengths) k 0 + n ≤ room
-      → Shifts q (send k w) r mem Yes (record { states = r .states; heads = r .heads; lengths = set (r .lengths) k (getD (r .lengths) k 0 + n) })
-      (putRound mem (k * room) (getD (r .heads) k 0 + getD (r .lengths) k 0) w)
+  sent : getD ls k 0 + n ≤ room
+      → Shifts q (send k w) hs ls mem Yes hs (set ls k (getD ls k 0 + n))
+      (putRound mem (k * room) (getD hs k 0 + getD ls k 0) w)
   sent l =
       record {
-        unmoved = refl;
         acted = ap some (sym put);
         ringed =
-            subst (λ hs. InRings q hs (set (r .lengths) k (getD (r .lengths) k 0 + n))) (set-getD (r .heads) k 0)
-            (rings-set q (r .heads) (r .lengths) k (getD (r .heads) k 0) (getD (r .lengths) k 0 + n) R few h (R .placed k) l);
-        past = put-past mem (k * room) (getD (r .heads) k 0 + getD (r .lengths) k 0) w (q .count * room) below-end;
-        long = put-length mem (k * room) (getD (r .heads) k 0 + getD (r .lengths) k 0) w;
+            subst (λ hs. InRings q hs (set ls k (getD ls k 0 + n))) (set-getD hs k 0)
+            (rings-set q hs ls k (getD hs k 0) (getD ls k 0 + n) R few h (R .placed k) l);
+        past = put-past mem (k * room) (getD hs k 0 + getD ls k 0) w (q .count * room) below-end;
+        long = put-length mem (k * room) (getD hs k 0 + getD ls k 0) w;
       }
     where
-      put : rings (putRound mem (k * room) (getD (r .heads) k 0 + getD (r .lengths) k 0) w) (r .heads) (set (r .lengths) k (getD (r .lengths) k 0 + n)) (q .count)
+      put : rings (putRound mem (k * room) (getD hs k 0 + getD ls k 0) w) hs (set ls k (getD ls k 0 + n)) (q .count)
           ≡ set queues k (getD queues k [] ++ w)
       put =
-          ap (λ x. rings (putRound mem (k * room) (getD (r .heads) k 0 + getD (r .lengths) k 0) w) (r .heads) (set (r .lengths) k (getD (r .lengths) k 0 + x)) (q .count)) (sym long)
-          ∙ rings-put mem (r .heads) (r .lengths) (q .count) k w h (omega (arith, few, R .lengthsLong)) (omega arith) enough
+          ap (λ x. rings (putRound mem (k * room) (getD hs k 0 + getD ls k 0) w) hs (set ls k (getD ls k 0 + x)) (q .count)) (sym long)
+          ∙ rings-put mem hs ls (q .count) k w h (omega (arith, few, R .lengthsLong)) (omega arith) enough
 
   -- a receive whose queue does not begin with the word, and one whose queue does
-  unreceived : false ≡ began (strip w (ringAt mem (r .heads) (r .lengths) k)) → Shifts q (receive k w) r mem NotPossible r mem
+  unreceived : false ≡ began (strip w (ringAt mem hs ls k)) → Shifts q (receive k w) hs ls mem NotPossible hs ls mem
   unreceived e = (
     ap (λ l. Option·map (λ rest. set queues k rest) (strip w l)) waits
-        ∙ ap (Option·map (λ rest. set queues k rest)) (began-none (strip w (ringAt mem (r .heads) (r .lengths) k)) e),
-    record { same = refl; kept = refl },
+        ∙ ap (Option·map (λ rest. set queues k rest)) (began-none (strip w (ringAt mem hs ls k)) e),
+    record { heads = refl; lengths = refl; memory = refl },
   )
 
-  received-length : true ≡ began (strip w (ringAt mem (r .heads) (r .lengths) k)) → n ≤ getD (r .lengths) k 0
+  received-length : true ≡ began (strip w (ringAt mem hs ls k)) → n ≤ getD ls k 0
   received-length e =
-      let b = began-some (strip w (ringAt mem (r .heads) (r .lengths) k)) e in
-      omega (arith, taken-length mem (r .heads) (r .lengths) (q .count) k w (b .1))
+      let b = began-some (strip w (ringAt mem hs ls k)) e in
+      omega (arith, taken-length mem hs ls (q .count) k w (b .1))
 
-  received : true ≡ began (strip w (ringAt mem (r .heads) (r .lengths) k))
-      → Shifts q (receive k w) r mem Yes
-      (record {
-        states = r .states;
-        heads = set (r .heads) k ((getD (r .heads) k 0 + n) % room);
-        lengths = set (r .lengths) k (getD (r .lengths) k 0 - n);
-      }) mem
+  received : true ≡ began (strip w (ringAt mem hs ls k))
+      → Shifts q (receive k w) hs ls mem Yes (set hs k ((getD hs k 0 + n) % room)) (set ls k (getD ls k 0 - n)) mem
   received e =
       record {
-        unmoved = refl;
         acted =
             ap (λ l. Option·map (λ rest. set queues k rest) (strip w l)) waits
             ∙ ap (Option·map (λ rest. set queues k rest)) (b .1)
             ∙ ap some (sym left);
         ringed =
-            rings-set q (r .heads) (r .lengths) k ((getD (r .heads) k 0 + n) % room) (getD (r .lengths) k 0 - n) R few h (omega arith)
+            rings-set q hs ls k ((getD hs k 0 + n) % room) (getD ls k 0 - n) R few h (omega arith)
             (omega (arith, R .held k));
         past = refl;
         long = refl;
       }
     where
-      b : (rest : List ℕ) × (strip w (ringAt mem (r .heads) (r .lengths) k) ≡ some rest)
-      b = began-some (strip w (ringAt mem (r .heads) (r .lengths) k)) e
+      b : (rest : List ℕ) × (strip w (ringAt mem hs ls k) ≡ some rest)
+      b = began-some (strip w (ringAt mem hs ls k)) e
 
-      left : rings mem (set (r .heads) k ((getD (r .heads) k 0 + n) % room)) (set (r .lengths) k (getD (r .lengths) k 0 - n)) (q .count) ≡ set queues k (b .0)
+      left : rings mem (set hs k ((getD hs k 0 + n) % room)) (set ls k (getD ls k 0 - n)) (q .count) ≡ set queues k (b .0)
       left =
-          ap (λ x. rings mem (set (r .heads) k ((getD (r .heads) k 0 + x) % room)) (set (r .lengths) k (getD (r .lengths) k 0 - x)) (q .count)) (sym long)
-          ∙ rings-taken mem (r .heads) (r .lengths) (q .count) k w (b .1) h (omega (arith, few, R .headsLong)) (omega (arith, few, R .lengthsLong))
+          ap (λ x. rings mem (set hs k ((getD hs k 0 + x) % room)) (set ls k (getD ls k 0 - x)) (q .count)) (sym long)
+          ∙ rings-taken mem hs ls (q .count) k w (b .1) h (omega (arith, few, R .headsLong)) (omega (arith, few, R .lengthsLong))
 
 -- THE ROW'S queue and word
-module _ {q : Queues} {rows : List ℕ} {row : ℕ} {r : RunRecord} {mem : List ℕ} (S : Shiftable q rows row r mem) where
+module _ {q : Queues} {rows : List ℕ} {row : ℕ} {hs ls mem : List ℕ} (S : Shiftable q rows row hs ls mem) where
   pub queue-few : queueAt rows row < mostQueues
   queue-few = omega (arith, S .action .queue, S .queues .most)
 
@@ -156,34 +148,30 @@ module _ {q : Queues} {rows : List ℕ} {row : ℕ} {r : RunRecord} {mem : List 
       length-take-le (lengthAt rows row) (drop (wordEntry row) rows)
       (omega (arith, length-drop (wordEntry row) rows, S .action .most, S .within))
 
-  pub send-full : room < getD (r .lengths) (queueAt rows row) 0 + lengthAt rows row → Shifts q (send (queueAt rows row) (wordAt rows row)) r mem NoRoom r mem
-  send-full = sent-full r mem (queueAt rows row) (lengthAt rows row) (wordAt rows row) (S .queues) (S .ringed) (S .enough) (S .action .queue) word-length
+  pub send-full : room < getD ls (queueAt rows row) 0 + lengthAt rows row → Shifts q (send (queueAt rows row) (wordAt rows row)) hs ls mem NoRoom hs ls mem
+  send-full = sent-full hs ls mem (queueAt rows row) (lengthAt rows row) (wordAt rows row) (S .queues) (S .ringed) (S .enough) (S .action .queue) word-length
 
-  pub send-put : getD (r .lengths) (queueAt rows row) 0 + lengthAt rows row ≤ room
-      → Shifts q (send (queueAt rows row) (wordAt rows row)) r mem Yes
-      (record { states = r .states; heads = r .heads; lengths = set (r .lengths) (queueAt rows row) (getD (r .lengths) (queueAt rows row) 0 + lengthAt rows row) })
-      (putRound mem (queueAt rows row * room) (getD (r .heads) (queueAt rows row) 0 + getD (r .lengths) (queueAt rows row) 0) (wordAt rows row))
-  send-put = sent r mem (queueAt rows row) (lengthAt rows row) (wordAt rows row) (S .queues) (S .ringed) (S .enough) (S .action .queue) word-length
+  pub send-put : getD ls (queueAt rows row) 0 + lengthAt rows row ≤ room
+      → Shifts q (send (queueAt rows row) (wordAt rows row)) hs ls mem Yes
+      hs (set ls (queueAt rows row) (getD ls (queueAt rows row) 0 + lengthAt rows row))
+      (putRound mem (queueAt rows row * room) (getD hs (queueAt rows row) 0 + getD ls (queueAt rows row) 0) (wordAt rows row))
+  send-put = sent hs ls mem (queueAt rows row) (lengthAt rows row) (wordAt rows row) (S .queues) (S .ringed) (S .enough) (S .action .queue) word-length
 
-  pub receive-none : false ≡ began (strip (wordAt rows row) (ringAt mem (r .heads) (r .lengths) (queueAt rows row)))
-      → Shifts q (receive (queueAt rows row) (wordAt rows row)) r mem NotPossible r mem
-  receive-none = unreceived r mem (queueAt rows row) (lengthAt rows row) (wordAt rows row) (S .queues) (S .ringed) (S .enough) (S .action .queue) word-length
+  pub receive-none : false ≡ began (strip (wordAt rows row) (ringAt mem hs ls (queueAt rows row)))
+      → Shifts q (receive (queueAt rows row) (wordAt rows row)) hs ls mem NotPossible hs ls mem
+  receive-none = unreceived hs ls mem (queueAt rows row) (lengthAt rows row) (wordAt rows row) (S .queues) (S .ringed) (S .enough) (S .action .queue) word-length
 
-  pub receive-length : true ≡ began (strip (wordAt rows row) (ringAt mem (r .heads) (r .lengths) (queueAt rows row)))
-      → lengthAt rows row ≤ getD (r .lengths) (queueAt rows row) 0
-  receive-length = received-length r mem (queueAt rows row) (lengthAt rows row) (wordAt rows row) (S .queues) (S .ringed) (S .enough) (S .action .queue) word-length
+  pub receive-length : true ≡ began (strip (wordAt rows row) (ringAt mem hs ls (queueAt rows row)))
+      → lengthAt rows row ≤ getD ls (queueAt rows row) 0
+  receive-length = received-length hs ls mem (queueAt rows row) (lengthAt rows row) (wordAt rows row) (S .queues) (S .ringed) (S .enough) (S .action .queue) word-length
 
-  pub receive-taken : true ≡ began (strip (wordAt rows row) (ringAt mem (r .heads) (r .lengths) (queueAt rows row)))
-      → Shifts q (receive (queueAt rows row) (wordAt rows row)) r mem Yes
-      (record {
-        states = r .states;
-        heads = set (r .heads) (queueAt rows row) ((getD (r .heads) (queueAt rows row) 0 + lengthAt rows row) % room);
-        lengths = set (r .lengths) (queueAt rows row) (getD (r .lengths) (queueAt rows row) 0 - lengthAt rows row);
-      }) mem
-  receive-taken = received r mem (queueAt rows row) (lengthAt rows row) (wordAt rows row) (S .queues) (S .ringed) (S .enough) (S .action .queue) word-length
+  pub receive-taken : true ≡ began (strip (wordAt rows row) (ringAt mem hs ls (queueAt rows row)))
+      → Shifts q (receive (queueAt rows row) (wordAt rows row)) hs ls mem Yes
+      (set hs (queueAt rows row) ((getD hs (queueAt rows row) 0 + lengthAt rows row) % room)) (set ls (queueAt rows row) (getD ls (queueAt rows row) 0 - lengthAt rows row)) mem
+  receive-taken = received hs ls mem (queueAt rows row) (lengthAt rows row) (wordAt rows row) (S .queues) (S .ringed) (S .enough) (S .action .queue) word-length
 
-  pub local-stays : Shifts q local r mem Yes r mem
-  local-stays = record { unmoved = refl; acted = refl; ringed = S .ringed; past = refl; long = refl }
+  pub local-stays : Shifts q local hs ls mem Yes hs ls mem
+  local-stays = record { acted = refl; ringed = S .ringed; past = refl; long = refl }
 
 -- a kind that is neither local nor a send
 pub kind-receives : (k q : ℕ) (w : List ℕ) → (k ≡ 0 → ⊥) → (k ≡ 1 → ⊥) → actionOf k q w ≡ receive q w

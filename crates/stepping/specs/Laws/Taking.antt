@@ -26,14 +26,17 @@ use Rattle.trace.specs.Rules.{room, fits}
 use Rattle.rings.specs.Ring.{rings}
 use Rattle.rings.specs.Laws.Rings.{rings-fit}
 use Rattle.stepping.specs.Frame.{transitionsOf, modelIn}
-use Rattle.stepping.specs.Configurations.{configOf, Holds}
+use Rattle.stepping.specs.Configurations.{runOf, configOf, Holds}
 use Rattle.stepping.specs.Laws.Shifting.{ringed-rings}
-use Rattle.stepping.specs.Taking.{Takeable, Stays, Shiftable, Shifted, Shifts, Moves, Takes}
+use Rattle.stepping.specs.Taking.{Takeable, Stays, Shiftable, Shifted, Unshifted, Shifts, Takes}
 use Rattle.stepping.specs.Laws.Lists.{each-of-set}
 use Rattle.stepping.specs.declared.frame.Frame.{Frame}
 use Rattle.stepping.specs.declared.runs.RunRecord.{RunRecord}
 use Rattle.stepping.specs.declared.taking.Took.{Took}
 use Rattle.stepping.specs.declared.taking.Took.the-variants.{Yes, NotPossible, NoRoom}
+
+one-some : {o : Option Transition} {τ τ′ : Transition} → o ≡ some τ → o ≡ some τ′ → τ ≡ τ′
+one-some e e′ = cc
 
 module _ {f : Frame} {rows : List ℕ} {r : RunRecord} {mem : List ℕ} {i : ℕ} (A : Takeable f rows r mem i) where
   abbrev row : ℕ
@@ -58,7 +61,7 @@ module _ {f : Frame} {rows : List ℕ} {r : RunRecord} {mem : List ℕ} {i : ℕ
   pub number-few : i < 128
   number-few = omega (arith, A .number, A .transitions .most)
 
-  pub row-shiftable : Shiftable (f .queues) rows (i * rowLength) r mem
+  pub row-shiftable : Shiftable (f .queues) rows (i * rowLength) (r .heads) (r .lengths) mem
   row-shiftable =
       record {
         queues = A .queues;
@@ -99,10 +102,7 @@ module _ {f : Frame} {rows : List ℕ} {r : RunRecord} {mem : List ℕ} {i : ℕ
     refused-none e = go (take? (modelIn f rows) i before) refl
       where
         other : (γ : Configuration) → Taken (modelIn f rows) i before γ → none ≡ some γ
-        other γ T =
-            let same : some (T .transition) ≡ some (transitionAt rows row) = sym (T .numbered) ∙ numbered in
-            let one : T .transition ≡ transitionAt rows row = cc in
-            none-not-some e (ap (λ τ. act (τ .action) (before .queues)) (sym one) ∙ T .acted)
+        other γ T = none-not-some e (ap (λ τ. act (τ .action) (before .queues)) (one-some numbered (T .numbered)) ∙ T .acted)
 
         go : (o : Option Configuration) → take? (modelIn f rows) i before ≡ o → o ≡ none
         go none g = refl
@@ -114,47 +114,50 @@ module _ {f : Frame} {rows : List ℕ} {r : RunRecord} {mem : List ℕ} {i : ℕ
     taken-to : {qs : List (List ℕ)} → act action (before .queues) ≡ some qs → take? (modelIn f rows) i before ≡ some (after qs)
     taken-to {qs} e = is-taken (modelIn f rows) i before (transitionAt rows row) qs numbered is-at e
 
-    pub take-refused : {r′ : RunRecord} {mem′ : List ℕ} → Shifts (f .queues) action r mem NotPossible r′ mem′ → Takes f rows i r mem NotPossible r′ mem′
-    take-refused (e, s) = (refused-none e, s)
+    stays : {hs ls mem′ : List ℕ} → Unshifted (r .heads) (r .lengths) mem hs ls mem′ → Stays r mem (runOf (r .states) hs ls) mem′
+    stays u = record { same = ap₂ (runOf (r .states)) (u .heads) (u .lengths); kept = u .memory }
 
-    pub take-full : {r′ : RunRecord} {mem′ : List ℕ} → Shifts (f .queues) action r mem NoRoom r′ mem′ → Takes f rows i r mem NoRoom r′ mem′
-    take-full ((qs, e, n), s) = ((after qs, taken-to e, n), s)
+    pub take-refused : {hs ls mem′ : List ℕ} → Shifts (f .queues) action (r .heads) (r .lengths) mem NotPossible hs ls mem′
+        → Takes f rows i r mem NotPossible (runOf (r .states) hs ls) mem′
+    take-refused (e, u) = (refused-none e, stays u)
+
+    pub take-full : {hs ls mem′ : List ℕ} → Shifts (f .queues) action (r .heads) (r .lengths) mem NoRoom hs ls mem′
+        → Takes f rows i r mem NoRoom (runOf (r .states) hs ls) mem′
+    take-full ((qs, e, n), u) = ((after qs, taken-to e, n), stays u)
 
     -- THE STEP IS TAKEN: the machine moves to its to-state
-    module _ {r′ : RunRecord} {mem′ : List ℕ} (s : Shifted (f .queues) action r mem r′ mem′) where
+    module _ {hs ls mem′ : List ℕ} (s : Shifted (f .queues) action (r .heads) (r .lengths) mem hs ls mem′) where
       abbrev arrived : RunRecord
-      arrived = record { states = set (r′ .states) (machineAt rows row) (toAt rows row); heads = r′ .heads; lengths = r′ .lengths }
+      arrived = runOf (set (r .states) (machineAt rows row) (toAt rows row)) hs ls
 
       states-moved : take (f .machines .count) (arrived .states) ≡ set (take (f .machines .count) (r .states)) (machineAt rows row) (toAt rows row)
       states-moved =
-          ap (λ l. take (f .machines .count) (set l (machineAt rows row) (toAt rows row))) (s .unmoved)
-          ∙ take-set-lt (f .machines .count) (r .states) (machineAt rows row) (toAt rows row) (row-valid .move .machine)
+          take-set-lt (f .machines .count) (r .states) (machineAt rows row) (toAt rows row) (row-valid .move .machine)
 
       led : moved (modelIn f rows) (before .control) (transitionAt rows row) ≡ number (sizesOf (f .machines)) (take (f .machines .count) (arrived .states))
       led =
           ap (λ ps. number (sizesOf (f .machines)) (set ps (machineAt rows row) (toAt rows row))) placed
           ∙ ap (number (sizesOf (f .machines))) (sym states-moved)
 
-      contents-kept : Contents (modelIn f rows) (rings mem′ (r′ .heads) (r′ .lengths) (f .queues .count))
+      contents-kept : Contents (modelIn f rows) (rings mem′ hs ls (f .queues .count))
       contents-kept =
-          contents-act (modelIn f rows) action (before .queues) (rings mem′ (r′ .heads) (r′ .lengths) (f .queues .count))
+          contents-act (modelIn f rows) action (before .queues) (rings mem′ hs ls (f .queues .count))
           (words-own (f .machines) (f .queues) (transitionsOf f rows) (A .queues) (A .transitions) (transitionAt rows row)
           (at-place (modelIn f rows .transitions) i numbered)) (A .holds .contents) (s .acted)
 
       arrived-holds : Holds (f .machines) (f .queues) arrived mem′
       arrived-holds =
           record {
-            statesLong = length-set (r′ .states) (machineAt rows row) (toAt rows row) ∙ ap length (s .unmoved) ∙ A .holds .statesLong;
+            statesLong = length-set (r .states) (machineAt rows row) (toAt rows row) ∙ A .holds .statesLong;
             placed =
                 subst (States (sizesOf (f .machines))) (sym states-moved)
                 (states-set (sizesOf (f .machines)) (take (f .machines .count) (r .states)) (machineAt rows row) (toAt rows row)
                 (subst (λ n. toAt rows row < n) (sym (size-at (f .machines) (A .machines) (machineAt rows row) (row-valid .move .machine))) (row-valid .move .to))
                 (A .holds .placed));
             rest =
-                each-of-set (λ j x. f .machines .count ≤ j → x ≡ 0) (r′ .states) (machineAt rows row) (toAt rows row)
-                (omega (arith, machine-few, ap length (s .unmoved), A .holds .statesLong))
-                (λ l. absurd (omega (arith, row-valid .move .machine)))
-                (λ j _ l. ap (λ x. getD x j 0) (s .unmoved) ∙ A .holds .rest j l);
+                each-of-set (λ j x. f .machines .count ≤ j → x ≡ 0) (r .states) (machineAt rows row) (toAt rows row)
+                (omega (arith, machine-few, A .holds .statesLong)) (λ l. absurd (omega (arith, row-valid .move .machine)))
+                (λ j _ l. A .holds .rest j l);
             ringed = s .ringed;
             contents = contents-kept;
             enough = omega (arith, A .holds .enough, s .long);
@@ -163,7 +166,7 @@ module _ {f : Frame} {rows : List ℕ} {r : RunRecord} {mem : List ℕ} {i : ℕ
       pub take-yes : Takes f rows i r mem Yes arrived mem′
       take-yes =
           record {
-            taken = taken-to (s .acted) ∙ ap (λ c. some (record { control = c; queues = rings mem′ (r′ .heads) (r′ .lengths) (f .queues .count) })) led;
+            taken = taken-to (s .acted) ∙ ap (λ c. some (record { control = c; queues = rings mem′ hs ls (f .queues .count) })) led;
             fitting = rings-fit (ringed-rings (A .queues) (s .ringed) (omega (arith, A .holds .enough, s .long)));
             holds = arrived-holds;
             past = s .past;

@@ -8,7 +8,7 @@ use Rattle.controls.proofs.numbering.control_of.Reads as control-of-rea
 
 -- src/begin.rt:16:5
 control-of-requires : tie.Need-control-of-requires
-control-of-requires c κs = (c .before .pre, starts-are-states (c .before .args .m) (c .before .pre))
+control-of-requires c κs = (c .before .before .pre, starts-are-states (c .before .before .args .m) (c .before .before .pre))
 
 -- src/begin.rt:11:1
 returns : tie.Need-returns

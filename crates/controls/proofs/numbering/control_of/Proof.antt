@@ -17,7 +17,7 @@ wide-requires c κs = search needs
 
 -- src/numbering.rt:34:23
 number-of-requires : tie.Need-number-of-requires
-number-of-requires c κs = rw (c .wide .ensures .same) (read-numberable (c .before .before .args .m) (c .before .before .pre .0) _ (omega (arith, c .before .before .pre .0 .most)) (c .before .before .pre .1))
+number-of-requires c κs = rw (c .wide .ensures .same) (read-numberable (c .before .before .args .m) (c .before .before .pre .0) _ (c .before .before .pre .1))
 
 -- src/numbering.rt:34:5
 new-requires : tie.Need-new-requires

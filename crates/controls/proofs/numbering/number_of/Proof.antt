@@ -13,10 +13,10 @@ use Rattle.controls.proofs.numbering.number_of.Lts as lts
 use Rattle.numbers.proofs.number.wide.Reads as wide-reads
 
 abbrev Inv-loop : tie.InvT-loop
-Inv-loop count states at sum₀ i₀ sum i = (withRest states at count i sum ≡ number (take count states) (take count at)) × (i ≤ count)
+Inv-loop at count states sum₀ i₀ sum i = (withRest states at count i sum ≡ number (take count states) (take count at)) × (i ≤ count)
 
 abbrev μ-loop : tie.MeasureT-loop
-μ-loop count states at sum₀ i₀ sum i = count - i
+μ-loop at count states sum₀ i₀ sum i = count - i
 
 -- src/numbering.rt:20:5
 loop-holds : tie.Need-loop-holds Inv-loop μ-loop
@@ -35,8 +35,8 @@ mul-sum : tie.Need-mul-sum Inv-loop μ-loop
 mul-sum c = let l = number-small _ _ _ (c .before .before .loop .i) _ (c .before .before .before .pre) (c .before .before .loop .inv .0) in let k : c .wide .result ≤ 256 = omega (arith, c .wide .ensures .small) in omega (arith, mul-le-mul l k)
 
 -- src/numbering.rt:21:44
-array-read-wide-2 : tie.Need-array-read-wide-2 Inv-loop μ-loop
-array-read-wide-2 c = omega (arith, c .before .before .before .pre .stepped .most)
+element-copy-out-wide : tie.Need-element-copy-out-wide Inv-loop μ-loop
+element-copy-out-wide c = omega (arith, c .before .before .before .pre .stepped .most)
 
 -- src/numbering.rt:21:39
 wide-requires-2 : tie.Need-wide-requires-2 Inv-loop μ-loop
@@ -44,7 +44,7 @@ wide-requires-2 c κs = search needs
 
 -- src/numbering.rt:21:15
 add-sum : tie.Need-add-sum Inv-loop μ-loop
-add-sum c = let l = number-small _ _ _ (c .before .before .before .loop .i) _ (c .before .before .before .before .pre) (c .before .before .before .loop .inv .0) in let k : c .before .wide .result ≤ 256 = omega (arith, c .before .wide .ensures .small) in omega (arith, mul-le-mul l k, c .wide2 .ensures .small)
+add-sum c = let l = number-small _ _ _ (c .before .before .before .before .loop .i) _ (c .before .before .before .before .before .pre) (c .before .before .before .before .loop .inv .0) in let k : c .before .before .wide .result ≤ 256 = omega (arith, c .before .before .wide .ensures .small) in omega (arith, mul-le-mul l k, c .wide2 .ensures .small)
 
 -- src/numbering.rt:22:9
 add-i : tie.Need-add-i Inv-loop μ-loop
@@ -56,7 +56,7 @@ loop-less c = search needs
 
 -- src/numbering.rt:20:5
 loop-again : tie.Need-loop-again Inv-loop μ-loop
-loop-again c = (sym (number-step _ _ _ _ _ _ _ (c .before .before .before .before .pre) (c .before .before .loop-test .taken) (c .before .wide .ensures .same) (c .wide2 .ensures .same)) ∙ c .before .before .before .loop .inv .0, omega arith)
+loop-again c = (sym (number-step _ _ _ _ _ _ _ (c .before .before .before .before .before .pre) (c .before .before .before .loop-test .taken) (c .before .before .wide .ensures .same) (c .wide2 .ensures .same)) ∙ c .before .before .before .before .loop .inv .0, omega arith)
 
 -- src/numbering.rt:14:1
 returns : tie.Need-returns Inv-loop μ-loop
@@ -72,7 +72,7 @@ number-of-spec =
     array-read-wide
     wide-requires
     mul-sum
-    array-read-wide-2
+    element-copy-out-wide
     wide-requires-2
     add-sum
     add-i

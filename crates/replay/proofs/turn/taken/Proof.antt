@@ -1,5 +1,5 @@
 use mathlib.Core.Path.{refl}
-use Rattle.replay.specs.Laws.Turn.{turned-untaken, turned-full, turned-on, stays-settleable}
+use Rattle.replay.specs.Laws.Turn.{turned-untaken, turned-full, turned-on, held-settleable, held-stopped, stays-held}
 use borrow.Author.Needs.{needs}
 use Rattle.replay.proofs.turn.taken.Statement.{statement}
 use Rattle.replay.proofs.turn.taken.Tie as tie
@@ -8,57 +8,59 @@ use Rattle.replay.proofs.turn.taken.Lts as lts
 use Rattle.replay.proofs.turn.stopped.Reads as stopped-reads
 use Rattle.stepping.proofs.taking.take.Reads as take-reads
 
--- src/turn.rt:46:9
+-- src/turn.rt:62:9
 take-requires : tie.Need-take-requires
 take-requires c κs = search needs
 
--- src/turn.rt:50:49
+-- src/turn.rt:64:38
 enum-told : tie.Need-enum-told
 enum-told c = search needs
 
--- src/turn.rt:50:30
+-- src/turn.rt:64:30
 stopped-requires : tie.Need-stopped-requires
-stopped-requires c κs = let A = c .before .before .before .before .before .before .before .before .before .before .pre .takeable in let T = rw (c .before .enum-told .given .1) at (c .before .before .before .before .before .before .take .ensures (c .before .before .before .before .before .before .before .before .before .before .args .f) A) in stays-settleable A (T .1)
+stopped-requires c κs = let A = c .before .before .before .before .before .before .before .before .before .before .before .before .before .before .pre .takeable in let T = rw (c .before .before .before .enum-told .given .1) at (c .before .before .before .before .before .before .before .take .ensures (c .before .before .before .before .before .before .before .before .before .before .before .before .before .before .args .f) A) in held-settleable (A .machines) (A .queues) (stays-held A (T .1))
 
--- src/turn.rt:51:44
+-- src/turn.rt:65:33
 enum-told-2 : tie.Need-enum-told-2
 enum-told-2 c = search needs
 
--- src/turn.rt:51:25
+-- src/turn.rt:65:25
 stopped-requires-2 : tie.Need-stopped-requires-2
-stopped-requires-2 c κs = let A = c .before .before .before .before .before .before .before .before .before .before .pre .takeable in let T = rw (c .before .enum-told2 .given .1) at (c .before .before .before .before .before .before .take .ensures (c .before .before .before .before .before .before .before .before .before .before .args .f) A) in stays-settleable A (T .1)
+stopped-requires-2 c κs = let A = c .before .before .before .before .before .before .before .before .before .before .before .before .before .before .pre .takeable in let T = rw (c .before .before .before .enum-told2 .given .1) at (c .before .before .before .before .before .before .before .take .ensures (c .before .before .before .before .before .before .before .before .before .before .before .before .before .before .args .f) A) in held-settleable (A .machines) (A .queues) (stays-held A (T .1))
 
--- src/turn.rt:55:22
+-- src/turn.rt:68:18
 enum-told-3 : tie.Need-enum-told-3
 enum-told-3 c = search needs
 
--- src/turn.rt:57:24
-add-t22 : tie.Need-add-t22
-add-t22 c = search needs
+-- src/turn.rt:70:20
+add-t28 : tie.Need-add-t28
+add-t28 c = search needs
 
--- src/turn.rt:42:1
+-- src/turn.rt:48:1
 same-length : tie.Need-same-length
 same-length c = search needs
 
--- src/turn.rt:42:1
+-- src/turn.rt:48:1
 returns : tie.Need-returns
-returns c = turned-untaken _ _ _ _ _ (rw (c .before .before .before .before .enum-told .given .1) at (c .before .before .before .before .before .before .before .before .before .take .ensures (c .before .before .before .before .before .before .before .before .before .before .before .before .before .args .f) (c .before .before .before .before .before .before .before .before .before .before .before .before .before .pre .takeable))) refl (c .before .before .stopped .ensures)
+returns c = let A = c .before .before .before .before .before .before .before .before .before .before .before .before .before .before .before .before .before .pre .takeable in let T = rw (c .before .before .before .before .before .before .enum-told .given .1) at (c .before .before .before .before .before .before .before .before .before .before .take .ensures (c .before .before .before .before .before .before .before .before .before .before .before .before .before .before .before .before .before .args .f) A) in
+    turned-untaken _ _ _ _ _ T refl (held-stopped (A .machines) (A .queues) (stays-held A (T .1)) (c .before .before .stopped .ensures))
 
--- src/turn.rt:42:1
+-- src/turn.rt:48:1
 same-length-2 : tie.Need-same-length-2
 same-length-2 c = search needs
 
--- src/turn.rt:42:1
+-- src/turn.rt:48:1
 returns-2 : tie.Need-returns-2
-returns-2 c = turned-full _ _ _ _ _ (rw (c .before .before .before .before .enum-told2 .given .1) at (c .before .before .before .before .before .before .before .before .before .take .ensures (c .before .before .before .before .before .before .before .before .before .before .before .before .before .args .f) (c .before .before .before .before .before .before .before .before .before .before .before .before .before .pre .takeable))) refl (c .before .before .stopped2 .ensures)
+returns-2 c = let A = c .before .before .before .before .before .before .before .before .before .before .before .before .before .before .before .before .before .pre .takeable in let T = rw (c .before .before .before .before .before .before .enum-told2 .given .1) at (c .before .before .before .before .before .before .before .before .before .before .take .ensures (c .before .before .before .before .before .before .before .before .before .before .before .before .before .before .before .before .before .args .f) A) in
+    turned-full _ _ _ _ _ T refl (held-stopped (A .machines) (A .queues) (stays-held A (T .1)) (c .before .before .stopped2 .ensures))
 
--- src/turn.rt:42:1
+-- src/turn.rt:48:1
 same-length-3 : tie.Need-same-length-3
 same-length-3 c = search needs
 
--- src/turn.rt:42:1
+-- src/turn.rt:48:1
 returns-3 : tie.Need-returns-3
-returns-3 c = turned-on _ _ _ _ _ (rw (c .before .enum-told3 .given .1) at (c .before .before .before .before .before .before .take .ensures (c .before .before .before .before .before .before .before .before .before .before .args .f) (c .before .before .before .before .before .before .before .before .before .before .pre .takeable))) refl refl refl
+returns-3 c = turned-on _ _ _ _ _ (rw (c .before .enum-told3 .given .1) at (c .before .before .before .before .before .take .ensures (c .before .before .before .before .before .before .before .before .before .before .before .before .args .f) (c .before .before .before .before .before .before .before .before .before .before .before .before .pre .takeable))) refl refl refl
 
 pub taken-spec : {M : Type 1} → statement M
 taken-spec =
@@ -70,7 +72,7 @@ taken-spec =
     enum-told-2
     stopped-requires-2
     enum-told-3
-    add-t22
+    add-t28
     same-length
     returns
     same-length-2
