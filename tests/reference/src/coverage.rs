@@ -1,14 +1,18 @@
-//! What the generated files and questions hit: rows, boundaries, verdicts, and mistakes they would tell.
+//! What the generated files, questions and replays hit: rows, boundaries, verdicts, ends, and mistakes they would tell.
 
 use std::collections::{BTreeMap, BTreeSet};
 
 use crate::generate::draft::Role;
 use crate::generate::membership::Purpose;
 use crate::generate::reading::{Expected, Generator};
+use crate::generate::replay as replays;
 use crate::generate::verdicts;
 use crate::long_words::{self, has_long_word};
 use crate::membership::{membership, membership_line};
 use crate::read::{read, Kind, Refusal, Tables, WORD_LENGTH};
+use crate::replay::replay;
+use crate::replay_features;
+use crate::replay_traps::{replay_with, ReplayTrap};
 use crate::stream::Question;
 use crate::traps::{verdict_with, Trap};
 use crate::verdict::{line, Verdict};
@@ -282,6 +286,53 @@ pub fn membership_coverage(questions: &[(Purpose, Question)]) -> Coverage {
     let mut report = format!("{} questions\n", questions.len());
     for (reply, count) in &replies {
         report += &format!("{reply}: {count}\n");
+    }
+    Coverage { report, complaints }
+}
+
+/// Each mistake changes the line of at least this many replays.
+const ENOUGH_REPLAYS_TOLD: usize = 10;
+/// Mistakes are tried on traces up to this many bytes, but for those about long traces.
+const SHORT_TRACE: usize = 600;
+
+pub fn replay_coverage(cases: &[replays::Case]) -> Coverage {
+    let asked = replay_features::asked();
+    let mut features: BTreeMap<String, usize> = asked.keys().map(|feature| (feature.clone(), 0)).collect();
+    let mut told = BTreeMap::from(ReplayTrap::ALL.map(|trap| (trap, 0)));
+    let mut complaints = Vec::new();
+    let mut bytes = 0;
+    for (index, replays::Case { kind, replay: asked, expected }) in cases.iter().enumerate() {
+        bytes += asked.file.len() + asked.trace.len();
+        let lent = asked.lent();
+        let answer = replay(&asked.file, &asked.trace, &lent);
+        if expected.is_some_and(|expected| expected != answer.reply) {
+            complaints.push(format!("replay {index} ({kind}): made for {expected:?}, but {}", answer.reply));
+        }
+        for feature in replay_features::features(asked, &answer) {
+            features.entry(feature).and_modify(|count| *count += 1);
+        }
+        let is_short = asked.trace.len() <= SHORT_TRACE;
+        for (&trap, count) in told.iter_mut().filter(|(trap, _)| is_short || trap.is_of_long_traces()) {
+            *count += usize::from(replay_with(&asked.file, &asked.trace, &lent, Some(trap)) != answer);
+        }
+    }
+    for (feature, &enough) in &asked {
+        let count = features[feature];
+        if count < enough {
+            complaints.push(format!("only {count} replays have: {feature}"));
+        }
+    }
+    for (trap, &count) in &told {
+        if count < ENOUGH_REPLAYS_TOLD {
+            complaints.push(format!("only {count} replays tell {trap:?}"));
+        }
+    }
+    let mut report = format!("{} replays, {bytes} bytes of files and traces\n", cases.len());
+    for (feature, count) in &features {
+        report += &format!("{feature}: {count}\n");
+    }
+    for (trap, count) in &told {
+        report += &format!("replays whose line would change by {trap:?}: {count}\n");
     }
     Coverage { report, complaints }
 }

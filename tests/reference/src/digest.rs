@@ -1,6 +1,8 @@
-//! One number over all entries of the tables, used or not, and the line that reading is compared by.
+//! One number over all entries of the tables, used or not, or over all bytes of a replay's memory, and the lines that
+//! reading and replaying are compared by.
 
 use crate::read::{Refusal, Tables};
+use crate::replay::Answer;
 
 const MODULUS: u64 = 16_777_213;
 
@@ -72,4 +74,17 @@ pub fn reading_line(reply: &Result<Tables, Refusal>) -> String {
             digest(tables)
         ),
     }
+}
+
+/// The same over all bytes of the memory.
+pub fn memory_digest(memory: &[u8]) -> u64 {
+    let mut digest = Digest(0);
+    digest.add_all(memory);
+    digest.0
+}
+
+/// The reply, the record's numbers, and the digest of the memory, with bars between them.
+pub fn replay_line(answer: &Answer) -> String {
+    let record: Vec<String> = answer.lent.record.numbers().map(|number| number.to_string()).collect();
+    format!("{} | {} | {}", answer.reply, record.join(" "), memory_digest(&answer.lent.memory))
 }

@@ -1,5 +1,5 @@
-//! An independent reference for Swarmbanner, written from its document alone: reading, membership, verdicts, and
-//! generators of files to compare by.
+//! An independent reference for Swarmbanner, written from its documents alone: reading, membership, verdicts, replays,
+//! and generators of files to compare by.
 
 pub mod coverage;
 pub mod decide;
@@ -10,6 +10,10 @@ pub mod long_words;
 pub mod membership;
 pub mod random;
 pub mod read;
+pub mod replay;
+pub mod replay_features;
+pub mod replay_traps;
+pub mod rings;
 pub mod selftest;
 pub mod stream;
 pub mod traps;

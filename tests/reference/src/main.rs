@@ -1,21 +1,23 @@
-//! Streams of files and questions, and the lines that answer them.
+//! Streams of files, questions and replays, and the lines that answer them.
 
 use std::cell::Cell;
 use std::io::{self, BufWriter, Read, Write};
 use std::process::ExitCode;
 
-use reference_checker::coverage::{membership_coverage, reading_coverage, verdict_coverage, Coverage};
+use reference_checker::coverage::{membership_coverage, reading_coverage, replay_coverage, verdict_coverage, Coverage};
 use reference_checker::decide::{decide, TooLarge};
-use reference_checker::digest::reading_line;
+use reference_checker::digest::{reading_line, replay_line};
 use reference_checker::generate::large::maximal_closed;
 use reference_checker::generate::membership::questions;
 use reference_checker::generate::reading::reading_cases;
+use reference_checker::generate::replay::replay_cases;
 use reference_checker::generate::verdicts::verdict_cases;
 use reference_checker::membership::{membership, membership_line};
 use reference_checker::random::Random;
 use reference_checker::read::read;
+use reference_checker::replay::replay;
 use reference_checker::selftest::{selftest, Agreement};
-use reference_checker::stream::{put_file, put_question, Question, Records};
+use reference_checker::stream::{put_file, put_question, put_replay, Question, Records};
 use reference_checker::verdict::{line, Reply};
 use reference_checker::walk::{check, Scratch};
 
@@ -33,6 +35,9 @@ usage: reference COMMAND
   generate-verdicts      write the stream of files for checking
   verdicts               answer such a stream on standard input, one line a file
   coverage-verdicts      say what that stream hits, and which mistakes it would tell
+  generate-replay        write the stream of replays
+  replay                 answer such a stream on standard input, one line a replay
+  coverage-replay        say what that stream hits, and which mistakes it would tell
   selftest SEED COUNT    compare all ways to the verdict on random small files
   check                  check one file on standard input, by walking
   maximal                write the longest file that is read";
@@ -85,6 +90,15 @@ fn run(arguments: &[String]) -> Result<(), String> {
         }
         ["membership"] => answer_questions(),
         ["coverage-membership"] => tell(membership_coverage(&questions(SEED))),
+        ["generate-replay"] => {
+            let mut stream = Vec::new();
+            for case in replay_cases(SEED) {
+                put_replay(&mut stream, &case.replay);
+            }
+            write(&stream)
+        }
+        ["replay"] => answer_replays(),
+        ["coverage-replay"] => tell(replay_coverage(&replay_cases(SEED))),
         ["check"] => {
             let file = standard_input()?;
             println!("{}", line(&check(&file, &mut Scratch::default())));
@@ -152,6 +166,18 @@ fn answer_questions() -> Result<(), String> {
     while let Some(question) = records.question() {
         let Question { file, control_state, contents } = question?;
         let line = membership_line(&membership(&file, control_state, &contents));
+        writeln!(lines, "{line}").map_err(|error| error.to_string())?;
+    }
+    lines.flush().map_err(|error| error.to_string())
+}
+
+fn answer_replays() -> Result<(), String> {
+    let stream = standard_input()?;
+    let mut records = Records(&stream);
+    let mut lines = BufWriter::new(io::stdout().lock());
+    while let Some(asked) = records.replay() {
+        let asked = asked?;
+        let line = replay_line(&replay(&asked.file, &asked.trace, &asked.lent()));
         writeln!(lines, "{line}").map_err(|error| error.to_string())?;
     }
     lines.flush().map_err(|error| error.to_string())

@@ -132,15 +132,15 @@ impl Tables {
 }
 
 /// The bytes and how far they are read.
-struct Reader<'a> {
-    bytes: &'a [u8],
-    place: usize,
+pub(crate) struct Reader<'a> {
+    pub(crate) bytes: &'a [u8],
+    pub(crate) place: usize,
 }
 
 impl Reader<'_> {
     /// One number in groups of seven bits: refusals 3 and 4.
     #[inline]
-    fn number(&mut self) -> Result<usize, Refusal> {
+    pub(crate) fn number(&mut self) -> Result<usize, Refusal> {
         let Some(&first) = self.bytes.get(self.place) else {
             return refuse(3, self.bytes.len());
         };

@@ -1,11 +1,15 @@
-//! Seeded generators of files and questions. The same seed gives the same stream.
+//! Seeded generators of files, questions and replays. The same seed gives the same stream.
 
 mod damage;
 pub mod document;
 pub mod draft;
 pub mod large;
+mod limits;
 mod long;
 pub mod membership;
 pub mod plan;
 pub mod reading;
+pub mod replay;
+mod running;
+mod traces;
 pub mod verdicts;

@@ -1,0 +1,143 @@
+//! Replaying by the product's algorithm, as the measure of speed: each queue is kept in its room of the lent memory, which
+//! is used round and round, with its head and length in the lent record.
+
+use crate::read::{read, Kind, Reader, Refusal, Tables, Transition, MESSAGES};
+use crate::replay::{Record, Reply, LONGEST_TRACE, QUEUE_ROOM};
+
+type Ring = [u8; QUEUE_ROOM];
+
+/// The reply; record and memory are as `replay` says.
+pub fn replay_in_rings(record: &mut Record, file: &[u8], trace: &[u8], memory: &mut [u8]) -> Reply {
+    let tables = match read(file) {
+        Ok(tables) => tables,
+        Err(refusal) => return Reply::FileRefused(refusal),
+    };
+    if trace.len() > LONGEST_TRACE {
+        return Reply::TraceRefused(Refusal { number: 1, place: LONGEST_TRACE });
+    }
+    let Some(rings) = memory.as_chunks_mut().0.get_mut(..tables.queue_count) else {
+        return Reply::MemoryRefused(Refusal { number: 2, place: 0 });
+    };
+    *record = Record { states: tables.starts, ..Record::default() };
+    let reply = run(&tables, trace, record, rings);
+    for ((ring, head), &length) in rings.iter_mut().zip(&mut record.heads).zip(&record.lengths) {
+        ring.rotate_left(*head);
+        ring[length..].fill(0);
+        *head = 0;
+    }
+    reply
+}
+
+fn run(tables: &Tables, trace: &[u8], record: &mut Record, rings: &mut [Ring]) -> Reply {
+    let mut reader = Reader { bytes: trace, place: 0 };
+    let mut steps = 0;
+    loop {
+        if !is_inside(tables, record, rings) {
+            return Reply::Outside { steps };
+        }
+        let place = reader.place;
+        if place == trace.len() {
+            return Reply::End { steps };
+        }
+        let number = match reader.number() {
+            Ok(number) => number,
+            Err(refusal) => return Reply::StepRefused { refusal, steps },
+        };
+        let stepped = match tables.used_transitions().get(number) {
+            Some(transition) => step(transition, record, rings),
+            None => Err(5),
+        };
+        if let Err(number) = stepped {
+            return Reply::StepRefused { refusal: Refusal { number, place }, steps };
+        }
+        steps += 1;
+    }
+}
+
+/// All waiting messages are followed from the control state's root, until there is nowhere to go.
+#[inline]
+fn is_inside(tables: &Tables, record: &Record, rings: &[Ring]) -> bool {
+    let mut entry = tables.roots[control_state(tables, record)];
+    for ((ring, &head), &length) in rings.iter().zip(&record.heads).zip(&record.lengths) {
+        if length == 0 {
+            continue;
+        }
+        let (behind, ahead) = ring.split_at(head);
+        let before_end = length.min(ahead.len());
+        entry = follow(tables, entry, &ahead[..before_end]);
+        entry = follow(tables, entry, &behind[..length - before_end]);
+    }
+    entry > 0 && tables.finals[usize::from(entry) - 1]
+}
+
+#[inline]
+fn control_state(tables: &Tables, record: &Record) -> usize {
+    let machines = tables.states.iter().zip(&record.states).take(tables.machine_count);
+    machines.fold(0, |number, (&states, &state)| number * usize::from(states) + usize::from(state))
+}
+
+/// Where messages lead, as an entry of the table: 0 for nowhere, else 1 plus the state. Rows, and not one index, are what
+/// the compiler makes the shortest loop of.
+#[inline]
+fn follow(tables: &Tables, from: u8, messages: &[u8]) -> u8 {
+    let rows: &[[u8; MESSAGES]] = tables.arcs.as_chunks().0;
+    let mut entry = from;
+    for &message in messages {
+        let Some(row) = rows.get(usize::from(entry).wrapping_sub(1)) else { return 0 };
+        entry = row[usize::from(message)];
+    }
+    entry
+}
+
+/// Takes a transition, or says by which number it is refused.
+#[inline]
+fn step(transition: &Transition, record: &mut Record, rings: &mut [Ring]) -> Result<(), u8> {
+    let state = &mut record.states[usize::from(transition.machine)];
+    if *state != transition.from {
+        return Err(14);
+    }
+    let queue = usize::from(transition.queue);
+    let (ring, head, length) = (&mut rings[queue], &mut record.heads[queue], &mut record.lengths[queue]);
+    let word = transition.word();
+    match transition.kind {
+        Kind::Local => {}
+        Kind::Send => {
+            if *length + word.len() > QUEUE_ROOM {
+                return Err(15);
+            }
+            put(ring, (*head + *length) % QUEUE_ROOM, word);
+            *length += word.len();
+        }
+        Kind::Receive => {
+            if *length < word.len() || !has(ring, *head, word) {
+                return Err(14);
+            }
+            *head = (*head + word.len()) % QUEUE_ROOM;
+            *length -= word.len();
+        }
+    }
+    *state = transition.to;
+    Ok(())
+}
+
+/// Puts a word into the ring from a place on.
+#[inline]
+fn put(ring: &mut Ring, at: usize, word: &[u8]) {
+    if let Some(room) = ring.get_mut(at..at + word.len()) {
+        room.copy_from_slice(word);
+    } else {
+        let (front, rest) = word.split_at(QUEUE_ROOM - at);
+        ring[at..].copy_from_slice(front);
+        ring[..rest.len()].copy_from_slice(rest);
+    }
+}
+
+/// Whether a word stands in the ring from a place on.
+#[inline]
+fn has(ring: &Ring, at: usize, word: &[u8]) -> bool {
+    if let Some(front) = ring.get(at..at + word.len()) {
+        return front == word;
+    }
+    let (front, rest) = word.split_at(QUEUE_ROOM - at);
+    ring[at..] == *front && ring[..rest.len()] == *rest
+}
