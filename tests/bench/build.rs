@@ -1,8 +1,10 @@
-//! Links the proved static library, which `rt staticlib measured` has written.
+//! Links the proved static libraries: `rt staticlib measured` writes that of reading and checking, `rt staticlib capi` that
+//! of replaying.
 
 fn main() {
-    let library = concat!(env!("CARGO_MANIFEST_DIR"), "/../../target/staticlib");
-    println!("cargo:rustc-link-search=native={library}");
-    println!("cargo:rustc-link-lib=static=measured");
-    println!("cargo:rerun-if-changed={library}/libmeasured.a");
+    let folder = concat!(env!("CARGO_MANIFEST_DIR"), "/../../target/staticlib");
+    for (program, library) in [("swarmbanner-bench", "libmeasured.a"), ("replay", "libcapi.a")] {
+        println!("cargo:rustc-link-arg-bin={program}={folder}/{library}");
+        println!("cargo:rerun-if-changed={folder}/{library}");
+    }
 }

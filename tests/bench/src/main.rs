@@ -1,7 +1,7 @@
 //! Times of reading and checking. Not a test: nothing fails by being slow.
 //!
 //! Every subject is timed on the same files in the same run, so another implementation is compared by adding a
-//! `Subject` to `subjects`.
+//! `Subject` to `subjects`. The program `replay` has the times of replaying.
 //!
 //! `bench` leaves out the files with the most steps, which take minutes; `bench --whole` has them.
 //!
@@ -19,6 +19,7 @@ use reference_checker::random::Random;
 use reference_checker::read::read;
 use reference_checker::verdict::Verdict;
 use reference_checker::walk::{check, Scratch};
+use swarmbanner_bench::{report, time, Times};
 
 /// What is timed.
 trait Subject {
@@ -130,34 +131,6 @@ fn subjects() -> Vec<Box<dyn Subject>> {
     vec![Box::new(Reference { scratch: Scratch::default() }), Box::new(Product::default())]
 }
 
-const RUNS: usize = 9;
-const RUN_TIME: Duration = Duration::from_millis(40);
-
-/// Of one call, over several runs. On a busy machine the fastest says more than the median.
-struct Times {
-    median: Duration,
-    fastest: Duration,
-}
-
-/// Each run has as many calls as fill it.
-fn time(mut call: impl FnMut()) -> Times {
-    let mut calls = 1;
-    while run(&mut call, calls) < RUN_TIME && calls < 1 << 24 {
-        calls *= 2;
-    }
-    let mut times: Vec<Duration> = (0..RUNS).map(|_| run(&mut call, calls)).collect();
-    times.sort_unstable();
-    Times { median: times[RUNS / 2] / calls, fastest: times[0] / calls }
-}
-
-fn run(call: &mut impl FnMut(), calls: u32) -> Duration {
-    let start = Instant::now();
-    for _ in 0..calls {
-        call();
-    }
-    start.elapsed()
-}
-
 /// What is timed, and whether it may refuse long words.
 struct Bench {
     subjects: Vec<Box<dyn Subject>>,
@@ -225,11 +198,6 @@ fn found(checked: Checked, times: &Times) -> String {
         Checked::Shown { messages } => format!("{messages} messages shown"),
         Checked::Else => "neither closed nor shown".to_string(),
     }
-}
-
-fn report(what: &str, name: &str, subject: &str, times: &Times, found: &str) {
-    let (median, fastest) = (times.median.as_nanos(), times.fastest.as_nanos());
-    println!("{what:<6} {name:<28} {subject:<10} {median:>12} ns ({fastest} fastest): {found}");
 }
 
 fn report_refused(what: &str, name: &str, subject: &str) {
