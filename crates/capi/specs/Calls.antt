@@ -11,8 +11,10 @@ use Rattle.session.specs.File.{readFile, readReplyOf}
 use Rattle.tables.specs.declared.tables.Tables.{Tables}
 use Rattle.meaning.specs.Checking.{checkOf}
 use Rattle.diagram.specs.Member.{memberOf}
+use Rattle.replay.specs.Reply.{Outcome, replayOf}
 use Rattle.capi.specs.Told.{NO-ROOM, toldReply, toldAnswer, toldMember, replyAfter}
 use Rattle.capi.specs.Flat.{flat, tablesLeast}
+use Rattle.capi.specs.Replays.{toldReplay, runAfter, recordLeast, blank}
 use Rattle.capi.specs.declared.told.Told.{Told}
 
 -- is there space for a reply?
@@ -48,3 +50,20 @@ pub record CheckCall (file seen₀ queue₀ contents₀ reply₀ : List ℕ) (r 
   pub seen : seen₁ ≡ keepUnless (replyFits reply₀) (checkOf file seen₀ queue₀ contents₀ .seen) seen₀
   pub queue : queue₁ ≡ keepUnless (replyFits reply₀) (checkOf file seen₀ queue₀ contents₀ .queue) queue₀
   pub contents : contents₁ ≡ keepUnless (replyFits reply₀) (checkOf file seen₀ queue₀ contents₀ .contents) contents₀
+
+-- the replay that a call is about, and what it tells
+abbrev pub outcomeOf : List ℕ → List ℕ → List ℕ → Outcome
+outcomeOf file trace memory = replayOf file trace memory blank
+
+abbrev pub replayTold : List ℕ → List ℕ → List ℕ → Told
+replayTold file trace memory = toldReplay (outcomeOf file trace memory .reply) (outcomeOf file trace memory .steps)
+
+-- is there space for the numbers of the record, and for a reply?
+abbrev pub replayFits : List ℕ → List ℕ → Bool
+replayFits run reply = leb recordLeast (length run) && replyFits reply
+
+pub record ReplayCall (file trace memory₀ run₀ reply₀ : List ℕ) (r : ℕ) (memory₁ run₁ reply₁ : List ℕ) : Type 0 where
+  pub kind : r ≡ kindIf (replayFits run₀ reply₀) (replayTold file trace memory₀)
+  pub reply : reply₁ ≡ keepUnless (replayFits run₀ reply₀) (replyAfter (replayTold file trace memory₀) reply₀) reply₀
+  pub run : run₁ ≡ keepUnless (replayFits run₀ reply₀) (runAfter (outcomeOf file trace memory₀ .reply) (outcomeOf file trace memory₀ .lent) run₀) run₀
+  pub memory : memory₁ ≡ keepUnless (replayFits run₀ reply₀) (outcomeOf file trace memory₀ .queues) memory₀

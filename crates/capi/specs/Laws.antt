@@ -1,12 +1,14 @@
 -- Laws of what is told, of tables that are put one after the other, and of each call.
-use Prim.Native.Nat.{ℕ, _+_, _≤_, _<_}
-use mathlib.Core.Path.{_≡_, refl, sym, ap, subst, _∙_}
+use Prim.Native.Nat.{ℕ, _+_, _*_, _≤_, _<_}
+use mathlib.Core.Path.{_≡_, refl, sym, ap, ap₂, subst, _∙_}
 use mathlib.Core.Bool.{Bool, true, false, _&&_}
 use mathlib.Core.List.{List, [], _∷_, _++_}
-use lib.ListN.{length, drop, set, length-append}
+use lib.ListN.{length, drop, set, getD, length-append}
+use lib.Seq.{sets, sets-eq}
 use lib.Dec.{leb}
 use borrow.Author.Tests.{le-leb, lt-leb}
 use native.Mathlib.Omega.{arith}
+use Rattle.numbers.specs.Limits.{mostBytes}
 use Rattle.numbers.specs.Part.{Part, got, refused}
 use Rattle.session.specs.Said.{ReadReply, read, refusal, saidAnswer}
 use Rattle.session.specs.File.{readFile, readReplyOf, tablesOf, Reads}
@@ -26,11 +28,16 @@ use Rattle.numbers.specs.Laws.Put.{put-then, put-front}
 use Rattle.line.specs.Said.{said, shownBy}
 use Rattle.line.specs.declared.verdict.Verdict.{Verdict as Line}
 use Rattle.line.specs.declared.verdict.Verdict.the-variants.{Closed, Outside, Leaves, Bad, Refused}
+use Rattle.stepping.specs.declared.runs.RunRecord.{RunRecord}
+use Rattle.trace.specs.Rules.{room as queueRoom}
+use Rattle.replay.specs.Reply.{Reply, Outcome, lentTo, replayTo, replayOf, saidStop, Replays}
+use Rattle.replay.specs.declared.progress.Ended.{Ended}
 use Rattle.answer.specs.Printed.{printedOf}
 use Rattle.answer.specs.Laws.{counted-by}
 use Rattle.capi.specs.Told.{NO-ROOM, toldOf, toldReply, toldAnswer, toldMember, toldLine, replyAfter, Tells}
 use Rattle.capi.specs.Flat.{countsOf, small, large, flat, smallLong, largeLong, tablesLeast}
-use Rattle.capi.specs.Calls.{replyFits, kindIf, keepUnless, spaceAfter, ReadCall, MemberCall, CheckCall}
+use Rattle.capi.specs.Replays.{toldReplay, recordOut, recordLeast, runAfter, blank}
+use Rattle.capi.specs.Calls.{replyFits, kindIf, keepUnless, spaceAfter, outcomeOf, replayTold, replayFits, ReadCall, MemberCall, CheckCall, ReplayCall}
 use Rattle.capi.specs.declared.told.Told.{Told}
 
 -- TABLES ONE AFTER THE OTHER
@@ -196,3 +203,76 @@ module _ (file seen queue contents reply : List ℕ) where
         queue = checks .queue ∙ changed (replyFits reply) queue (whole .queue) e;
         contents = checks .contents ∙ changed (replyFits reply) contents (whole .contents) e;
       }
+
+-- REPLAYING
+-- a table of four, written out before others
+abbrev fourThen : List ℕ → List ℕ → List ℕ
+fourThen l rest = getD l 0 0 ∷ getD l 1 0 ∷ getD l 2 0 ∷ getD l 3 0 ∷ rest
+
+four-is : (l : List ℕ) → length l ≡ 4 → l ≡ fourThen l []
+four-is [] h = absurd (omega arith)
+four-is (a ∷ []) h = absurd (omega arith)
+four-is (a ∷ b ∷ []) h = absurd (omega arith)
+four-is (a ∷ b ∷ c ∷ []) h = absurd (omega arith)
+four-is (a ∷ b ∷ c ∷ d ∷ []) h = refl
+four-is (a ∷ b ∷ c ∷ d ∷ e ∷ l) h = absurd (omega arith)
+
+-- twelve numbers stored one by one
+pub record-stored : (run : List ℕ) (r : RunRecord) → recordLeast ≤ length run → length (r .states) ≡ 4 → length (r .heads) ≡ 4
+    → length (r .lengths) ≡ 4
+    → sets run 0 (fourThen (r .states) (fourThen (r .heads) (fourThen (r .lengths) []))) ≡ recordOut r ++ drop recordLeast run
+record-stored run r h a b c =
+    sets-eq (fourThen (r .states) (fourThen (r .heads) (fourThen (r .lengths) []))) run 0 h
+    ∙ sym (rw (four-is (r .states) a, four-is (r .heads) b, four-is (r .lengths) c))
+
+module _ (file trace memory run reply : List ℕ) where
+  replay-none : replayFits run reply ≡ false → ReplayCall file trace memory run reply NO-ROOM memory run reply
+  replay-none e =
+      let o = outcomeOf file trace memory in
+      record {
+        kind = kind-none (replayFits run reply) (replayTold file trace memory) e;
+        reply = kept (replayFits run reply) reply (replyAfter (replayTold file trace memory) reply) e;
+        run = kept (replayFits run reply) run (runAfter (o .reply) (o .lent) run) e;
+        memory = kept (replayFits run reply) memory (o .queues) e;
+      }
+
+  pub replay-short : length run < recordLeast → ReplayCall file trace memory run reply NO-ROOM memory run reply
+  replay-short h = replay-none (first-none (leb recordLeast (length run)) (replyFits reply) (lt-leb recordLeast (length run) h))
+
+  pub replay-unheard : length reply < 3 → ReplayCall file trace memory run reply NO-ROOM memory run reply
+  replay-unheard h = replay-none (second-none (leb recordLeast (length run)) (replyFits reply) (lt-leb 3 (length reply) h))
+
+  pub replay-told : {memory₁ run₁ reply₁ : List ℕ} {r : ℕ} {t : Told} → recordLeast ≤ length run → 3 ≤ length reply
+      → (e : Ended) (after : RunRecord) → Replays file trace memory blank e after memory₁ → run₁ ≡ runAfter (saidStop (e .why)) after run
+      → t ≡ toldReplay (saidStop (e .why)) (e .steps) → Tells t reply reply₁ r
+      → ReplayCall file trace memory run reply r memory₁ run₁ reply₁
+  replay-told {run₁ = run₁} {t = t} h l e after replays put told tells =
+      let o = outcomeOf file trace memory in
+      let roomy = both (leb recordLeast (length run)) (replyFits reply) (le-leb recordLeast (length run) h) (le-leb 3 (length reply) l) in
+      let same : t ≡ replayTold file trace memory = told ∙ ap₂ toldReplay (replays .reply) (replays .steps) in
+      let out : run₁ ≡ runAfter (o .reply) (o .lent) run = put ∙ ap₂ (λ x y. runAfter x y run) (replays .reply) (replays .lent) in
+      record {
+        kind = tells-kind (replayFits run reply) roomy same tells;
+        reply = tells-reply (replayFits run reply) roomy same tells;
+        run = out ∙ changed (replayFits run reply) run (runAfter (o .reply) (o .lent) run) roomy;
+        memory = replays .queues ∙ changed (replayFits run reply) memory (o .queues) roomy;
+      }
+
+-- what a call tells and leaves of a replay: the same from every record
+abbrev visible : Outcome → List ℕ → Reply × ℕ × List ℕ × List ℕ
+visible o run = (o .reply, o .steps, o .queues, runAfter (o .reply) (o .lent) run)
+
+visible-lent : (fits enough : Bool) (T : Tables) (s mem run : List ℕ) (r : RunRecord)
+    → visible (lentTo fits enough T s mem r) run ≡ visible (lentTo fits enough T s mem blank) run
+visible-lent false enough T s mem run r = refl
+visible-lent true false T s mem run r = refl
+visible-lent true true T s mem run r = refl
+
+visible-read : (x : Part Tables) (s mem run : List ℕ) (r : RunRecord) → visible (replayTo x s mem r) run ≡ visible (replayTo x s mem blank) run
+visible-read (refused k p) s mem run r = refl
+visible-read (got T next) s mem run r = visible-lent (leb (length s) mostBytes) (leb (T .queues .count * queueRoom) (length mem)) T s mem run r
+
+pub record-free : (file trace memory run : List ℕ) (r : RunRecord)
+    → visible (replayOf file trace memory r) run ≡ visible (outcomeOf file trace memory) run
+unfolding replayOf
+record-free file trace memory run r = visible-read (readFile file) trace memory run r

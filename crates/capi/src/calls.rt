@@ -2,6 +2,9 @@
 use crate::flat::LAYOUT;
 use crate::flat::TABLES_LEAST;
 use crate::flat::put_tables;
+use crate::replays::RECORD_LEAST;
+use crate::replays::put_run;
+use crate::replays::tell_replay;
 use crate::told::NO_ROOM;
 use crate::told::READ;
 use crate::told::REPLY_LEAST;
@@ -12,12 +15,16 @@ use crate::told::tell_refusal;
 use crate::told::tell_verdict;
 use answer::printed;
 use diagram::member::member;
+use replay::run::replay_from;
 use session::reading::Answer;
 use session::reading::read;
+use stepping::runs::RunRecord;
+use tables::tables::MOST_MACHINES;
+use tables::tables::MOST_QUEUES;
 use verdict::check::check;
 ghost use mathlib.Core.Path.{_≡_};
 ghost use Rattle.capi.specs.Flat.{layout};
-ghost use Rattle.capi.specs.Calls.{ReadCall, MemberCall, CheckCall};
+ghost use Rattle.capi.specs.Calls.{ReadCall, MemberCall, CheckCall, ReplayCall};
 
 // The number of the library's layout, for a program to compare with that of the header it was built with.
 #[no_mangle]
@@ -83,4 +90,35 @@ pub extern "C" fn swarmbanner_check(
     }
     let verdict = check(file, seen, queue, contents);
     put_told(reply, tell_verdict(printed(verdict)))
+}
+
+// Replays a trace, with the promises of `replay` about the queue memory. The record's numbers fill the front of their space; after a refusal
+// of file, trace or memory the space is as it was.
+#[no_mangle]
+pub extern "C" fn swarmbanner_replay(
+    file: &[u8],
+    trace: &[u8],
+    memory: &mut [u8],
+    run: &mut [usize],
+    reply: &mut [usize],
+) -> usize
+    ensures { λ r. ⌜ ReplayCall (now (file .entry)) (now (trace .entry)) (now (memory .entry)) (now (run .entry)) (now (reply .entry)) r (now (memory .exit)) (now (run .exit)) (now (reply .exit)) ⌝ }
+{
+    if run.len() < RECORD_LEAST {
+        return NO_ROOM;
+    }
+    if reply.len() < REPLY_LEAST {
+        return NO_ROOM;
+    }
+    let blank = RunRecord {
+        states: [0u8; MOST_MACHINES as usize],
+        heads: [0usize; MOST_QUEUES as usize],
+        lengths: [0usize; MOST_QUEUES as usize],
+    };
+    let replayed = replay_from(blank, file, trace, memory);
+    let ended = replayed.ended;
+    let why = ended.why;
+    let record = replayed.record;
+    put_run(run, why, record);
+    put_told(reply, tell_replay(ended))
 }
