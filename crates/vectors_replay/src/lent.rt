@@ -1,0 +1,39 @@
+// What a replay is lent, each made from a byte of the stream.
+use numbers::number::wide;
+use stepping::runs::RunRecord;
+ghost use Prim.Native.Nat.{_<_};
+
+fn low(x: usize) -> u8 {
+    (x % 256) as u8
+}
+
+// Byte i of the memory is m + 7 · i, modulo 256.
+pub(crate) fn fill(memory: &mut [u8], m: u8) {
+    let mut byte = m;
+    let mut i = 0;
+    while i < memory.len() {
+        memory[i] = byte;
+        byte = low(wide(byte) + 7);
+        i += 1;
+    }
+}
+
+// Four numbers, each one more than the one before.
+fn four_from(x: usize) -> [usize; 4]
+    requires { ⌜ x < 1000000 ⌝ }
+{
+    [x, x + 1, x + 2, x + 3]
+}
+
+// Entry i: of the states k + i, modulo 256; of the heads 1,000 · k + i; of the lengths 2,000 · k + i.
+pub(crate) fn record_from(k: u8) -> RunRecord {
+    let x = wide(k);
+    let states = [k, low(x + 1), low(x + 2), low(x + 3)];
+    let heads = four_from(1000 * x);
+    let lengths = four_from(2000 * x);
+    RunRecord {
+        states,
+        heads,
+        lengths,
+    }
+}

@@ -1,0 +1,72 @@
+// Reads a stream of replays and prints of each the reply, the record and a digest of the memory. A replay is a file of a stream; then
+// its trace, in the same form; then the length of the memory in two bytes, low byte first; then the byte that the memory is made from
+// and the byte that the record is made from.
+mod digest;
+mod lent;
+mod report;
+
+use digest::digest;
+use lent::fill;
+use lent::record_from;
+use numbers::number::wide;
+use replay::run::replay_from;
+use report::report;
+use streams::files::Next;
+use streams::files::next_file;
+
+// More replays than a stream has: every loop has an end.
+const MOST_REPLAYS: usize = 100000;
+
+fn main() {
+    let mut file = [0u8; 65536];
+    let mut trace = [0u8; 65536];
+    let mut memory = [0u8; 65536];
+    answer_all(&mut file, &mut trace, &mut memory);
+}
+
+fn answer_all(file: &mut [u8], trace: &mut [u8], memory: &mut [u8]) {
+    let mut left = MOST_REPLAYS;
+    while 0 < left {
+        if !answer_next(file, trace, memory) {
+            return;
+        }
+        left -= 1;
+    }
+}
+
+// Answers the next replay of the stream; false where there is none.
+fn answer_next(file: &mut [u8], trace: &mut [u8], memory: &mut [u8]) -> bool {
+    let Next::File(length) = next_file(file) else {
+        return false;
+    };
+    answer_about(&file[..length], trace, memory)
+}
+
+// Answers the replay against this file.
+fn answer_about(file: &[u8], trace: &mut [u8], memory: &mut [u8]) -> bool {
+    let Next::File(length) = next_file(trace) else {
+        return false;
+    };
+    answer_of(file, &trace[..length], memory)
+}
+
+// Answers the replay of this trace.
+fn answer_of(file: &[u8], trace: &[u8], memory: &mut [u8]) -> bool {
+    let mut head = [0u8; 4];
+    if io::read_full(0, &mut head) < 4 {
+        return false;
+    }
+    let length = wide(head[0]) + 256 * wide(head[1]);
+    if memory.len() < length {
+        return false;
+    }
+    answer_in(file, trace, &mut memory[..length], head[2], head[3]);
+    true
+}
+
+// Answers the replay in this memory.
+fn answer_in(file: &[u8], trace: &[u8], memory: &mut [u8], m: u8, k: u8) {
+    fill(memory, m);
+    let replayed = replay_from(record_from(k), file, trace, memory);
+    report(replayed, digest(memory));
+}
