@@ -1,7 +1,7 @@
 /*
- * Swarmbanner for C and C++: reading session files, membership, and checking.
+ * Swarmbanner for C and C++: reading session files, membership, checking, and replaying traces.
  *
- * Each of the three takes any bytes as the file, also broken ones, and any lengths. It returns the kind of its reply, and
+ * Each of the four takes any bytes as the file, also broken ones, and any lengths. It returns the kind of its reply, and
  * three numbers that go with it fill the front of `reply`; entries after these keep their values.
  *
  *   kind                          reply[0]        reply[1]        reply[2]
@@ -11,6 +11,10 @@
  *   SWARMBANNER_BAD               bad entry       messages shown  0
  *   SWARMBANNER_REFUSED           number          place           0
  *   SWARMBANNER_READ, _YES, _NO   0               0               0
+ *   SWARMBANNER_END, _LEFT        steps taken     0               0
+ *   SWARMBANNER_STEP_REFUSED      number          place           steps taken
+ *   SWARMBANNER_TRACE_REFUSED     1               16384           0
+ *   SWARMBANNER_MEMORY_REFUSED    2               0               0
  *   SWARMBANNER_NO_ROOM           nothing is written, here or elsewhere
  *
  * A program asks swarmbanner_fits() before its first other call: is the library of the layout that it was built for?
@@ -39,13 +43,18 @@ extern "C" {
 #define SWARMBANNER_READ 6u
 #define SWARMBANNER_YES 7u
 #define SWARMBANNER_NO 8u
+#define SWARMBANNER_END 9u
+#define SWARMBANNER_LEFT 10u
+#define SWARMBANNER_STEP_REFUSED 11u
+#define SWARMBANNER_TRACE_REFUSED 12u
+#define SWARMBANNER_MEMORY_REFUSED 13u
 
 /* Numbers of a refusal. */
-#define SWARMBANNER_REFUSED_LONG 1u          /* more than 16,384 bytes; the place is 16,384 */
-#define SWARMBANNER_REFUSED_MEMORY 2u        /* checking: lent memory too short; the place is 0 */
-#define SWARMBANNER_REFUSED_ENDS 3u          /* bytes end before a number or inside one; the place is the file's length */
+#define SWARMBANNER_REFUSED_LONG 1u          /* more than 16,384 bytes, of a file or a trace; the place is 16,384 */
+#define SWARMBANNER_REFUSED_MEMORY 2u        /* checking, replaying: lent memory too short; the place is 0 */
+#define SWARMBANNER_REFUSED_ENDS 3u          /* bytes end before a number or inside one; the place is their end */
 #define SWARMBANNER_REFUSED_FORM 4u          /* a number in a form that is not allowed */
-#define SWARMBANNER_REFUSED_RANGE 5u         /* a number outside its field's range */
+#define SWARMBANNER_REFUSED_RANGE 5u         /* a number outside its field's range; in a trace, of no transition */
 #define SWARMBANNER_REFUSED_TOTAL 6u         /* product of states passes 256, or sum of messages passes 32 */
 #define SWARMBANNER_REFUSED_QUEUE 7u         /* message of a transition is in another queue */
 #define SWARMBANNER_REFUSED_ASCENT 8u        /* arc messages do not ascend */
@@ -54,15 +63,20 @@ extern "C" {
 #define SWARMBANNER_REFUSED_CONTROL 11u      /* membership: control state not below their number; the place is 0 */
 #define SWARMBANNER_REFUSED_MESSAGE 12u      /* membership: message not below the sum; its place in the contents */
 #define SWARMBANNER_REFUSED_EARLIER 13u      /* membership: message of an earlier queue than the one before it */
+#define SWARMBANNER_REFUSED_IMPOSSIBLE 14u   /* replaying: machine in another state, or queue without the word in front */
+#define SWARMBANNER_REFUSED_FULL 15u         /* replaying: a queue would pass 1,024 messages */
 
 /* The least that a call needs, in entries of the type that is lent. */
 #define SWARMBANNER_REPLY_LEAST 3u
 #define SWARMBANNER_SPACE_LEAST (SWARMBANNER_AT_BAD + SWARMBANNER_BAD_ENTRIES_MOST * SWARMBANNER_BAD_ROW)
 #define SWARMBANNER_TABLE_LEAST 32512u
 #define SWARMBANNER_CONTENTS_LEAST 32768u
+#define SWARMBANNER_RECORD_LEAST (SWARMBANNER_RECORD_LENGTHS + SWARMBANNER_QUEUES_MOST)
+#define SWARMBANNER_QUEUE_LEAST 1024u /* for each queue of the file */
 
-/* What a file can have. */
+/* What a file can have, and how long a trace can be. */
 #define SWARMBANNER_FILE_MOST 16384u
+#define SWARMBANNER_TRACE_MOST 16384u
 #define SWARMBANNER_MACHINES_MOST 4u
 #define SWARMBANNER_CONTROL_STATES_MOST 256u
 #define SWARMBANNER_QUEUES_MOST 4u
@@ -105,6 +119,18 @@ extern "C" {
 #define SWARMBANNER_AT_ARCS (SWARMBANNER_AT_FINALS + SWARMBANNER_POOL_STATES_MOST)
 #define SWARMBANNER_AT_ROOTS (SWARMBANNER_AT_ARCS + SWARMBANNER_POOL_STATES_MOST * SWARMBANNER_ARC_ROW)
 #define SWARMBANNER_AT_BAD (SWARMBANNER_AT_ROOTS + SWARMBANNER_CONTROL_STATES_MOST)
+
+/*
+ * Where the numbers of a run lie in the record of `swarmbanner_replay`; those beyond the counts of the file are 0.
+ *
+ *   RECORD_STATES      0  4        state of each machine
+ *   RECORD_HEADS       4  4        where in its bytes each queue begins, which is 0
+ *   RECORD_LENGTHS     8  4        messages that wait in each queue
+ *   RECORD_LEAST      12
+ */
+#define SWARMBANNER_RECORD_STATES 0u
+#define SWARMBANNER_RECORD_HEADS (SWARMBANNER_RECORD_STATES + SWARMBANNER_MACHINES_MOST)
+#define SWARMBANNER_RECORD_LENGTHS (SWARMBANNER_RECORD_HEADS + SWARMBANNER_QUEUES_MOST)
 
 /*
  * The number of the library's layout. It takes nothing and touches nothing. A library of layout 1 does not have it, so a
@@ -162,6 +188,29 @@ size_t swarmbanner_check(const uint8_t *file, size_t file_len,
                          uint16_t *queue, size_t queue_len,
                          uint8_t *contents, size_t contents_len,
                          size_t *reply, size_t reply_len);
+
+/*
+ * Replays a trace: the numbers of transitions, one after the other in groups of seven bits as in a file, each taken at the
+ * configuration that the one before it left. It starts as the file says, whatever `record` and `memory` hold. Before it
+ * reads a number, and before the end, it asks whether the configuration is inside the map. `memory` is to have
+ * SWARMBANNER_QUEUE_LEAST bytes for each queue of the file or more, `record` SWARMBANNER_RECORD_LEAST entries or more.
+ *
+ * END: the trace is at its end. LEFT: the configuration is outside the map; after 0 steps it is the start.
+ * STEP_REFUSED, 3 (inside a number only), 4, 5, 14 and 15: the next step is not taken and not counted; the place is in the
+ *   trace, for 14 and 15 the first byte of the step's number.
+ *   After these three `record` has the last configuration, and queue q has SWARMBANNER_QUEUE_LEAST bytes from byte
+ *   SWARMBANNER_QUEUE_LEAST * q of `memory`: its messages, oldest first, and then 0. Bytes after the last queue of the file
+ *   and entries after the first SWARMBANNER_RECORD_LEAST keep their values.
+ * REFUSED, 1 and 3 to 10: the file is turned away. TRACE_REFUSED: the trace has more than SWARMBANNER_TRACE_MOST bytes.
+ *   MEMORY_REFUSED: `memory` is too short for the queues of the file. The first of them that holds is told, and `record` and
+ *   `memory` are as they were.
+ * NO_ROOM: `record` has under SWARMBANNER_RECORD_LEAST entries or `reply` under SWARMBANNER_REPLY_LEAST.
+ */
+size_t swarmbanner_replay(const uint8_t *file, size_t file_len,
+                          const uint8_t *trace, size_t trace_len,
+                          uint8_t *memory, size_t memory_len,
+                          size_t *record, size_t record_len,
+                          size_t *reply, size_t reply_len);
 
 #ifdef __cplusplus
 }

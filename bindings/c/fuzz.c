@@ -1,22 +1,22 @@
 /*
- * One input: all three calls on it, held to each other and to the definitions, on memory as `lend.h` lends it.
+ * One input: all four calls on it, held to each other and to the definitions, on memory as `lend.h` lends it.
  *
- * An input is a byte that says how much memory is lent, the control state in two bytes, the number of messages asked
- * about, these messages, and the file. libFuzzer calls it, or `fuzz_loop.c`.
+ * `fuzz.h` says what an input is. libFuzzer calls it, or `fuzz_loop.c`.
  */
 #define _DEFAULT_SOURCE
 
+#include "fuzz.h"
 #include "lend.h"
 #include "swarmbanner.h"
 
 #define MORE 40
 #define CONTENTS_MOST 255
 #define PAIRS_MOST 1066385472u
+#define TRACE_ROOM (SWARMBANNER_TRACE_MOST + MORE)
+#define MEMORY_ROOM (SWARMBANNER_QUEUES_MOST * SWARMBANNER_QUEUE_LEAST + MORE)
 
-int LLVMFuzzerTestOneInput(const uint8_t *data, size_t size);
-int fuzz_met_long_words(void);
-
-static struct lend file_lend, asked_lend, space_lend, seen_lend, queue_lend, contents_lend, reply_lend;
+static struct lend file_lend, asked_lend, trace_lend, space_lend, seen_lend, queue_lend, contents_lend, memory_lend,
+    record_lend, reply_lend;
 
 #ifdef SWARMBANNER_LIBFUZZER
 #include "generate.h"
@@ -32,15 +32,18 @@ size_t LLVMFuzzerCustomMutator(uint8_t *data, size_t size, size_t most, unsigned
 
 /*
  * Nearly every change breaks a file. A small number in the place of another is the one most likely to leave a session. Now
- * and then the file is one of its own, with enough memory and no question.
+ * and then the file is one of its own, with enough memory, no question and a pattern of four bytes.
  */
 size_t LLVMFuzzerCustomMutator(uint8_t *data, size_t size, size_t most, unsigned seed)
 {
-    if (seed % 16 == 1 && most >= 4 + GENERATED_MOST) {
-        memset(data, 0, 4);
-        return 4 + generate_file(seed, data + 4);
+    if (seed % 16 == 1 && most >= INPUT_HEAD + 4 + GENERATED_MOST) {
+        memset(data, 0, INPUT_HEAD);
+        data[INPUT_PATTERN] = 4;
+        data[INPUT_TRACE] = (uint8_t)(seed >> 8);
+        memcpy(data + INPUT_HEAD, &seed, 4);
+        return INPUT_HEAD + 4 + generate_file(seed, data + INPUT_HEAD + 4);
     }
-    if (size < 5 || seed % 4 == 0)
+    if (size <= INPUT_HEAD || seed % 4 == 0)
         return LLVMFuzzerMutate(data, size, most);
     data[seed / 4 % size] = (uint8_t)(seed >> 24) % 8;
     return size;
@@ -48,9 +51,11 @@ size_t LLVMFuzzerCustomMutator(uint8_t *data, size_t size, size_t most, unsigned
 
 static void reach(size_t kind, size_t first, size_t second)
 {
-    /* One refused file in many is enough to build upon. */
-    if (kind == SWARMBANNER_REFUSED)
+    /* One refused file in many is enough to build upon, and one length of a replay. */
+    if (kind == SWARMBANNER_REFUSED || kind == SWARMBANNER_STEP_REFUSED)
         second /= 64;
+    if (kind == SWARMBANNER_END || kind == SWARMBANNER_LEFT)
+        first /= 64;
     reached[(kind * 911 + first * 131 + second) % sizeof reached] = 1;
 }
 #else
@@ -63,25 +68,45 @@ static void reach(size_t kind, size_t first, size_t second)
 #endif
 
 /* How often each kind of reply was met, so that a run that tries too little is seen to. */
-static unsigned long met[SWARMBANNER_NO + 1];
+static unsigned long met[SWARMBANNER_MEMORY_REFUSED + 1];
 
 /* Of files with a word of sixteen: how often they were closed, and left by sending or receiving one (1 and 2). */
 static unsigned long long_closed, long_left[3];
 
-int fuzz_met_long_words(void)
+/* How often a step was refused by each number, and how often a queue went round its bytes. */
+static unsigned long step_refused[SWARMBANNER_REFUSED_FULL + 1], went_round;
+
+static int has_met(unsigned long times, const char *what)
 {
-    return long_closed > 0 && long_left[1] > 0 && long_left[2] > 0;
+    if (times == 0)
+        fprintf(stderr, "fuzz: never met: %s\n", what);
+    return times > 0;
+}
+
+int fuzz_met_enough(void)
+{
+    return has_met(long_closed, "closed with a word of sixteen") & has_met(long_left[1], "left by sending sixteen") &
+           has_met(long_left[2], "left by receiving sixteen") & has_met(met[SWARMBANNER_END], "a trace that ends") &
+           has_met(met[SWARMBANNER_LEFT], "a trace that leads outside") &
+           has_met(met[SWARMBANNER_TRACE_REFUSED], "a trace too long") &
+           has_met(met[SWARMBANNER_MEMORY_REFUSED], "queue memory too short") & has_met(step_refused[3], "step refused by 3") &
+           has_met(step_refused[4], "step refused by 4") & has_met(step_refused[5], "step refused by 5") &
+           has_met(step_refused[14], "step refused by 14") & has_met(step_refused[15], "step refused by 15") &
+           has_met(went_round, "a queue that goes round");
 }
 
 static void report(void)
 {
-    static const char *const names[] = {"closed", "outside", "leaves", "bad", "refused", "no room", "read", "yes", "no"};
+    static const char *const names[] = {"closed", "outside", "leaves", "bad", "refused", "no room", "read", "yes", "no",
+                                        "end", "left", "step refused", "trace refused", "memory refused"};
     size_t kind;
 
-    for (kind = 0; kind <= SWARMBANNER_NO; kind++)
-        printf("%s %lu%s", names[kind], met[kind], kind < SWARMBANNER_NO ? ", " : "\n");
+    for (kind = 0; kind <= SWARMBANNER_MEMORY_REFUSED; kind++)
+        printf("%s %lu%s", names[kind], met[kind], kind < SWARMBANNER_MEMORY_REFUSED ? ", " : "\n");
     printf("words of %u: closed %lu, left by sending %lu, by receiving %lu\n", SWARMBANNER_WORD_MOST, long_closed,
            long_left[1], long_left[2]);
+    printf("steps refused: by 3 %lu, 4 %lu, 5 %lu, 14 %lu, 15 %lu; queues that went round %lu\n", step_refused[3],
+           step_refused[4], step_refused[5], step_refused[14], step_refused[15], went_round);
 }
 
 static void must(int holds, const char *what)
@@ -108,17 +133,22 @@ static int is(const struct told *told, size_t kind, size_t first, size_t second)
 
 /* How much is lent of what. Mostly enough; else one of them is one short, or much shorter. */
 struct lengths {
-    size_t space, seen, queue, contents, reply;
+    size_t space, seen, queue, contents, record, reply;
+    size_t memory_less, memory_more; /* than the queues of the file want */
 };
+
+static const struct lengths enough = {SWARMBANNER_SPACE_LEAST, SWARMBANNER_TABLE_LEAST, SWARMBANNER_TABLE_LEAST,
+                                      SWARMBANNER_CONTENTS_LEAST, SWARMBANNER_RECORD_LEAST, SWARMBANNER_REPLY_LEAST, 0, 0};
 
 static struct lengths lengths_of(uint8_t choice)
 {
-    struct lengths n = {SWARMBANNER_SPACE_LEAST, SWARMBANNER_TABLE_LEAST, SWARMBANNER_TABLE_LEAST,
-                        SWARMBANNER_CONTENTS_LEAST, SWARMBANNER_REPLY_LEAST};
+    struct lengths n = enough;
     size_t less = choice % 2 == 0 ? 1 : 3;
     size_t more = choice % MORE;
 
     switch (choice / 16) {
+    case 9: n.memory_less = less * 300; break;
+    case 10: n.record -= less; break;
     case 11: n.space -= less; break;
     case 12: n.seen -= less; break;
     case 13: n.queue -= less; break;
@@ -129,7 +159,9 @@ static struct lengths lengths_of(uint8_t choice)
         n.seen += more;
         n.queue += MORE - more;
         n.contents += more;
+        n.record += more;
         n.reply += more;
+        n.memory_more = more;
     }
     return n;
 }
@@ -144,7 +176,7 @@ static struct told told_of(size_t kind, const struct lengths *n)
 {
     struct told told = {kind, {0, 0, 0}};
 
-    must(kind <= SWARMBANNER_NO, "no kind of reply");
+    must(kind <= SWARMBANNER_MEMORY_REFUSED, "no kind of reply");
     met[kind]++;
     if (!has_room(n)) {
         must(kind == SWARMBANNER_NO_ROOM, "a reply without room");
@@ -361,6 +393,204 @@ static int is_bad(size_t entry, const uint8_t *word, size_t length)
     return accepts(tables[SWARMBANNER_AT_BAD + entry * SWARMBANNER_BAD_ROW + 1] + 1u, word, length);
 }
 
+/* A run as the definitions have it: what a step does is said in the plainest way. */
+struct run {
+    size_t states[SWARMBANNER_MACHINES_MOST], lengths[SWARMBANNER_QUEUES_MOST], sent[SWARMBANNER_QUEUES_MOST];
+    uint8_t queues[SWARMBANNER_QUEUES_MOST][SWARMBANNER_QUEUE_LEAST];
+};
+
+static void begin(struct run *run)
+{
+    size_t i;
+
+    memset(run, 0, sizeof *run);
+    for (i = 0; i < tables[SWARMBANNER_AT_COUNTS]; i++)
+        run->states[i] = tables[SWARMBANNER_AT_STARTS + i];
+}
+
+static int is_inside(const struct run *run)
+{
+    static uint8_t word[MEMORY_ROOM];
+    size_t i, control = 0, length = 0;
+
+    for (i = 0; i < tables[SWARMBANNER_AT_COUNTS]; i++)
+        control = control * tables[SWARMBANNER_AT_STATES + i] + run->states[i];
+    for (i = 0; i < tables[SWARMBANNER_AT_COUNTS + 1]; i++) {
+        memcpy(word + length, run->queues[i], run->lengths[i]);
+        length += run->lengths[i];
+    }
+    return inside(control, word, length);
+}
+
+/* 0 where a transition can be taken, else the number that it is refused by. */
+static size_t refuses(const struct run *run, size_t transition)
+{
+    const uint8_t *row = row_of(transition);
+
+    if (run->states[row[0]] != row[1])
+        return SWARMBANNER_REFUSED_IMPOSSIBLE;
+    if (row[3] == 2 && (run->lengths[row[4]] < row[5] ||
+                        memcmp(run->queues[row[4]], row + SWARMBANNER_TRANSITION_WORD, row[5]) != 0))
+        return SWARMBANNER_REFUSED_IMPOSSIBLE;
+    if (row[3] == 1 && run->lengths[row[4]] + row[5] > SWARMBANNER_QUEUE_LEAST)
+        return SWARMBANNER_REFUSED_FULL;
+    return 0;
+}
+
+static void take(struct run *run, size_t transition)
+{
+    const uint8_t *row = row_of(transition);
+    uint8_t *queue = run->queues[row[4]];
+    size_t *length = &run->lengths[row[4]];
+
+    run->states[row[0]] = row[2];
+    if (row[3] == 1) {
+        memcpy(queue + *length, row + SWARMBANNER_TRANSITION_WORD, row[5]);
+        *length += row[5];
+        run->sent[row[4]] += row[5];
+    } else if (row[3] == 2) {
+        *length -= row[5];
+        memmove(queue, queue + row[5], *length);
+        memset(queue + *length, 0, row[5]);
+    }
+}
+
+/* The trace of this input. */
+static const uint8_t *trace;
+static size_t trace_len;
+
+/* What a replay must say, and the run where it ends. */
+static struct told expected_replay(struct run *run)
+{
+    struct told told = {SWARMBANNER_STEP_REFUSED, {0, 0, 0}};
+    size_t at = 0, steps, number;
+
+    begin(run);
+    for (steps = 0; is_inside(run) && at < trace_len; steps++) {
+        size_t next = at + 1;
+
+        told.number[1] = at;
+        told.number[2] = steps;
+        number = trace[at];
+        if (number >= 128) {
+            if (next == trace_len) {
+                told.number[0] = SWARMBANNER_REFUSED_ENDS;
+                told.number[1] = trace_len;
+                return told;
+            }
+            told.number[0] = SWARMBANNER_REFUSED_FORM;
+            if (trace[next] == 0 || trace[next] >= 128)
+                return told;
+            number = number % 128 + 128u * trace[next++];
+        }
+        told.number[0] = SWARMBANNER_REFUSED_RANGE;
+        if (number >= tables[SWARMBANNER_AT_COUNTS + 3])
+            return told;
+        told.number[0] = refuses(run, number);
+        if (told.number[0] > 0)
+            return told;
+        take(run, number);
+        at = next;
+    }
+    told.kind = is_inside(run) ? SWARMBANNER_END : SWARMBANNER_LEFT;
+    told.number[0] = steps;
+    told.number[1] = told.number[2] = 0;
+    return told;
+}
+
+/* The one among the transitions that can be taken which a byte picks; the byte itself where there is none. */
+static uint8_t picked(const struct run *run, uint8_t byte)
+{
+    size_t i, count = tables[SWARMBANNER_AT_COUNTS + 3], possible = 0;
+
+    for (i = 0; i < count; i++)
+        possible += refuses(run, i) != SWARMBANNER_REFUSED_IMPOSSIBLE;
+    if (possible == 0)
+        return byte;
+    possible = byte % possible + 1u;
+    for (i = 0; possible > 0; i++)
+        possible -= refuses(run, i) != SWARMBANNER_REFUSED_IMPOSSIBLE;
+    return (uint8_t)(i - 1);
+}
+
+/* Makes the trace: the pattern again and again; where it steers, with the tables of the file. */
+static void make_trace(const uint8_t *pattern, size_t count, uint8_t how, int is_read)
+{
+    static uint8_t steps[TRACE_ROOM];
+    static struct run run;
+    size_t i, length = count * TRACE_REPEAT(how);
+    int steers = is_read && (how & TRACE_STEERED) != 0;
+
+    if (length > TRACE_ROOM)
+        length = TRACE_ROOM;
+    if (steers)
+        begin(&run);
+    for (i = 0; i < length; i++) {
+        steps[i] = pattern[i % count];
+        if (!steers || (i + 1 == length && (how & TRACE_RAW_END) != 0))
+            continue;
+        steps[i] = picked(&run, steps[i]);
+        if (steps[i] < tables[SWARMBANNER_AT_COUNTS + 3] && refuses(&run, steps[i]) == 0)
+            take(&run, steps[i]);
+        else
+            steers = 0;
+    }
+    trace = lend_copy(&trace_lend, steps, length);
+    trace_len = length;
+}
+
+/* A replay says what it must, and leaves record and memory as it must. */
+static void call_replay(const struct lengths *n, const struct told *read)
+{
+    static struct run run;
+    size_t queues = read->kind == SWARMBANNER_READ ? tables[SWARMBANNER_AT_COUNTS + 1] : 1;
+    size_t wanted = queues * SWARMBANNER_QUEUE_LEAST, length = wanted + n->memory_more - n->memory_less;
+    uint8_t *memory = lend_bytes(&memory_lend, length);
+    size_t *record = lend_bytes(&record_lend, n->record * sizeof(size_t));
+    size_t expected_record[SWARMBANNER_RECORD_LEAST] = {0};
+    struct told told = {0, {0, 0, 0}}, expected = *read;
+    size_t i, kind;
+
+    kind = swarmbanner_replay(file, file_len, trace, trace_len, memory, length, record, n->record, lend_reply(n), n->reply);
+    told = told_of(kind, n);
+    if (n->record < SWARMBANNER_RECORD_LEAST) {
+        must(told.kind == SWARMBANNER_NO_ROOM, "a record without room");
+        must(lend_kept(&reply_lend), "a reply without room for the record");
+    }
+    if (told.kind == SWARMBANNER_NO_ROOM) {
+        must(!has_room(n) || n->record < SWARMBANNER_RECORD_LEAST, "room was not found where there is some");
+        must(lend_kept(&memory_lend) && lend_kept(&record_lend), "record or memory has changed without room");
+        return;
+    }
+    if (read->kind == SWARMBANNER_READ && trace_len > SWARMBANNER_TRACE_MOST) {
+        expected.kind = SWARMBANNER_TRACE_REFUSED;
+        expected.number[0] = SWARMBANNER_REFUSED_LONG;
+        expected.number[1] = SWARMBANNER_TRACE_MOST;
+    } else if (read->kind == SWARMBANNER_READ && length < wanted) {
+        expected.kind = SWARMBANNER_MEMORY_REFUSED;
+        expected.number[0] = SWARMBANNER_REFUSED_MEMORY;
+    } else if (read->kind == SWARMBANNER_READ) {
+        expected = expected_replay(&run);
+    }
+    must(same(&told, &expected), "a replay says something else");
+    reach(told.kind, told.number[0], told.number[2]);
+    if (told.kind != SWARMBANNER_END && told.kind != SWARMBANNER_LEFT && told.kind != SWARMBANNER_STEP_REFUSED) {
+        must(lend_kept(&memory_lend) && lend_kept(&record_lend), "record or memory has changed after a refusal");
+        return;
+    }
+    if (told.kind == SWARMBANNER_STEP_REFUSED)
+        step_refused[told.number[0]]++;
+    memcpy(expected_record + SWARMBANNER_RECORD_STATES, run.states, sizeof run.states);
+    memcpy(expected_record + SWARMBANNER_RECORD_LENGTHS, run.lengths, sizeof run.lengths);
+    must(memcmp(record, expected_record, sizeof expected_record) == 0, "another record");
+    must(lend_kept_from(&record_lend, sizeof expected_record), "the rest of the record has changed");
+    for (i = 0; i < queues; i++) {
+        must(memcmp(memory + i * SWARMBANNER_QUEUE_LEAST, run.queues[i], SWARMBANNER_QUEUE_LEAST) == 0, "another queue");
+        went_round += run.sent[i] > SWARMBANNER_QUEUE_LEAST;
+    }
+    must(lend_kept_from(&memory_lend, wanted), "memory after the queues has changed");
+}
+
 /* A verdict means what it says, as far as it can be seen from here. */
 static void verdict_holds(const struct told *told, size_t control, const uint8_t *asked, size_t count)
 {
@@ -398,15 +628,27 @@ static int memory_is_short(const struct lengths *n)
            n->contents < SWARMBANNER_CONTENTS_LEAST;
 }
 
-static void calls_agree(const struct lengths *n, size_t control, const uint8_t *asked, size_t count)
+/* A closed file is never left. */
+static void run_stays(const struct told *check)
 {
-    static const struct lengths enough = {SWARMBANNER_SPACE_LEAST, SWARMBANNER_TABLE_LEAST, SWARMBANNER_TABLE_LEAST,
-                                          SWARMBANNER_CONTENTS_LEAST, SWARMBANNER_REPLY_LEAST};
+    static struct run run;
+
+    if (check->kind == SWARMBANNER_CLOSED)
+        must(expected_replay(&run).kind != SWARMBANNER_LEFT, "closed, and a trace leads outside");
+}
+
+static void calls_agree(const struct lengths *n, const uint8_t *head, const uint8_t *asked, size_t count,
+                        const uint8_t *pattern, size_t pattern_len)
+{
     struct told member, check, expected, read;
+    size_t control = head[INPUT_CONTROL] + 256u * head[INPUT_CONTROL_HIGH];
 
     call_read(n);
     read = call_read(&enough);
     reach(read.kind, read.number[0], read.number[1]);
+
+    make_trace(pattern, pattern_len, head[INPUT_TRACE], read.kind == SWARMBANNER_READ);
+    call_replay(n, &read);
 
     member = call_member(control, asked, count, n);
     expected = read.kind == SWARMBANNER_REFUSED ? read : expected_member(control, asked, count);
@@ -424,6 +666,7 @@ static void calls_agree(const struct lengths *n, size_t control, const uint8_t *
         must(is(&check, SWARMBANNER_REFUSED, SWARMBANNER_REFUSED_MEMORY, 0), "short memory is taken");
     else
         verdict_holds(&check, control, asked, count);
+    run_stays(&check);
 }
 
 static void make_room(void)
@@ -431,10 +674,13 @@ static void make_room(void)
     must(swarmbanner_fits(), "the library has another layout");
     lend_make(&file_lend, SWARMBANNER_FILE_MOST + MORE);
     lend_make(&asked_lend, CONTENTS_MOST);
+    lend_make(&trace_lend, TRACE_ROOM);
     lend_make(&space_lend, SWARMBANNER_SPACE_LEAST + MORE);
     lend_make(&seen_lend, (SWARMBANNER_TABLE_LEAST + MORE) * sizeof(uint16_t));
     lend_make(&queue_lend, (SWARMBANNER_TABLE_LEAST + MORE) * sizeof(uint16_t));
     lend_make(&contents_lend, SWARMBANNER_CONTENTS_LEAST + MORE);
+    lend_make(&memory_lend, MEMORY_ROOM);
+    lend_make(&record_lend, (SWARMBANNER_RECORD_LEAST + MORE) * sizeof(size_t));
     lend_make(&reply_lend, (SWARMBANNER_REPLY_LEAST + MORE) * sizeof(size_t));
     atexit(report);
 }
@@ -442,22 +688,26 @@ static void make_room(void)
 int LLVMFuzzerTestOneInput(const uint8_t *data, size_t size)
 {
     struct lengths n;
-    size_t control, count;
-    uint8_t asked[CONTENTS_MOST];
+    size_t count, pattern_len;
+    const uint8_t *asked, *pattern, *rest;
 
     if (reply_lend.memory == NULL)
         make_room();
-    if (size < 4)
+    if (size < INPUT_HEAD)
         return 0;
-    n = lengths_of(data[0]);
-    control = data[1] + 256u * data[2];
-    count = data[3] < size - 4 ? data[3] : size - 4;
-    file_len = size - 4 - count;
+    n = lengths_of(data[INPUT_LENGTHS]);
+    asked = data + INPUT_HEAD;
+    size -= INPUT_HEAD;
+    count = data[INPUT_ASKED] < size ? data[INPUT_ASKED] : size;
+    pattern = asked + count;
+    size -= count;
+    pattern_len = data[INPUT_PATTERN] < size ? data[INPUT_PATTERN] : size;
+    rest = pattern + pattern_len;
+    file_len = size - pattern_len;
     if (file_len > SWARMBANNER_FILE_MOST + MORE)
         return 0;
-    memcpy(asked, data + 4, count);
-    file = lend_copy(&file_lend, data + 4 + count, file_len);
-    calls_agree(&n, control, asked, count);
-    must(memcmp(file, data + 4 + count, file_len) == 0, "the file has changed");
+    file = lend_copy(&file_lend, rest, file_len);
+    calls_agree(&n, data, asked, count, pattern, pattern_len);
+    must(memcmp(file, rest, file_len) == 0, "the file has changed");
     return 0;
 }

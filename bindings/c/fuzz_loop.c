@@ -2,8 +2,9 @@
  * A loop of its own for `fuzz.c`, where libFuzzer is not to be had: fuzz_loop SEED COUNT FILE..
  *
  * The session files named, and others with long words, are changed at random: bytes set, moved, taken out, put in, cut off,
- * or joined with another.
+ * or joined with another. Traces are patterns at random, most of them steered.
  */
+#include "fuzz.h"
 #include "generate.h"
 #include "swarmbanner.h"
 
@@ -11,15 +12,11 @@
 #include <stdlib.h>
 #include <string.h>
 
-#define HEAD 4
 #define FILES 64
-#define INPUT_MOST (HEAD + SWARMBANNER_FILE_MOST)
+#define INPUT_MOST (INPUT_HEAD + SWARMBANNER_FILE_MOST)
 
-/* A run of so many inputs must have met verdicts on long words. */
+/* A run of so many inputs must have met what `fuzz_met_enough` asks for. */
 #define ENOUGH 2000
-
-int LLVMFuzzerTestOneInput(const uint8_t *data, size_t size);
-int fuzz_met_long_words(void);
 
 static uint8_t files[FILES][SWARMBANNER_FILE_MOST];
 static size_t lengths[FILES];
@@ -85,24 +82,41 @@ static size_t put_named(uint8_t *at, size_t count)
     return lengths[of];
 }
 
+/* A pattern for the trace: bytes that steer, or numbers of a few transitions and now and then any byte. */
+static size_t put_pattern(uint8_t *at)
+{
+    size_t i, length = below(4) == 0 ? below(256) : below(24), is_plain = below(8);
+
+    input[INPUT_TRACE] = (uint8_t)(next() | (below(4) > 0 ? TRACE_STEERED : 0));
+    for (i = 0; i < length; i++)
+        at[i] = (uint8_t)(is_plain > 0 ? below(60) : next());
+    /* a number that has no end, after a way that is steered */
+    if (length > 0 && below(3) == 0) {
+        input[INPUT_TRACE] |= TRACE_RAW_END;
+        at[length - 1] = (uint8_t)(128 + below(128));
+    }
+    input[INPUT_PATTERN] = (uint8_t)length;
+    return length;
+}
+
 static void one(size_t count)
 {
     int is_generated = below(2) == 0;
     /* a generated file is new by itself */
-    size_t changes = is_generated ? below(3) / 2 : below(4), length, asked, i;
+    size_t changes = is_generated ? below(3) / 2 : below(4), length, asked, begins, i;
 
-    /* a question of up to three messages, and the file */
+    /* a question of up to three messages, a pattern, and the file */
     asked = below(4);
-    input[0] = (uint8_t)next();
-    input[1] = (uint8_t)below(is_generated ? 4 : 20);
-    input[2] = (uint8_t)(below(50) == 0);
-    input[3] = (uint8_t)asked;
+    input[INPUT_LENGTHS] = (uint8_t)next();
+    input[INPUT_CONTROL] = (uint8_t)below(is_generated ? 4 : 20);
+    input[INPUT_CONTROL_HIGH] = (uint8_t)(below(50) == 0);
+    input[INPUT_ASKED] = (uint8_t)asked;
     for (i = 0; i < asked; i++)
-        input[HEAD + i] = (uint8_t)below(5);
-    length = HEAD + asked;
-    length += is_generated ? generate_file(next(), input + length) : put_named(input + length, count);
+        input[INPUT_HEAD + i] = (uint8_t)below(5);
+    begins = INPUT_HEAD + asked + put_pattern(input + INPUT_HEAD + asked);
+    length = begins + (is_generated ? generate_file(next(), input + begins) : put_named(input + begins, count));
     for (i = 0; i < changes; i++)
-        length = change(HEAD + asked, length);
+        length = change(begins, length);
     LLVMFuzzerTestOneInput(input, length);
 }
 
@@ -118,7 +132,7 @@ static size_t load(int count, char **names)
             perror(names[i]);
             exit(2);
         }
-        /* room is left for the question before the file */
+        /* room is left for what comes before the file */
         lengths[loaded] = fread(files[loaded], 1, SWARMBANNER_FILE_MOST / 2, stream);
         fclose(stream);
         loaded++;
@@ -140,10 +154,8 @@ int main(int count, char **words)
     loaded = load(count - 3, words + 3);
     for (i = 0; i < inputs; i++)
         one(loaded);
-    if (inputs >= ENOUGH && !fuzz_met_long_words()) {
-        fprintf(stderr, "fuzz_loop: too few verdicts on words of %u\n", SWARMBANNER_WORD_MOST);
+    if (inputs >= ENOUGH && !fuzz_met_enough())
         return 1;
-    }
     printf("seed %s, %lu inputs, none fails\n", words[1], inputs);
     return 0;
 }

@@ -1,6 +1,6 @@
 /*
  * Stands in for a library of another layout: each call answers what a program that does not ask first would print as
- * `closed 0`.
+ * `closed 0` or `end 0`.
  */
 #include "swarmbanner.h"
 
@@ -38,4 +38,12 @@ size_t swarmbanner_check(const uint8_t *file, size_t file_len, uint16_t *seen, s
 {
     (void)file, (void)file_len, (void)seen, (void)seen_len, (void)queue, (void)queue_len, (void)contents, (void)contents_len;
     return answer(SWARMBANNER_CLOSED, reply, reply_len);
+}
+
+size_t swarmbanner_replay(const uint8_t *file, size_t file_len, const uint8_t *trace, size_t trace_len,
+                          uint8_t *memory, size_t memory_len, size_t *record, size_t record_len,
+                          size_t *reply, size_t reply_len)
+{
+    (void)file, (void)file_len, (void)trace, (void)trace_len, (void)memory, (void)memory_len, (void)record, (void)record_len;
+    return answer(SWARMBANNER_END, reply, reply_len);
 }

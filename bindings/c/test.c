@@ -1,4 +1,7 @@
-/* What the header promises, call by call: the fourteen cases of document 01, long words, and what is done to lent memory. */
+/*
+ * What the header promises, call by call: the fourteen cases of document 01, long words, replays worked out by hand, and
+ * what is done to lent memory.
+ */
 #define _DEFAULT_SOURCE
 
 #include "lend.h"
@@ -23,9 +26,19 @@
     "00010002 00010103 00010204 00010305 00010406 00010507 00010608 00010709 0001080a" \
     "0001090b 00010a0c 00010b0d 00010c0e 00010d0f 00010e10 00010f11 00011012 0100" "01 02 00"
 
+/*
+ * One machine of three states, two queues with messages 0, 1 and 2, 3; anything may wait. Transitions: 0 goes from 0 to 1
+ * and sends 0 1, 1 from 1 to 2 and sends 3 2, 2 from 2 to 0 and receives 0, 3 from 0 to 0 and receives 1, 4 from 0 to 0 and
+ * receives 3 2, 5 from 0 to 2, 6 from 0 to 0 and receives nothing from queue 1.
+ */
+#define M "01 03 00 02 02 02 07 000001 01 00 02 0001 000102 01 01 02 0302 000200 02 00 01 00" \
+    "000000 02 00 01 01 000000 02 01 02 0302 000002 00 000000 02 01 00" \
+    "02 01 04 00 00 01 00 02 01 03 01 01 02 02 01 03 01 01 01 01 00"
+
 #define MORE 1000
 
 static struct lend file_lend, member_lend, space_lend, seen_lend, queue_lend, contents_lend, reply_lend;
+static struct lend trace_lend, memory_lend, record_lend;
 static unsigned tests, failures;
 
 static void expect(int holds, const char *what, const char *name)
@@ -39,11 +52,14 @@ static void expect(int holds, const char *what, const char *name)
 
 /* How many entries of each kind are lent. */
 struct lengths {
-    size_t space, seen, queue, contents, reply;
+    size_t space, seen, queue, contents, memory, record, reply;
 };
 
+#define MEMORY_LEAST (SWARMBANNER_QUEUES_MOST * SWARMBANNER_QUEUE_LEAST)
+
 static const struct lengths least = {SWARMBANNER_SPACE_LEAST, SWARMBANNER_TABLE_LEAST, SWARMBANNER_TABLE_LEAST,
-                                     SWARMBANNER_CONTENTS_LEAST, SWARMBANNER_REPLY_LEAST};
+                                     SWARMBANNER_CONTENTS_LEAST, MEMORY_LEAST, SWARMBANNER_RECORD_LEAST,
+                                     SWARMBANNER_REPLY_LEAST};
 
 static struct lengths plenty(void)
 {
@@ -53,6 +69,8 @@ static struct lengths plenty(void)
     more.seen += MORE;
     more.queue += 2 * MORE;
     more.contents += MORE;
+    more.memory += MORE;
+    more.record += 7;
     more.reply += 5;
     return more;
 }
@@ -84,6 +102,15 @@ static size_t call_check(const uint8_t *file, size_t length, struct lengths n)
     return swarmbanner_check(file, length, seen, n.seen, queue, n.queue, contents, n.contents, lend_reply(n), n.reply);
 }
 
+static size_t call_replay(const uint8_t *file, size_t length, const uint8_t *trace, size_t trace_length, struct lengths n)
+{
+    uint8_t *memory = lend_or_null(&memory_lend, n.memory);
+    size_t *record = lend_or_null(&record_lend, n.record * sizeof(size_t));
+
+    return swarmbanner_replay(file, length, trace, trace_length, memory, n.memory, record, n.record, lend_reply(n),
+                              n.reply);
+}
+
 static int replied(size_t first, size_t second, size_t third)
 {
     size_t reply[SWARMBANNER_REPLY_LEAST];
@@ -97,13 +124,18 @@ static int memory_kept(void)
     return lend_kept(&seen_lend) && lend_kept(&queue_lend) && lend_kept(&contents_lend);
 }
 
+static int run_kept(void)
+{
+    return lend_kept(&memory_lend) && lend_kept(&record_lend);
+}
+
 static int digit(char c)
 {
     return c <= '9' ? c - '0' : c - 'a' + 10;
 }
 
 /* The bytes of a text in hex, spaces left out, so placed that their end is the end of a page. */
-static const uint8_t *hex(const char *text, size_t *length)
+static const uint8_t *hex_in(struct lend *lend, const char *text, size_t *length)
 {
     static uint8_t bytes[256];
     size_t digits = 0;
@@ -115,7 +147,12 @@ static const uint8_t *hex(const char *text, size_t *length)
         digits++;
     }
     *length = digits / 2;
-    return lend_copy(&file_lend, bytes, *length);
+    return lend_copy(lend, bytes, *length);
+}
+
+static const uint8_t *hex(const char *text, size_t *length)
+{
+    return hex_in(&file_lend, text, length);
 }
 
 struct worked {
@@ -208,6 +245,8 @@ static void no_room(void)
         expect(swarmbanner_member(file, length, 0, NULL, 0, lend_reply(n), n.reply) == SWARMBANNER_NO_ROOM,
                "member has no room", names[n.reply]);
         expect(lend_kept(&reply_lend), "member without room touches nothing", names[n.reply]);
+        expect(call_replay(file, length, NULL, 0, n) == SWARMBANNER_NO_ROOM, "replay has no room", names[n.reply]);
+        expect(run_kept() && lend_kept(&reply_lend), "replay without room touches nothing", names[n.reply]);
     }
     n = least;
     n.space = SWARMBANNER_SPACE_LEAST - 1;
@@ -215,6 +254,14 @@ static void no_room(void)
     expect(lend_kept(&space_lend) && lend_kept(&reply_lend), "read without room touches nothing", "space one short");
     n.space = 0;
     expect(call_read(file, length, n) == SWARMBANNER_NO_ROOM, "read has no room", "no space");
+    n = plenty();
+    for (n.record = 0; n.record < SWARMBANNER_RECORD_LEAST; n.record++) {
+        expect(call_replay(file, length, NULL, 0, n) == SWARMBANNER_NO_ROOM, "replay has no room", "a short record");
+        expect(run_kept() && lend_kept(&reply_lend), "replay without room touches nothing", "a short record");
+        /* before a file that is refused */
+        expect(call_replay(NULL, 0, NULL, 0, n) == SWARMBANNER_NO_ROOM, "replay has no room", "a short record and no file");
+        expect(run_kept() && lend_kept(&reply_lend), "replay without room touches nothing", "a short record and no file");
+    }
 }
 
 static void short_memory(void)
@@ -242,7 +289,7 @@ static void short_memory(void)
 static void long_files(void)
 {
     static uint8_t bytes[SWARMBANNER_FILE_MOST + 1];
-    struct lengths none = {0, 0, 0, 0, SWARMBANNER_REPLY_LEAST};
+    struct lengths none = {0, 0, 0, 0, 0, SWARMBANNER_RECORD_LEAST, SWARMBANNER_REPLY_LEAST};
     const uint8_t *file;
 
     memset(bytes, 5, sizeof bytes);
@@ -250,6 +297,8 @@ static void long_files(void)
     expect(call_check(file, sizeof bytes, least) == SWARMBANNER_REFUSED && replied(1, 16384, 0), "too long", "check");
     expect(call_check(file, sizeof bytes, none) == SWARMBANNER_REFUSED && replied(1, 16384, 0), "1 before 2", "check");
     expect(call_read(file, sizeof bytes, least) == SWARMBANNER_REFUSED && replied(1, 16384, 0), "too long", "read");
+    expect(call_replay(file, sizeof bytes, file, sizeof bytes, none) == SWARMBANNER_REFUSED && replied(1, 16384, 0), "too long",
+           "replay");
     expect(call_check(file + 1, sizeof bytes - 1, least) == SWARMBANNER_REFUSED && replied(5, 0, 0), "longest", "check");
     expect(call_check(file + 1, sizeof bytes - 1, none) == SWARMBANNER_REFUSED && replied(2, 0, 0), "2 before 5", "check");
 }
@@ -260,6 +309,8 @@ static void null_with_nothing(void)
     expect(call_read(NULL, 0, least) == SWARMBANNER_REFUSED && replied(3, 0, 0), "no file", "read");
     expect(swarmbanner_member(NULL, 0, 0, NULL, 0, lend_reply(least), least.reply) == SWARMBANNER_REFUSED &&
                replied(3, 0, 0), "no file", "member");
+    expect(call_replay(NULL, 0, NULL, 0, least) == SWARMBANNER_REFUSED && replied(3, 0, 0), "no file", "replay");
+    expect(run_kept(), "record and memory are kept", "no file");
 }
 
 static size_t ask(const char *text, size_t control, const uint8_t *contents, size_t count)
@@ -343,6 +394,202 @@ static void full_table(void)
     expect(lend_at(&space_lend)[SWARMBANNER_AT_TRANSITIONS + sizeof rows] == 1, "the byte after the rows", "full");
 }
 
+/* A replay: where it is told of, the last configuration. */
+struct replayed {
+    const char *name, *file, *trace;
+    size_t kind, first, second, third;
+    size_t queues, state, waits[2];
+    const char *messages[2];
+};
+
+static const struct replayed replays[] = {
+    {"no steps", R, "", SWARMBANNER_END, 0, 0, 0, 1, 0, {0, 0}, {"", ""}},
+    {"sent", R, "00 00", SWARMBANNER_END, 2, 0, 0, 1, 0, {2, 0}, {"\0\0", ""}},
+    {"received", R, "00 00 01 01 00", SWARMBANNER_END, 5, 0, 0, 1, 0, {1, 0}, {"\0", ""}},
+    {"empty queue", R, "00 01 01", SWARMBANNER_STEP_REFUSED, 14, 2, 2, 1, 0, {0, 0}, {"", ""}},
+    {"no transition", R, "00 02", SWARMBANNER_STEP_REFUSED, 5, 1, 1, 1, 0, {1, 0}, {"\0", ""}},
+    {"no transition of two bytes", R, "00 8001", SWARMBANNER_STEP_REFUSED, 5, 1, 1, 1, 0, {1, 0}, {"\0", ""}},
+    {"largest number", R, "ff7f", SWARMBANNER_STEP_REFUSED, 5, 0, 0, 1, 0, {0, 0}, {"", ""}},
+    {"ends inside a number", R, "00 80", SWARMBANNER_STEP_REFUSED, 3, 2, 1, 1, 0, {1, 0}, {"\0", ""}},
+    {"longer form", R, "00 8000", SWARMBANNER_STEP_REFUSED, 4, 1, 1, 1, 0, {1, 0}, {"\0", ""}},
+    {"three bytes", R, "808001", SWARMBANNER_STEP_REFUSED, 4, 0, 0, 1, 0, {0, 0}, {"", ""}},
+    {"outside", R_HEAD "01 01 00 01 00", "00 80", SWARMBANNER_LEFT, 1, 0, 0, 1, 0, {1, 0}, {"\0", ""}},
+    {"outside later", R_HEAD "02 01 01 00 01 01 00 01 00", "00 01 00 00 01", SWARMBANNER_LEFT, 4, 0, 0, 1, 0, {2, 0},
+     {"\0\0", ""}},
+    {"outside at the end", R_HEAD "02 01 01 00 01 01 00 01 00", "00 00", SWARMBANNER_LEFT, 2, 0, 0, 1, 0, {2, 0},
+     {"\0\0", ""}},
+    {"start outside", R_HEAD "01 00 01 00 00 01 00", "00 01", SWARMBANNER_LEFT, 0, 0, 0, 1, 0, {0, 0}, {"", ""}},
+    {"start outside, no steps", R_HEAD "01 00 01 00 00 01 00", "", SWARMBANNER_LEFT, 0, 0, 0, 1, 0, {0, 0}, {"", ""}},
+    {"S", S, "00 00", SWARMBANNER_END, 2, 0, 0, 2, 0, {2, 0}, {"\0\0", ""}},
+    {"two queues", M, "00 01", SWARMBANNER_END, 2, 0, 0, 2, 2, {2, 2}, {"\0\1", "\3\2"}},
+    {"oldest first", M, "00 01 02 00", SWARMBANNER_END, 4, 0, 0, 2, 1, {3, 2}, {"\1\0\1", "\3\2"}},
+    {"both emptied", M, "00 01 02 03 04 06", SWARMBANNER_END, 6, 0, 0, 2, 0, {0, 0}, {"", ""}},
+    {"another state", M, "00 00", SWARMBANNER_STEP_REFUSED, 14, 1, 1, 2, 1, {2, 0}, {"\0\1", ""}},
+    {"another message", M, "00 01 02 00 01 02", SWARMBANNER_STEP_REFUSED, 14, 5, 5, 2, 2, {3, 4},
+     {"\1\0\1", "\3\2\3\2"}},
+    {"local", M, "05", SWARMBANNER_END, 1, 0, 0, 2, 2, {0, 0}, {"", ""}},
+    {"sixteen sent", W, "00", SWARMBANNER_LEFT, 1, 0, 0, 2, 1, {0, 16},
+     {"", "\1\2\3\4\5\6\7\10\11\12\13\14\15\16\17\20"}},
+};
+
+/* The record and the memory are those of a configuration, and all around them is as it was. */
+static void expect_run(const struct replayed *c)
+{
+    size_t record[SWARMBANNER_RECORD_LEAST] = {0};
+    uint8_t bytes[2 * SWARMBANNER_QUEUE_LEAST] = {0};
+    size_t queue;
+
+    record[SWARMBANNER_RECORD_STATES] = c->state;
+    for (queue = 0; queue < c->queues; queue++) {
+        record[SWARMBANNER_RECORD_LENGTHS + queue] = c->waits[queue];
+        memcpy(bytes + queue * SWARMBANNER_QUEUE_LEAST, c->messages[queue], c->waits[queue]);
+    }
+    expect(memcmp(lend_at(&record_lend), record, sizeof record) == 0, "record of a replay", c->name);
+    expect(lend_kept_from(&record_lend, sizeof record), "rest of the record kept", c->name);
+    expect(memcmp(lend_at(&memory_lend), bytes, c->queues * SWARMBANNER_QUEUE_LEAST) == 0, "queues of a replay", c->name);
+    expect(lend_kept_from(&memory_lend, c->queues * SWARMBANNER_QUEUE_LEAST), "memory after the queues kept", c->name);
+}
+
+static void replay_case(const struct replayed *c, struct lengths n)
+{
+    size_t length, trace_length;
+    const uint8_t *file = hex(c->file, &length);
+    const uint8_t *trace = hex_in(&trace_lend, c->trace, &trace_length);
+
+    expect(call_replay(file, length, trace, trace_length, n) == c->kind, "kind of a replay", c->name);
+    expect(replied(c->first, c->second, c->third), "numbers of a replay, and the reply's rest kept", c->name);
+    expect_run(c);
+}
+
+/* The file's refusals, then the trace's, then the memory's; record and memory are kept. */
+static void replays_refused(void)
+{
+    static uint8_t zeros[SWARMBANNER_TRACE_MOST + 1];
+    const uint8_t *trace = lend_copy(&trace_lend, zeros, sizeof zeros);
+    struct lengths n = plenty();
+    size_t i, length;
+
+    for (i = 0; i < CASES; i++) {
+        const uint8_t *file = hex(cases[i].file, &length);
+
+        if (cases[i].kind != SWARMBANNER_REFUSED)
+            continue;
+        n.memory = i % 2 == 0 ? MEMORY_LEAST : 0;
+        expect(call_replay(file, length, trace, sizeof zeros - i % 3, n) == SWARMBANNER_REFUSED, "file refused",
+               cases[i].name);
+        expect(replied(cases[i].first, cases[i].second, cases[i].third), "as reading refuses it", cases[i].name);
+        expect(run_kept(), "record and memory kept", cases[i].name);
+    }
+    for (n.memory = 0; n.memory <= MEMORY_LEAST; n.memory += MEMORY_LEAST) {
+        const uint8_t *file = hex(R, &length);
+
+        expect(call_replay(file, length, trace, sizeof zeros, n) == SWARMBANNER_TRACE_REFUSED && replied(1, 16384, 0),
+               "trace refused", "one byte too many");
+        expect(run_kept(), "record and memory kept", "one byte too many");
+    }
+}
+
+/* Memory for the queues of the file is asked for, also of a file whose start is outside. */
+static void short_queue_memory(void)
+{
+    static const char *const files[] = {R, R_HEAD "01 00 01 00 00 01 00", S, M};
+    static const size_t queues[] = {1, 1, 2, 2};
+    struct lengths n = plenty();
+    size_t i, length;
+
+    for (i = 0; i < 4; i++) {
+        const uint8_t *file = hex(files[i], &length);
+        size_t enough = queues[i] * SWARMBANNER_QUEUE_LEAST;
+        size_t lengths[4];
+        size_t j;
+
+        lengths[0] = 0;
+        lengths[1] = 1;
+        lengths[2] = enough - SWARMBANNER_QUEUE_LEAST;
+        lengths[3] = enough - 1;
+        for (j = 0; j < 4; j++) {
+            n.memory = lengths[j];
+            expect(call_replay(file, length, NULL, 0, n) == SWARMBANNER_MEMORY_REFUSED && replied(2, 0, 0), "memory refused",
+                   files[i]);
+            expect(run_kept(), "record and memory kept", files[i]);
+        }
+        n.memory = enough;
+        expect(call_replay(file, length, NULL, 0, n) == (i == 1 ? SWARMBANNER_LEFT : SWARMBANNER_END), "memory enough",
+               files[i]);
+    }
+}
+
+/* A queue takes 1,024 messages and not one more; a trace 16,384 bytes. */
+static void full_queue(void)
+{
+    static uint8_t steps[SWARMBANNER_TRACE_MOST];
+    static struct replayed full = {"full", R, NULL, 0, 0, 0, 0, 1, 0, {SWARMBANNER_QUEUE_LEAST, 0}, {NULL, ""}};
+    static const struct replayed empty = {"to and fro", R, NULL, 0, 0, 0, 0, 1, 0, {0, 0}, {"", ""}};
+    const uint8_t *trace;
+    size_t i, length;
+    const uint8_t *file = hex(R, &length);
+
+    full.messages[0] = (const char *)steps;
+    trace = lend_copy(&trace_lend, steps, SWARMBANNER_QUEUE_LEAST);
+    expect(call_replay(file, length, trace, 1024, least) == SWARMBANNER_END && replied(1024, 0, 0), "1,024 messages", "R");
+    expect_run(&full);
+    trace = lend_copy(&trace_lend, steps, 1025);
+    expect(call_replay(file, length, trace, 1025, plenty()) == SWARMBANNER_STEP_REFUSED && replied(15, 1024, 1024),
+           "1,025 messages", "R");
+    expect_run(&full);
+    trace = lend_copy(&trace_lend, steps, sizeof steps);
+    expect(call_replay(file, length, trace, sizeof steps, least) == SWARMBANNER_STEP_REFUSED && replied(15, 1024, 1024),
+           "16,384 messages", "R");
+    expect_run(&full);
+    for (i = 1; i < sizeof steps; i += 2)
+        steps[i] = 1;
+    trace = lend_copy(&trace_lend, steps, sizeof steps);
+    expect(call_replay(file, length, trace, sizeof steps, least) == SWARMBANNER_END && replied(16384, 0, 0), "longest trace",
+           "R");
+    expect_run(&empty);
+}
+
+/* Messages stay in turn in a queue that goes round its bytes: 0 and 1 are sent by 0 and 1, received by 2 and 3. */
+static void queue_goes_round(void)
+{
+    static const char two[] = "01 01 00 01 02 04 000000 01 00 01 00 000000 01 00 01 01 000000 02 00 01 00 000000 02 00 01 01"
+                              "01 01 02 00 00 01 00 01 00";
+    static uint8_t sent[SWARMBANNER_TRACE_MOST], steps[SWARMBANNER_TRACE_MOST];
+    struct replayed round = {"round", two, NULL, 0, 0, 0, 0, 1, 0, {700, 0}, {NULL, ""}};
+    size_t i, put = 0, taken = 0, length;
+    const uint8_t *file, *trace;
+    uint32_t noise = 99;
+
+    for (i = 0; i < sizeof steps; i++) {
+        noise = noise * 1664525u + 1013904223u;
+        if (put - taken < 700)
+            steps[i] = sent[put++] = (uint8_t)(noise >> 31);
+        else
+            steps[i] = (uint8_t)(2 + sent[taken++]);
+    }
+    round.messages[0] = (const char *)sent + taken;
+    round.waits[0] = put - taken;
+    file = hex(two, &length);
+    trace = lend_copy(&trace_lend, steps, sizeof steps);
+    expect(call_replay(file, length, trace, sizeof steps, plenty()) == SWARMBANNER_END && replied(16384, 0, 0), "round",
+           "two");
+    expect_run(&round);
+    /* the other message is not the oldest */
+    steps[sizeof steps - 1] = (uint8_t)(3 - sent[taken]);
+    trace = lend_copy(&trace_lend, steps, sizeof steps);
+    expect(call_replay(file, length, trace, sizeof steps, plenty()) == SWARMBANNER_STEP_REFUSED && replied(14, 16383, 16383),
+           "not the oldest", "two");
+}
+
+/* File and trace may be the same bytes, since both are only read. */
+static void same_bytes(void)
+{
+    size_t length;
+    const uint8_t *file = hex(M, &length);
+
+    expect(call_replay(file, length, file, length, least) == SWARMBANNER_STEP_REFUSED && replied(14, 0, 0), "the same", "M");
+}
+
 int main(void)
 {
     struct lengths most = plenty();
@@ -358,12 +605,19 @@ int main(void)
     lend_make(&seen_lend, most.seen * sizeof(uint16_t));
     lend_make(&queue_lend, most.queue * sizeof(uint16_t));
     lend_make(&contents_lend, most.contents);
+    lend_make(&trace_lend, SWARMBANNER_TRACE_MOST + 1);
+    lend_make(&memory_lend, most.memory);
+    lend_make(&record_lend, most.record * sizeof(size_t));
     lend_make(&reply_lend, most.reply * sizeof(size_t));
     for (i = 0; i < CASES; i++) {
         check_case(&cases[i], least);
         check_case(&cases[i], plenty());
         read_case(&cases[i], least);
         read_case(&cases[i], plenty());
+    }
+    for (i = 0; i < sizeof replays / sizeof *replays; i++) {
+        replay_case(&replays[i], least);
+        replay_case(&replays[i], plenty());
     }
     no_room();
     short_memory();
@@ -373,6 +627,11 @@ int main(void)
     tables();
     words();
     full_table();
+    replays_refused();
+    short_queue_memory();
+    full_queue();
+    queue_goes_round();
+    same_bytes();
     printf("%u tests, %u failures\n", tests, failures);
     return failures > 0;
 }

@@ -8,6 +8,8 @@
 #define MEMBER_ARGUMENTS file, file_len, control, contents, contents_len, reply, reply_len
 #define CHECK_ARGUMENTS file, file_len, seen, seen_len, queue, queue_len, contents, contents_len, reply, reply_len
 
+#define REPLAY_ARGUMENTS file, file_len, trace, trace_len, memory, memory_len, record, record_len, reply, reply_len
+
 #define READ(name) \
     size_t name(const uint8_t *file, size_t file_len, uint8_t *space, size_t space_len, size_t *reply, size_t reply_len)
 #define MEMBER(name) \
@@ -17,6 +19,10 @@
     size_t name(const uint8_t *file, size_t file_len, uint16_t *seen, size_t seen_len, uint16_t *queue, size_t queue_len, \
                 uint8_t *contents, size_t contents_len, size_t *reply, size_t reply_len)
 
+#define REPLAY(name) \
+    size_t name(const uint8_t *file, size_t file_len, const uint8_t *trace, size_t trace_len, uint8_t *memory, \
+                size_t memory_len, size_t *record, size_t record_len, size_t *reply, size_t reply_len)
+
 size_t __real_swarmbanner_layout(void);
 size_t __wrap_swarmbanner_layout(void);
 READ(__real_swarmbanner_read);
@@ -25,6 +31,8 @@ MEMBER(__real_swarmbanner_member);
 MEMBER(__wrap_swarmbanner_member);
 CHECK(__real_swarmbanner_check);
 CHECK(__wrap_swarmbanner_check);
+REPLAY(__real_swarmbanner_replay);
+REPLAY(__wrap_swarmbanner_replay);
 
 size_t __wrap_swarmbanner_layout(void)
 {
@@ -119,5 +127,71 @@ CHECK(__wrap_swarmbanner_check)
         reply[0] = 0;
     if (FAULT == 18 && kind != SWARMBANNER_NO_ROOM && reply_len > SWARMBANNER_REPLY_LEAST)
         reply[SWARMBANNER_REPLY_LEAST] = 0;
+    return kind;
+}
+
+static int has_run(size_t kind)
+{
+    return kind == SWARMBANNER_END || kind == SWARMBANNER_LEFT || kind == SWARMBANNER_STEP_REFUSED;
+}
+
+/* Does something to the record or to the queues of a run. */
+static void spoil_run(uint8_t *memory, size_t memory_len, size_t *record, size_t record_len)
+{
+    size_t waits = record[SWARMBANNER_RECORD_LENGTHS];
+    uint8_t oldest = memory[0];
+
+    if (FAULT == 24 && waits < SWARMBANNER_QUEUE_LEAST)
+        memory[waits] = 1;
+    if (FAULT == 25)
+        record[SWARMBANNER_RECORD_HEADS] = 1;
+    if (FAULT == 26)
+        record[SWARMBANNER_RECORD_HEADS - 1] = 1;
+    if (FAULT == 27 && record_len > SWARMBANNER_RECORD_LEAST)
+        record[SWARMBANNER_RECORD_LEAST] = 0;
+    if (FAULT == 28 && memory_len % SWARMBANNER_QUEUE_LEAST > 0)
+        memory[memory_len - 1] = 0;
+    if (FAULT == 29)
+        memory[-1] = 0;
+    if (FAULT == 30 && waits > 1) {
+        memory[0] = memory[waits - 1];
+        memory[waits - 1] = oldest;
+    }
+}
+
+REPLAY(__wrap_swarmbanner_replay)
+{
+    size_t kind;
+
+    if (FAULT == 31 && trace_len == SWARMBANNER_TRACE_MOST + 1)
+        trace_len--;
+    if (FAULT == 32 && memory_len % SWARMBANNER_QUEUE_LEAST == SWARMBANNER_QUEUE_LEAST - 1)
+        memory_len++;
+    kind = __real_swarmbanner_replay(REPLAY_ARGUMENTS);
+    if (has_run(kind))
+        spoil_run(memory, memory_len, record, record_len);
+    if (FAULT == 33 && kind == SWARMBANNER_REFUSED && memory_len > 0)
+        memory[0] = 0;
+    if (FAULT == 34 && kind == SWARMBANNER_TRACE_REFUSED)
+        record[0] = 0;
+    if (FAULT == 35 && kind == SWARMBANNER_MEMORY_REFUSED && memory_len > 0)
+        memory[memory_len - 1] = 0;
+    if (FAULT == 36 && kind == SWARMBANNER_STEP_REFUSED)
+        reply[2]++;
+    if (FAULT == 37 && kind == SWARMBANNER_STEP_REFUSED && reply[0] == SWARMBANNER_REFUSED_IMPOSSIBLE)
+        reply[1]++;
+    if (FAULT == 38 && kind == SWARMBANNER_STEP_REFUSED && reply[0] == SWARMBANNER_REFUSED_FULL)
+        reply[0] = SWARMBANNER_REFUSED_IMPOSSIBLE;
+    if (FAULT == 39 && kind == SWARMBANNER_LEFT && reply[0] == 0)
+        kind = SWARMBANNER_END;
+    if (FAULT == 40 && kind == SWARMBANNER_LEFT && reply[0] == trace_len)
+        kind = SWARMBANNER_END;
+    if (FAULT == 41 && kind == SWARMBANNER_NO_ROOM && reply_len > 0)
+        reply[0] = 0;
+    if (FAULT == 42 && kind != SWARMBANNER_NO_ROOM && reply_len > SWARMBANNER_REPLY_LEAST)
+        reply[SWARMBANNER_REPLY_LEAST] = 0;
+    /* the byte after the trace */
+    if (FAULT == 43 && trace_len > 0 && ((const volatile uint8_t *)trace)[trace_len] == 0)
+        return kind;
     return kind;
 }
