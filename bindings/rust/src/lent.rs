@@ -33,12 +33,24 @@ pub const READ: usize = 6;
 pub const YES: usize = 7;
 /// The contents do not belong to the set.
 pub const NO: usize = 8;
+/// A replay is at the end of its trace. With it go the steps taken.
+pub const END: usize = 9;
+/// A replay is at a configuration outside the map. With it go the steps taken.
+pub const LEFT: usize = 10;
+/// A step of a trace is turned away. With it go the number, the place in the trace and the steps taken.
+pub const STEP_REFUSED: usize = 11;
+/// A trace is too long. With it go 1 and 16,384.
+pub const TRACE_REFUSED: usize = 12;
+/// Queue memory is too short. With it goes 2.
+pub const MEMORY_REFUSED: usize = 13;
 
 /// The number of the layout that this crate is written for, SWARMBANNER_LAYOUT of the header. [`layout`] is the library's.
 pub const LAYOUT: usize = 2;
 
 /// Bytes that a file can have.
 pub const FILE_MOST: usize = 16_384;
+/// Bytes that a trace can have.
+pub const TRACE_MOST: usize = 16_384;
 /// Machines that a file can have.
 pub const MACHINES_MOST: usize = 4;
 /// Control states that a file can have.
@@ -64,6 +76,17 @@ pub const SPACE_LEAST: usize = at::BAD + BAD_ENTRIES_MOST * at::BAD_ROW;
 pub const TABLE_LEAST: usize = 32_512;
 /// Bytes that the contents buffer of a check needs.
 pub const CONTENTS_LEAST: usize = 32_768;
+/// Entries that the record of a replay needs.
+pub const RECORD_LEAST: usize = RECORD_LENGTHS + QUEUES_MOST;
+/// Bytes of memory that a replay needs for each queue of the file; queue q has those from this times q on.
+pub const QUEUE_LEAST: usize = 1_024;
+
+/// Where in the record the state of each machine is.
+pub const RECORD_STATES: usize = 0;
+/// Where in the record it says where in its bytes each queue begins.
+pub const RECORD_HEADS: usize = RECORD_STATES + MACHINES_MOST;
+/// Where in the record the number of messages that wait in each queue is.
+pub const RECORD_LENGTHS: usize = RECORD_HEADS + QUEUES_MOST;
 
 mod c {
     extern "C" {
@@ -94,6 +117,18 @@ mod c {
             queue_len: usize,
             contents: *mut u8,
             contents_len: usize,
+            reply: *mut usize,
+            reply_len: usize,
+        ) -> usize;
+        pub fn swarmbanner_replay(
+            file: *const u8,
+            file_len: usize,
+            trace: *const u8,
+            trace_len: usize,
+            memory: *mut u8,
+            memory_len: usize,
+            record: *mut usize,
+            record_len: usize,
             reply: *mut usize,
             reply_len: usize,
         ) -> usize;
@@ -149,6 +184,30 @@ pub fn check(file: &[u8], seen: &mut [u16], queue: &mut [u16], contents: &mut [u
             queue.len(),
             contents.as_mut_ptr(),
             contents.len(),
+            reply.as_mut_ptr(),
+            reply.len(),
+        )
+    }
+}
+
+/// Replays a trace: [`END`], [`LEFT`], [`STEP_REFUSED`], [`REFUSED`], [`TRACE_REFUSED`], [`MEMORY_REFUSED`] or [`NO_ROOM`].
+///
+/// After the first three the front of the record has the last configuration, and each queue of the file has its messages and
+/// then 0 in its [`QUEUE_LEAST`] bytes of memory; what follows in both is as it was. After a refusal of the file, the trace or
+/// the memory all of both is.
+pub fn replay(file: &[u8], trace: &[u8], memory: &mut [u8], record: &mut [usize], reply: &mut [usize]) -> usize {
+    // SAFETY: each pointer and length are of one slice. The three written to are borrowed exclusively, so they overlap
+    // nothing; the other two may be the same, as both are only read.
+    unsafe {
+        c::swarmbanner_replay(
+            file.as_ptr(),
+            file.len(),
+            trace.as_ptr(),
+            trace.len(),
+            memory.as_mut_ptr(),
+            memory.len(),
+            record.as_mut_ptr(),
+            record.len(),
             reply.as_mut_ptr(),
             reply.len(),
         )

@@ -24,12 +24,14 @@
 //! | ask whether contents lie in a set | [`member`] |
 //! | see what a file has in it | [`read`] and [`Session`] |
 //! | follow the contents that a reply shows | [`Failure`] and [`Way`] |
+//! | replay a trace, or many in the same memory | [`Replayer`], which gives the last [`Configuration`] |
+//! | replay a trace in memory of one's own | [`replay`] and [`Record`] |
 //! | lend memory of one's own | [`lent`] |
 //!
 //! The library must have the layout that this crate is written for, [`lent::LAYOUT`]; with any other, [`check`], [`Checker::new`],
-//! [`member`] and [`read`] panic.
+//! [`member`], [`read`], [`replay`] and [`Replayer::new`] panic.
 //!
-//! Replies, contents shown and tables come from the proved library. What this crate does with them, the methods of
+//! Replies, contents shown, tables, records and queues come from the proved library. What this crate does with them, the methods of
 //! [`Session`] among it, is plain Rust that was tested and not proved.
 
 #![deny(missing_docs)]
@@ -40,12 +42,14 @@ mod fits;
 #[allow(unsafe_code)]
 pub mod lent;
 mod refusal;
+mod replay;
 mod reply;
 mod session;
 mod way;
 
 pub use checker::{check, member, Checker};
 pub use refusal::Refusal;
+pub use replay::{replay, Configuration, Record, Replayed, Replayer};
 pub use reply::Reply;
 pub use session::{read, Arc, BadEntry, DiagramState, Kind, Machine, PoolState, Queue, Session, Transition};
 pub use way::{End, Failure, Way};

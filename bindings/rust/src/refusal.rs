@@ -1,7 +1,7 @@
 use std::error::Error;
 use std::fmt;
 
-/// Why a file or a question is turned away.
+/// Why a file, a question or a step of a trace is turned away.
 ///
 /// ```
 /// let refusal = swarmbanner::read(&[]).unwrap_err();
@@ -10,16 +10,17 @@ use std::fmt;
 /// ```
 #[derive(Clone, Copy, Debug, PartialEq, Eq, Hash)]
 pub struct Refusal {
-    /// Which cause it is, 1 to 13.
+    /// Which cause it is, 1 to 15.
     pub number: u8,
-    /// A place in the file; for causes 12 and 13 a place in the contents, for 2 and 11 always 0.
+    /// A place in the file; for causes 12 and 13 a place in the contents, for 14 and 15 one in the trace, for 2 and 11 always
+    /// 0. Causes 1, 3, 4 and 5 are a trace's too: [`Replayed`](crate::Replayed) says which of the two is meant.
     pub place: usize,
 }
 
 impl Refusal {
     /// From the first two numbers of a reply.
     pub(crate) fn told(reply: &[usize; 3]) -> Self {
-        let number = u8::try_from(reply[0]).expect("refusals are numbered 1 to 13");
+        let number = u8::try_from(reply[0]).expect("refusals are numbered 1 to 15");
         Refusal { number, place: reply[1] }
     }
 
@@ -39,6 +40,8 @@ impl Refusal {
             11 => "the file has no such control state",
             12 => "the file has no such message",
             13 => "a message of an earlier queue follows one of a later queue",
+            14 => "the machine is in another state, or the queue does not begin with the word",
+            15 => "a queue would pass 1,024 messages",
             _ => "no cause has this number",
         }
     }
@@ -48,6 +51,7 @@ impl Refusal {
         match self.number {
             2 | 11 => self.cause().to_string(),
             12 | 13 => format!("{} (at message {} of the contents)", self.cause(), self.place),
+            14 | 15 => format!("{} (at byte {} of the trace)", self.cause(), self.place),
             _ => format!("{} (at byte {} of the file)", self.cause(), self.place),
         }
     }

@@ -207,8 +207,8 @@ fn samples() {
 
 #[test]
 fn every_cause_is_explained() {
-    let causes: std::collections::HashSet<&str> = (1..=13).map(|number| Refusal { number, place: 0 }.cause()).collect();
-    assert_eq!(causes.len(), 13);
+    let causes: std::collections::HashSet<&str> = (1..=15).map(|number| Refusal { number, place: 0 }.cause()).collect();
+    assert_eq!(causes.len(), 15);
     assert_eq!(Refusal { number: 11, place: 0 }.explain(), "the file has no such control state");
     let error: Box<dyn std::error::Error> = Box::new(Refusal { number: 5, place: 7 });
     assert_eq!(error.to_string(), "refused 5 at 7");

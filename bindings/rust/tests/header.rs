@@ -4,7 +4,7 @@ use swarmbanner::lent::{self, at};
 
 const HEADER: &str = include_str!("../../../include/swarmbanner.h");
 
-const NUMBERS: [(&str, usize); 35] = [
+const NUMBERS: [(&str, usize); 46] = [
     ("CLOSED", lent::CLOSED),
     ("OUTSIDE", lent::OUTSIDE),
     ("LEAVES", lent::LEAVES),
@@ -14,12 +14,20 @@ const NUMBERS: [(&str, usize); 35] = [
     ("READ", lent::READ),
     ("YES", lent::YES),
     ("NO", lent::NO),
+    ("END", lent::END),
+    ("LEFT", lent::LEFT),
+    ("STEP_REFUSED", lent::STEP_REFUSED),
+    ("TRACE_REFUSED", lent::TRACE_REFUSED),
+    ("MEMORY_REFUSED", lent::MEMORY_REFUSED),
     ("LAYOUT", lent::LAYOUT),
     ("REPLY_LEAST", lent::REPLY_LEAST),
     ("SPACE_LEAST", lent::SPACE_LEAST),
     ("TABLE_LEAST", lent::TABLE_LEAST),
     ("CONTENTS_LEAST", lent::CONTENTS_LEAST),
+    ("RECORD_LEAST", lent::RECORD_LEAST),
+    ("QUEUE_LEAST", lent::QUEUE_LEAST),
     ("FILE_MOST", lent::FILE_MOST),
+    ("TRACE_MOST", lent::TRACE_MOST),
     ("MACHINES_MOST", lent::MACHINES_MOST),
     ("CONTROL_STATES_MOST", lent::CONTROL_STATES_MOST),
     ("QUEUES_MOST", lent::QUEUES_MOST),
@@ -40,6 +48,9 @@ const NUMBERS: [(&str, usize); 35] = [
     ("TRANSITION_WORD", at::TRANSITION_WORD),
     ("COUNTS", at::STATES - at::COUNTS),
     ("BAD_ROW", at::BAD_ROW),
+    ("RECORD_STATES", lent::RECORD_STATES),
+    ("RECORD_HEADS", lent::RECORD_HEADS),
+    ("RECORD_LENGTHS", lent::RECORD_LENGTHS),
 ];
 
 /// The number that a name is defined as, or that the table of places lists for it.

@@ -2,7 +2,7 @@
 
 use std::panic::{catch_unwind, UnwindSafe};
 
-use swarmbanner::{check, lent, member, read, Checker};
+use swarmbanner::{check, lent, member, read, replay, Checker, Record, Replayer};
 
 /// What a call panics with.
 fn said<T>(call: impl FnOnce() -> T + UnwindSafe) -> Option<String> {
@@ -18,5 +18,7 @@ fn typed_calls_panic() {
     assert_eq!(said(|| check(&[])), Some(why.clone()));
     assert_eq!(said(Checker::new), Some(why.clone()));
     assert_eq!(said(|| member(&[], 0, &[])), Some(why.clone()));
-    assert_eq!(said(|| read(&[])), Some(why));
+    assert_eq!(said(|| read(&[])), Some(why.clone()));
+    assert_eq!(said(|| replay(&[], &[], &mut [], &mut Record::default())), Some(why.clone()));
+    assert_eq!(said(Replayer::new), Some(why));
 }
