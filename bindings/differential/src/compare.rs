@@ -1,20 +1,26 @@
-//! One file: all three calls, with lengths and dirt chosen for it, beside the reference.
+//! One file: all four calls, with lengths and dirt chosen for it, beside the reference.
 
 use reference_checker::membership::membership;
 use reference_checker::random::Random;
-use reference_checker::read::{read, Refusal, Tables, LONGEST_FILE, MESSAGES};
+use reference_checker::read::{read, Refusal, Tables, LONGEST_FILE, MESSAGES, QUEUES};
+use reference_checker::replay::{replay, Answer, Lent as Replaying, Record, Reply as Replayed};
 use reference_checker::verdict::{line, Reply, Verdict};
 use reference_checker::walk::{check_tables, Scratch};
-use swarmbanner::lent::{self, CONTENTS_LEAST, REPLY_LEAST, SPACE_LEAST, TABLE_LEAST};
-use swarmbanner::Checker;
+use swarmbanner::lent::{self, CONTENTS_LEAST, QUEUE_LEAST, RECORD_LEAST, REPLY_LEAST, SPACE_LEAST, TABLE_LEAST};
+use swarmbanner::{Checker, Replayer};
 
 use crate::flat::flat;
 use crate::lend::Lent;
 use crate::tally::Tally;
-use crate::typed::same_session;
+use crate::traces::trace;
+use crate::typed::{same_run, same_session};
 
 /// Most entries that are lent beyond the least.
 const MORE: usize = 70;
+/// Most bytes of queue memory that are lent.
+pub const MEMORY_MOST: usize = 2 * QUEUES * QUEUE_LEAST;
+/// More of a trace is not shown in a complaint.
+const TRACE_SHOWN: usize = 400;
 /// One file in so many goes through the typed calls as well.
 const TYPED: usize = 4;
 
@@ -23,8 +29,11 @@ pub struct Comparer {
     seen: Lent<u16>,
     queue: Lent<u16>,
     contents: Lent<u8>,
+    memory: Lent<u8>,
+    record: Lent<usize>,
     reply: Lent<usize>,
     checker: Checker,
+    replayer: Replayer,
     scratch: Scratch,
     pub tally: Tally,
 }
@@ -45,6 +54,18 @@ fn told(reply: &Reply) -> Told {
         }
         Ok(Verdict::Bad { entry, contents }) => (lent::BAD, [*entry, contents.len(), 0]),
         Err(refusal) => refused(refusal),
+    }
+}
+
+fn told_of_replay(reply: &Replayed) -> Told {
+    let numbers = |refusal: &Refusal, steps| [usize::from(refusal.number), refusal.place, steps];
+    match reply {
+        Replayed::End { steps } => (lent::END, [*steps, 0, 0]),
+        Replayed::Outside { steps } => (lent::LEFT, [*steps, 0, 0]),
+        Replayed::StepRefused { refusal, steps } => (lent::STEP_REFUSED, numbers(refusal, *steps)),
+        Replayed::FileRefused(refusal) => (lent::REFUSED, numbers(refusal, 0)),
+        Replayed::TraceRefused(refusal) => (lent::TRACE_REFUSED, numbers(refusal, 0)),
+        Replayed::MemoryRefused(refusal) => (lent::MEMORY_REFUSED, numbers(refusal, 0)),
     }
 }
 
@@ -82,8 +103,11 @@ impl Comparer {
             seen: Lent::new(TABLE_LEAST + MORE, || random.between(1, 65_535) as u16),
             queue: Lent::new(TABLE_LEAST + MORE, || random.between(1, 65_535) as u16),
             contents: Lent::new(CONTENTS_LEAST + MORE, || random.between(1, 255) as u8),
+            memory: Lent::new(MEMORY_MOST, || random.between(1, 255) as u8),
+            record: Lent::new(RECORD_LEAST + MORE, || random.between(1, usize::MAX - 1)),
             reply: Lent::new(REPLY_LEAST + MORE, || random.between(1, usize::MAX - 1)),
             checker: Checker::new(),
+            replayer: Replayer::new(),
             scratch: Scratch::default(),
             tally: Tally::default(),
         }
@@ -100,6 +124,10 @@ impl Comparer {
         if is_typed {
             compare_session(file, &tables)?;
         }
+        let steps = trace(tables.as_ref().ok(), random);
+        let queues = tables.as_ref().map_or_else(|_| random.between(1, QUEUES), |tables| tables.queue_count);
+        let memory_length = length(random, queues * QUEUE_LEAST);
+        self.compare_replaying(file, &steps, memory_length, random)?;
         if checks {
             let reply = match &tables {
                 Ok(tables) => Ok(check_tables(tables, &mut self.scratch)),
@@ -224,6 +252,55 @@ impl Comparer {
         }
         demand(self.contents.now()[..shown.len()] == *shown, "check: other contents are shown")?;
         demand(self.contents.kept_from(shown.len()), "check: the rest of the contents buffer has changed")
+    }
+
+    /// A trace on a file, in so much memory.
+    pub fn compare_replaying(
+        &mut self,
+        file: &[u8],
+        trace: &[u8],
+        memory_length: usize,
+        random: &mut Random,
+    ) -> Result<(), String> {
+        let (record_length, reply_length) = (length(random, RECORD_LEAST), length(random, REPLY_LEAST));
+        let kind = lent::replay(
+            file,
+            trace,
+            self.memory.lend(memory_length),
+            self.record.lend(record_length),
+            self.reply.lend(reply_length),
+        );
+        let run_kept = self.memory.kept() && self.record.kept();
+        if record_length < RECORD_LEAST || reply_length < REPLY_LEAST {
+            self.tally.count("replay: no room");
+            demand(kind == lent::NO_ROOM, "replay: room was found where there is none")?;
+            return demand(run_kept && self.reply.kept(), "replay: written to without room");
+        }
+        let before = Replaying { record: Record::default(), memory: self.memory.before().to_vec() };
+        let expected = replay(file, trace, &before);
+        self.tally.count_replay(file, trace, &expected);
+        let told_here = self.reply(kind, "replay")?;
+        if told_here != told_of_replay(&expected.reply) {
+            let begin = &trace[..trace.len().min(TRACE_SHOWN)];
+            return Err(format!("replay of {begin:?}..: told {told_here:?}, the reference {}", expected.reply));
+        }
+        if random.below(TYPED) == 0 {
+            let replayed = self.replayer.replay(file, trace);
+            demand(same_run(&replayed, &self.replayer, &expected), "replay: the typed call says something else")?;
+        }
+        match expected.reply {
+            Replayed::End { .. } | Replayed::Outside { .. } | Replayed::StepRefused { .. } => self.run_left(&expected),
+            _ => demand(run_kept, "replay: record or memory has changed after a refusal"),
+        }
+    }
+
+    /// What a replay leaves in the record and in queue memory.
+    fn run_left(&self, expected: &Answer) -> Result<(), String> {
+        let numbers = expected.lent.record.numbers();
+        demand(self.record.now()[..RECORD_LEAST].iter().copied().eq(numbers), "replay: another record")?;
+        demand(self.record.kept_from(RECORD_LEAST), "replay: the record's rest has changed")?;
+        demand(self.memory.now() == expected.lent.memory, "replay: other queue memory")?;
+        demand(self.memory.kept_from(self.memory.now().len()), "replay: memory around the queues has changed")
     }
 
     fn compare_typed_checking(&mut self, file: &[u8], expected: &Reply) -> Result<(), String> {

@@ -24,6 +24,11 @@ impl<T: Copy + PartialEq> Lent<T> {
         &mut self.memory[WATCHED..][..length]
     }
 
+    /// What the entries lent held before.
+    pub fn before(&self) -> &[T] {
+        &self.dirt[WATCHED..][..self.length]
+    }
+
     /// What the entries lent hold now.
     pub fn now(&self) -> &[T] {
         &self.memory[WATCHED..][..self.length]

@@ -5,6 +5,7 @@ mod files;
 mod flat;
 mod lend;
 mod tally;
+mod traces;
 mod typed;
 
 use std::process::ExitCode;
@@ -14,10 +15,11 @@ use std::thread;
 use std::time::{Duration, Instant};
 
 use reference_checker::generate::reading::reading_cases;
+use reference_checker::generate::replay::replay_cases;
 use reference_checker::generate::verdicts::verdict_cases;
 use reference_checker::random::Random;
 
-use compare::Comparer;
+use compare::{Comparer, MEMORY_MOST};
 use files::Files;
 use tally::Tally;
 
@@ -32,6 +34,8 @@ usage: differential [--count N] [--seed S] [--from N] [--seconds N] [--threads N
 
 /// Runs of fewer files need not meet everything.
 const ENOUGH_TO_MEET_ALL: u64 = 100_000;
+/// The last of so many files brings replays with it. The number is odd, so that threads do it in turn.
+const WITH_REPLAYS: u64 = 99_999;
 const COMPLAINTS: usize = 10;
 
 struct Options {
@@ -99,15 +103,19 @@ impl Run {
                 break;
             }
             let (file, random) = files.file(seed, number);
+            let which = format!("--seed {seed} --from {number}");
             if let Err(why) = comparer.compare(&file, random, true) {
-                self.complain(&format!("--seed {seed} --from {number}"), &file, &why);
+                self.complain(&which, &file, &why);
+            }
+            if number % WITH_REPLAYS == WITH_REPLAYS - 1 {
+                self.replays(&mut comparer, random.below(usize::MAX) as u64, random, &which);
             }
             self.done.fetch_add(1, Ordering::Relaxed);
         }
         comparer.tally
     }
 
-    /// The files that the reference keeps: at every boundary, and of every verdict. Returns how many.
+    /// The files that the reference keeps: at every boundary, of every verdict, and for every end of a replay. Returns how many.
     fn kept(&self, comparer: &mut Comparer) -> usize {
         let seed = self.options.seed;
         let mut random = Random::new(seed);
@@ -121,7 +129,20 @@ impl Run {
             }
             count += 1;
         }
-        count
+        count + self.replays(comparer, seed, &mut random, "kept replay")
+    }
+
+    /// The replays that the reference makes from a seed: of every end, some of them long. Returns how many.
+    fn replays(&self, comparer: &mut Comparer, seed: u64, random: &mut Random, which: &str) -> usize {
+        let cases = replay_cases(seed);
+        for case in &cases {
+            let replay = &case.replay;
+            let memory_length = replay.memory_length.min(MEMORY_MOST);
+            if let Err(why) = comparer.compare_replaying(&replay.file, &replay.trace, memory_length, random) {
+                self.complain(&format!("{which}, {}", case.kind), &replay.file, &why);
+            }
+        }
+        cases.len()
     }
 
     fn show_progress(&self) {

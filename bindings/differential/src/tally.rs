@@ -2,13 +2,15 @@
 
 use std::collections::BTreeMap;
 
-use reference_checker::read::{Kind, Tables, Transition, WORD_LENGTH};
+use reference_checker::read::{read, Kind, Tables, Transition, WORD_LENGTH};
+use reference_checker::replay::{Answer, Reply as Replayed, QUEUE_ROOM};
 use reference_checker::verdict::{Reply, Verdict};
 
 #[derive(Default)]
 pub struct Tally {
     counts: BTreeMap<String, u64>,
     longest_shown: usize,
+    most_steps: usize,
     /// Words of each length in files that were read.
     words: [u64; WORD_LENGTH + 1],
 }
@@ -17,6 +19,9 @@ pub struct Tally {
 const DEMANDED: [&str; 6] =
     ["read: read", "read: no room", "member: yes", "member: no", "member: no room", "check: no room"];
 const VERDICTS: [&str; 4] = ["closed", "outside", "leaves", "bad"];
+const REPLAYED: [&str; 5] =
+    ["replay: end", "replay: outside", "replay: trace refused 1", "replay: memory refused 2", "replay: no room"];
+const QUEUES_MET: [&str; 2] = ["replay: a queue goes round its bytes", "replay: a queue is full"];
 const LEFT: [&str; 2] = ["check: leaves by sending a longest word", "check: leaves by receiving a longest word"];
 
 impl Tally {
@@ -45,6 +50,34 @@ impl Tally {
         self.count(name);
     }
 
+    pub fn count_replay(&mut self, file: &[u8], trace: &[u8], answer: &Answer) {
+        let name = match answer.reply {
+            Replayed::End { steps } | Replayed::Outside { steps } | Replayed::StepRefused { steps, .. } => {
+                self.count_run(file, trace, answer, steps);
+                match answer.reply {
+                    Replayed::End { .. } => "replay: end".to_string(),
+                    Replayed::StepRefused { refusal, .. } => format!("replay: step refused {}", refusal.number),
+                    _ => "replay: outside".to_string(),
+                }
+            }
+            Replayed::FileRefused(refusal) => format!("replay: file refused {}", refusal.number),
+            Replayed::TraceRefused(refusal) => format!("replay: trace refused {}", refusal.number),
+            Replayed::MemoryRefused(refusal) => format!("replay: memory refused {}", refusal.number),
+        };
+        self.count(&name);
+    }
+
+    fn count_run(&mut self, file: &[u8], trace: &[u8], answer: &Answer, steps: usize) {
+        self.most_steps = self.most_steps.max(steps);
+        let [goes_round, is_full] = QUEUES_MET;
+        if answer.lent.record.lengths.contains(&QUEUE_ROOM) {
+            self.count(is_full);
+        }
+        if steps * WORD_LENGTH > QUEUE_ROOM && sent_to_one_queue(file, &trace[..steps]) > QUEUE_ROOM {
+            self.count(goes_round);
+        }
+    }
+
     pub fn count_words(&mut self, transitions: &[Transition]) {
         for transition in transitions.iter().filter(|transition| transition.kind != Kind::Local) {
             self.words[usize::from(transition.length)] += 1;
@@ -66,6 +99,7 @@ impl Tally {
             *self.counts.entry(what).or_default() += count;
         }
         self.longest_shown = self.longest_shown.max(other.longest_shown);
+        self.most_steps = self.most_steps.max(other.most_steps);
         for (count, more) in self.words.iter_mut().zip(other.words) {
             *count += more;
         }
@@ -78,8 +112,10 @@ impl Tally {
         let read = refused_files.map(|number| format!("read: refused {number}"));
         let check = (1..=10).map(|number| format!("check: refused {number}"));
         let member = refused_files.into_iter().chain(11..=13).map(|number| format!("member: refused {number}"));
-        let fixed = DEMANDED.into_iter().chain(LEFT).map(str::to_string);
-        let demanded = fixed.chain(verdicts).chain(read).chain(check).chain(member);
+        let files = refused_files.map(|number| format!("replay: file refused {number}"));
+        let steps = [3, 4, 5, 14, 15].map(|number| format!("replay: step refused {number}"));
+        let fixed = DEMANDED.into_iter().chain(REPLAYED).chain(QUEUES_MET).chain(LEFT).map(str::to_string);
+        let demanded = fixed.chain(verdicts).chain(read).chain(check).chain(member).chain(files).chain(steps);
         let lengths = self.words.iter().zip(0..).filter(|(&count, _)| count == 0);
         let words = lengths.map(|(_, length)| format!("a word of length {length}"));
         demanded.filter(|what| !self.counts.contains_key(what)).chain(words).collect()
@@ -87,7 +123,7 @@ impl Tally {
 
     pub fn report(&self) -> String {
         let mut report = String::new();
-        for call in ["read", "member", "check"] {
+        for call in ["read", "member", "check", "replay"] {
             let of_call = self.counts.iter().filter_map(|(what, count)| {
                 let name = what.strip_prefix(call)?.strip_prefix(": ")?;
                 Some(format!("{name} {count}"))
@@ -96,6 +132,20 @@ impl Tally {
         }
         let words = self.words.map(|count| count.to_string()).join(" ");
         report += &format!("  words read, by length from 0: {words}\n");
-        report + &format!("  longest contents shown: {} messages\n", self.longest_shown)
+        let (longest, most) = (self.longest_shown, self.most_steps);
+        report + &format!("  longest contents shown: {longest} messages; longest replay: {most} steps\n")
     }
+}
+
+/// How many messages the steps of a run send to the queue that gets the most. A number of a step that is taken has one byte.
+fn sent_to_one_queue(file: &[u8], steps: &[u8]) -> usize {
+    let tables = read(file).expect("a file that is replayed is read");
+    let mut sent = vec![0; tables.queue_count];
+    for &number in steps {
+        let transition = &tables.transitions[usize::from(number)];
+        if transition.kind == Kind::Send {
+            sent[usize::from(transition.queue)] += transition.word().len();
+        }
+    }
+    sent.into_iter().max().unwrap_or(0)
 }

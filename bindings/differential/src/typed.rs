@@ -1,7 +1,8 @@
-//! The typed session of the binding beside the reference's tables.
+//! The typed session and the typed replay of the binding beside the reference's.
 
 use reference_checker::read::{Kind as ReferenceKind, Tables, Transition as ReferenceTransition, MESSAGES};
-use swarmbanner::{Kind, Session, Transition};
+use reference_checker::replay::{Answer, Reply, QUEUE_ROOM};
+use swarmbanner::{Kind, Replayed, Replayer, Session, Transition};
 
 /// Whether a session says what the tables say.
 pub fn same_session(session: &Session, tables: &Tables) -> bool {
@@ -54,4 +55,21 @@ fn same_pool(session: &Session, tables: &Tables) -> bool {
             },
         )
         && roots.eq(tables.roots[..tables.control_state_count].iter().map(|&root| usize::from(root)))
+}
+
+/// Whether a replay that has memory enough says what the reference does, which may have had too little.
+pub fn same_run(replayed: &Replayed, replayer: &Replayer, expected: &Answer) -> bool {
+    if matches!(expected.reply, Reply::MemoryRefused(_)) {
+        return replayed.steps().is_some() && replayer.last().is_some();
+    }
+    let record = &expected.lent.record;
+    let same_last = replayer.last().is_none_or(|last| {
+        let states = record.states.iter().take(last.states.len()).map(|&state| usize::from(state));
+        let queues =
+            expected.lent.memory.chunks(QUEUE_ROOM).zip(record.lengths).map(|(bytes, length)| &bytes[..length]);
+        states.eq(last.states.iter().copied()) && queues.take(last.queues.len()).eq(last.queues.iter().copied())
+    });
+    replayed.to_string() == expected.reply.to_string()
+        && same_last
+        && replayed.steps().is_some() == replayer.last().is_some()
 }
