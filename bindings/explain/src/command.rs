@@ -8,6 +8,8 @@ use std::io::{self, Read, Write};
 use std::os::unix::ffi::OsStrExt;
 use std::process::exit;
 
+use crate::trace::Trace;
+
 /// The exit status for a file that is refused.
 pub const REFUSED: u8 = 2;
 /// The exit status for what could not be tried.
@@ -16,8 +18,11 @@ pub const NOT_TRIED: u8 = 3;
 /// What the shell says of a command that a closed pipe ended.
 const PIPE_CLOSED: i32 = 141;
 
-/// A file may have 16,384 bytes; one more shows that it is too long.
+/// A file and a trace may have 16,384 bytes; one more shows that it is too long.
 const BYTES_READ: u64 = 16_385;
+
+/// A trace that is typed may have so many bytes: some sixty for each number.
+const TEXT_MOST: u64 = 1_048_576;
 
 /// The files among words: all that does not begin with a dash, `-` itself, and what follows `--`.
 pub fn files(words: impl Iterator<Item = OsString>) -> Vec<OsString> {
@@ -32,12 +37,21 @@ pub fn files(words: impl Iterator<Item = OsString>) -> Vec<OsString> {
     words.filter(is_file).collect()
 }
 
+/// Whether an option is among words, before `--`.
+pub fn has_option(words: &[OsString], option: &str) -> bool {
+    words.iter().take_while(|word| *word != "--").any(|word| word == option)
+}
+
 /// The bytes of a file, or of standard input for `-`, no more than are looked at; else the system's reason.
 pub fn read_once(name: &OsStr) -> Result<Vec<u8>, String> {
+    read_up_to(name, BYTES_READ)
+}
+
+fn read_up_to(name: &OsStr, most: u64) -> Result<Vec<u8>, String> {
     let mut bytes = vec![];
     let outcome = match name == "-" {
-        true => io::stdin().lock().take(BYTES_READ).read_to_end(&mut bytes),
-        false => File::open(name).and_then(|file| file.take(BYTES_READ).read_to_end(&mut bytes)),
+        true => io::stdin().lock().take(most).read_to_end(&mut bytes),
+        false => File::open(name).and_then(|file| file.take(most).read_to_end(&mut bytes)),
     };
     outcome.map(|_| bytes).map_err(|error| reason(&error))
 }
@@ -102,6 +116,30 @@ impl Command {
     /// A file that could not be read, and why.
     pub fn unreadable(&mut self, file: &OsStr, why: &str) {
         self.complain_of(&[file.as_bytes(), b" cannot be read: ", why.as_bytes()]);
+        self.raise(NOT_TRIED);
+    }
+
+    /// A trace, as it is or typed. None where it could not be read, which is said.
+    pub fn trace(&mut self, name: &OsStr, is_text: bool) -> Option<Trace> {
+        let most = if is_text { TEXT_MOST + 1 } else { BYTES_READ };
+        let bytes = match read_up_to(name, most) {
+            Ok(bytes) => bytes,
+            Err(why) => {
+                self.unreadable(name, &why);
+                return None;
+            }
+        };
+        let trace = match is_text {
+            true if bytes.len() as u64 > TEXT_MOST => Err(format!(" has more than {TEXT_MOST} bytes of text")),
+            true => Trace::typed(&bytes).map_err(|mistyped| format!(", {mistyped}")),
+            false => Ok(Trace::of(bytes)),
+        };
+        trace.map_err(|why| self.untried(&[name.as_bytes(), why.as_bytes()])).ok()
+    }
+
+    /// Something that could not be tried, and why.
+    pub fn untried(&mut self, parts: &[&[u8]]) {
+        self.complain_of(parts);
         self.raise(NOT_TRIED);
     }
 

@@ -62,7 +62,7 @@ fn is_bad(session: &Session, entry: usize, inside: &(usize, Way), bad: &Way) -> 
     lines
 }
 
-fn set_of(control: usize) -> String {
+pub(crate) fn set_of(control: usize) -> String {
     format!("the set of control state {control}")
 }
 
@@ -78,15 +78,20 @@ pub(crate) fn several_bad(count: usize) -> String {
 /// A control state with its machines, and a line for each queue.
 fn configuration(session: &Session, title: &str, control: usize, contents: &[u8]) -> Vec<String> {
     let states = session.machine_states(control).expect("the control state is one of the session");
-    let machines: Vec<String> =
-        states.iter().zip(0..).map(|(state, machine)| format!("machine {machine} in state {state}")).collect();
     let queues = session.split(contents).expect("contents shown by the checker are queue after queue");
-    let mut lines = vec![format!("{title}: control state {control}: {}", machines.join(", "))];
+    let mut lines = vec![format!("{title}: control state {control}: {}", machines_in(&states))];
     lines.extend(queues.iter().zip(0..).map(|(word, queue)| match word.len() {
         0 => format!("  queue {queue} is empty"),
         length => format!("  queue {queue} holds {}: {}", several(length, "message"), numbers(word)),
     }));
     lines
+}
+
+/// The state of each machine.
+pub(crate) fn machines_in(states: &[usize]) -> String {
+    let machines: Vec<String> =
+        states.iter().zip(0..).map(|(state, machine)| format!("machine {machine} in state {state}")).collect();
+    machines.join(", ")
 }
 
 pub(crate) fn numbers(word: &[u8]) -> String {
@@ -106,7 +111,7 @@ pub(crate) fn step(transition: &Transition) -> String {
 }
 
 /// How far a diagram follows contents.
-fn followed(session: &Session, whose: &str, way: &Way) -> String {
+pub(crate) fn followed(session: &Session, whose: &str, way: &Way) -> String {
     let (Some(root), Some(last)) = (way.states.first(), way.states.last()) else {
         return format!("{whose} has no root, so nothing is in it");
     };
