@@ -6,11 +6,10 @@ use swarmbanner::{DiagramState, End, Session, Way};
 
 use crate::dot::{Attribute, Dot};
 use crate::text::ranges;
+use crate::tone::Tone;
 
-const TAKEN: &str = "#1f5fbf";
-const TAKEN_FILL: &str = "#dbe8fb";
-const LOST: &str = "#c62828";
-const LOST_FILL: &str = "#fbdede";
+const TAKEN: &str = Tone::Taken.line();
+const LOST: &str = Tone::Lost.line();
 
 /// A diagram whose nodes have a prefix of their own, since pictures may have the same state twice.
 pub struct Diagram<'a> {
@@ -80,12 +79,13 @@ impl Diagram<'_> {
         }
         if let Some(way) = self.way.filter(|way| way.states.contains(&state)) {
             let ends_here = way.states.last() == Some(&state);
-            let (line, fill) = match way.end {
-                End::NotFinal if ends_here => (LOST, LOST_FILL),
-                _ => (TAKEN, TAKEN_FILL),
+            let tone = match way.end {
+                End::NotFinal if ends_here => Tone::Lost,
+                _ => Tone::Taken,
             };
             let width = if ends_here { "2.5" } else { "1.5" };
-            attributes.extend([("color", line), ("style", "filled"), ("fillcolor", fill), ("penwidth", width)]);
+            let colours = [("color", tone.line()), ("style", "filled"), ("fillcolor", tone.fill())];
+            attributes.extend(colours.into_iter().chain([("penwidth", width)]));
         }
         dot.node(&self.name(state), &attributes);
     }

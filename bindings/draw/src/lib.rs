@@ -1,4 +1,4 @@
-//! Pictures of session files as Graphviz DOT: machines, diagrams, and where a verdict fails.
+//! Pictures of session files as Graphviz DOT: machines, diagrams, where a verdict fails, and where a replay ends.
 
 #![deny(missing_docs)]
 #![forbid(unsafe_code)]
@@ -8,5 +8,6 @@ mod dot;
 mod machines;
 mod picture;
 mod text;
+mod tone;
 
-pub use picture::{pictures, Picture};
+pub use picture::{pictures, replay_pictures, Picture};

@@ -6,23 +6,31 @@ use swarmbanner::Session;
 
 use crate::dot::{Attribute, Dot};
 use crate::text::{label, ranges};
+use crate::tone::Tone;
 
-const MARKED: &str = "#c62828";
-const MARKED_FILL: &str = "#fbdede";
+/// What is marked in the machines.
+#[derive(Clone, Copy, Debug)]
+pub struct Marked {
+    /// The control state whose states are marked.
+    pub control: usize,
+    pub tone: Tone,
+    /// The transition that fails.
+    pub transition: Option<usize>,
+}
 
-/// Draws all machines. The states of a control state and a transition are marked, where they are given.
-pub fn draw(session: &Session, marked: Option<(usize, Option<usize>)>) -> (String, usize) {
+/// Draws all machines.
+pub fn draw(session: &Session, marked: Option<Marked>) -> (String, usize) {
     let mut dot = Dot::new(&title(session));
-    let states = marked.and_then(|(control, _)| session.machine_states(control));
-    let transition = marked.and_then(|(_, transition)| transition);
+    let states = marked.and_then(|marked| Some((session.machine_states(marked.control)?, marked.tone)));
+    let transition = marked.and_then(|marked| marked.transition);
     // Clusters are laid out from below.
     for (number, machine) in session.machines().iter().enumerate().rev() {
         dot.open_cluster(&format!("m{number}"), &format!("machine {number}"));
         let begin = format!("m{number}_begin");
         dot.node(&begin, &[("shape", "point"), ("width", "0.08")]);
         for state in 0..machine.states {
-            let is_marked = states.as_ref().is_some_and(|states| states[number] == state);
-            draw_state(&mut dot, number, state, is_marked);
+            let tone = states.as_ref().filter(|(states, _)| states[number] == state).map(|(_, tone)| *tone);
+            draw_state(&mut dot, number, state, tone);
         }
         dot.arrow(&begin, &name(number, machine.start), &[]);
         draw_transitions(&mut dot, session, number, transition);
@@ -44,11 +52,12 @@ fn name(machine: usize, state: usize) -> String {
     format!("m{machine}_{state}")
 }
 
-fn draw_state(dot: &mut Dot, machine: usize, state: usize, is_marked: bool) {
+fn draw_state(dot: &mut Dot, machine: usize, state: usize, tone: Option<Tone>) {
     let label = state.to_string();
     let mut attributes: Vec<Attribute> = vec![("label", &label)];
-    if is_marked {
-        attributes.extend([("color", MARKED), ("style", "filled"), ("fillcolor", MARKED_FILL), ("penwidth", "2")]);
+    if let Some(tone) = tone {
+        let (line, fill) = (tone.line(), tone.fill());
+        attributes.extend([("color", line), ("style", "filled"), ("fillcolor", fill), ("penwidth", "2")]);
     }
     dot.node(&name(machine, state), &attributes);
 }
@@ -62,7 +71,8 @@ fn draw_transitions(dot: &mut Dot, session: &Session, machine: usize, marked: Op
         }
         let label = label(number, transition);
         if marked == Some(number) {
-            let attributes = [("label", &label[..]), ("color", MARKED), ("fontcolor", MARKED), ("penwidth", "2")];
+            let line = Tone::Lost.line();
+            let attributes = [("label", &label[..]), ("color", line), ("fontcolor", line), ("penwidth", "2")];
             dot.arrow(&name(machine, transition.from), &name(machine, transition.to), &attributes);
         } else {
             shared.entry((transition.from, transition.to)).or_default().push(label);

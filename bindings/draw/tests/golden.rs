@@ -1,6 +1,7 @@
-//! Pictures of small files, held to the DOT kept in `tests/golden`.
+//! Pictures of small files and replays, held to the DOT kept in `tests/golden`.
 
-use swarmbanner_draw::{pictures, Picture};
+use swarmbanner::Replayer;
+use swarmbanner_draw::{pictures, replay_pictures, Picture};
 
 /// Case c of document 01: `leaves 0 0 1: 0`. One 0 may wait, so a second send is lost.
 const C: &str = "02 01 01 00 00 01 01 02 00 00 00 01 00 01 00 01 00 00 02 00 01 00 02 01 01 00 01 01 00 01 00";
@@ -21,15 +22,30 @@ const W: &str = "01 02 00 01 20 04 \
 const T: &str = "01 02 00 01 02 01 00 00 01 02 00 10 00 01 00 01 00 01 00 01 00 01 00 01 00 01 00 01 \
                  02 01 01 00 01 00 01 01 00 01 00 00";
 
+fn hex(text: &str) -> Vec<u8> {
+    text.split_whitespace().map(|byte| u8::from_str_radix(byte, 16).expect("two hexadecimal digits")).collect()
+}
+
 fn drawn(file: &str, control: Option<usize>) -> Vec<Picture> {
-    let bytes: Vec<u8> =
-        file.split_whitespace().map(|byte| u8::from_str_radix(byte, 16).expect("two hexadecimal digits")).collect();
+    let bytes = hex(file);
     let session = swarmbanner::read(&bytes).expect("it is a session file");
     pictures(&session, &swarmbanner::check(&bytes), control)
 }
 
+fn replayed(file: &str, trace: &[u8], line: &str) -> Vec<Picture> {
+    let (bytes, mut replayer) = (hex(file), Replayer::new());
+    let session = swarmbanner::read(&bytes).expect("it is a session file");
+    let replayed = replayer.replay(&bytes, trace);
+    assert_eq!(replayed.to_string(), line);
+    let last = replayer.last().expect("it was replayed");
+    replay_pictures(&session, trace, &replayed, &last, None)
+}
+
 fn assert_drawn(file: &str, control: Option<usize>, expected: &[(&str, &str)]) {
-    let drawn = drawn(file, control);
+    assert_pictures(&drawn(file, control), expected);
+}
+
+fn assert_pictures(drawn: &[Picture], expected: &[(&str, &str)]) {
     let names: Vec<&str> = drawn.iter().map(|picture| &picture.name[..]).collect();
     assert_eq!(names, expected.iter().map(|(name, _)| *name).collect::<Vec<_>>());
     for (picture, (name, dot)) in drawn.iter().zip(expected) {
@@ -72,4 +88,46 @@ fn a_word_of_sixteen_on_two_arcs() {
     let machines = include_str!("golden/t-machines.dot");
     let leaves = include_str!("golden/t-leaves-0-0.dot");
     assert_drawn(T, None, &[("machines", machines), ("leaves-0-0", leaves)]);
+}
+
+#[test]
+fn a_replay_that_ends_outside() {
+    let machines = include_str!("golden/c-outside-replay-machines.dot");
+    let replay = include_str!("golden/c-outside-replay-0.dot");
+    let drawn = replayed(C, &[0, 1, 0, 0], "outside 4");
+    assert_pictures(&drawn, &[("replay-machines", machines), ("replay-0", replay)]);
+}
+
+#[test]
+fn a_replay_that_ends_where_nothing_is_inside() {
+    let machines = include_str!("golden/w-outside-replay-machines.dot");
+    let replay = include_str!("golden/w-outside-replay-1.dot");
+    assert_pictures(&replayed(W, &[0], "outside 1"), &[("replay-machines", machines), ("replay-1", replay)]);
+}
+
+#[test]
+fn a_replay_with_a_refused_step() {
+    let machines = include_str!("golden/c-refused-replay-machines.dot");
+    let replay = include_str!("golden/c-refused-replay-0.dot");
+    let drawn = replayed(C, &[0, 1, 1], "refused 14 at 2 after 2");
+    assert_pictures(&drawn, &[("replay-machines", machines), ("replay-0", replay)]);
+}
+
+#[test]
+fn a_replay_that_ends_with_its_trace() {
+    let machines = include_str!("golden/s-end-replay-machines.dot");
+    let replay = include_str!("golden/s-end-replay-0.dot");
+    assert_pictures(&replayed(S, &[0, 0], "end 2"), &[("replay-machines", machines), ("replay-0", replay)]);
+}
+
+/// Below the set stands the diagram that lists what waits as bad, and the states are red, also at the end of a trace. A number
+/// that is no transition has no arrow to be marked.
+#[test]
+fn a_replay_that_ends_at_something_bad() {
+    let machines = include_str!("golden/e-bad-replay-machines.dot");
+    let replay = include_str!("golden/e-bad-replay-0.dot");
+    let drawn = replayed(E, &[0, 2], "refused 5 at 1 after 1");
+    assert_pictures(&drawn, &[("replay-machines", machines), ("replay-0", replay)]);
+    let replay = replay.replace("refused 5 at 1 after 1", "end 1");
+    assert_pictures(&replayed(E, &[0], "end 1"), &[("replay-machines", machines), ("replay-0", &replay)]);
 }

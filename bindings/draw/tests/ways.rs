@@ -1,12 +1,13 @@
-//! On generated files: the ways that a picture marks are those of the contents shown.
+//! On generated files: the ways that a picture marks are those of the contents shown, and of what waits where a replay ends.
 
 use std::collections::BTreeMap;
 
 use reference_checker::diagram::accepts;
 use reference_checker::generate::verdicts::Plans;
+use reference_checker::random::Random;
 use reference_checker::read::{read, Tables};
-use swarmbanner::{Checker, End, Failure, Session, Way};
-use swarmbanner_draw::{pictures, Picture};
+use swarmbanner::{Checker, End, Failure, Replayed, Replayer, Session, Way};
+use swarmbanner_draw::{pictures, replay_pictures, Picture};
 
 const FILES: usize = 6_000;
 const SEED: u64 = 20_261_115;
@@ -135,4 +136,76 @@ fn marked_ways_end_as_the_verdict_says() {
     );
     assert!(leaves > 100 && bad > 100 && lost > 100 && lost < leaves, "too few files of some kind");
     assert!(cut * 100 < leaves + bad, "too many ways are cut: {cut}");
+}
+
+/// Transitions that can be taken, and now and then one more.
+fn walk(random: &mut Random, session: &Session) -> Vec<u8> {
+    let (mut trace, mut control, mut contents) = (vec![], session.start(), vec![]);
+    for _ in 0..random.below(20) {
+        let taken = (0..session.transitions().len()).filter_map(|number| {
+            let after = session.step(control, number, &contents)?;
+            Some((number, after))
+        });
+        let possible: Vec<_> = taken.collect();
+        let Some((number, after)) = random.pick(&possible) else { break };
+        trace.push(*number as u8);
+        (control, contents) = after.clone();
+    }
+    if random.chance(30) {
+        trace.push(random.below(session.transitions().len() + 1) as u8);
+    }
+    trace
+}
+
+/// The arrows of transitions that are marked in the machines, by their numbers.
+fn marked(machines: &Picture) -> Vec<usize> {
+    let arrows = machines.dot.lines().filter(|line| line.contains(" -> ") && line.contains("fontcolor"));
+    let number = |line: &str| line.split_once("label=\"")?.1.split_once(':')?.0.parse().ok();
+    arrows.map(|line| number(line).expect("an arrow has a number")).collect()
+}
+
+#[test]
+fn marked_ways_end_as_the_replay_says() {
+    let mut plans = Plans::new(SEED);
+    let mut replayer = Replayer::new();
+    let (mut inside, mut outside, mut refused, mut bad, mut cut) = (0, 0, 0, 0, 0);
+    for _ in 0..FILES {
+        let bytes = plans.small().bytes();
+        let session = swarmbanner::read(&bytes).expect("plans are session files");
+        let trace = walk(&mut plans.random, &session);
+        let replayed = replayer.replay(&bytes, &trace);
+        let last = replayer.last().expect("it was replayed");
+        let control = session.control_of(last.states).expect("states of the machines");
+        let drawn = replay_pictures(&session, &trace, &replayed, &last, Some(session.start()));
+        let names: Vec<&str> = drawn.iter().map(|picture| &picture.name[..]).collect();
+        assert_eq!(names, ["replay-machines", &format!("replay-{control}"), &format!("control-{}", session.start())]);
+        assert!(drawn[1].dot.contains(&format!("label=\"{replayed}")));
+        let failing = match replayed {
+            Replayed::Outside { steps } => steps.checked_sub(1),
+            Replayed::Refused { refusal, .. } => (refusal.number == 14).then_some(refusal.place),
+            _ => None,
+        };
+        assert_eq!(marked(&drawn[0]), failing.map_or(vec![], |place| vec![trace[place].into()]));
+        let (set, listed) = (Drawn::read(&drawn[1], "a"), Drawn::read(&drawn[1], "b"));
+        if set.is_cut || listed.is_cut {
+            cut += 1;
+            continue;
+        }
+        let tables = read(&bytes).expect("plans are session files");
+        let way = Way::follow(&session, session.root(control), &last.contents());
+        assert_way(&tables, &way, &set, !matches!(replayed, Replayed::Outside { .. }));
+        let accepting = tables.used_bad_entries().iter().filter(|entry| usize::from(entry.control_state) == control);
+        let first = accepting.map(|entry| Some(entry.root.into())).find(|&root| accepts(&tables, root, &way.contents));
+        assert_eq!(listed.root, first.flatten().map_or(String::new(), |root: usize| format!("b{root}")));
+        bad += usize::from(first.is_some());
+        assert!(first.is_none() || listed.ends_in_a_final_state());
+        match replayed {
+            Replayed::End { .. } => inside += 1,
+            Replayed::Outside { .. } => outside += 1,
+            _ => refused += 1,
+        }
+    }
+    println!("{inside} end, {outside} outside, {refused} refused; {bad} are bad; {cut} are too long to be read back");
+    assert!(inside.min(outside).min(refused).min(bad) > 100, "too few replays of some kind");
+    assert!(cut * 50 < FILES, "too many ways are cut: {cut}");
 }
