@@ -5,3 +5,4 @@ pub mod Rings
 pub mod Words
 pub mod Follow
 pub mod Settle
+pub mod Rows

@@ -1,17 +1,39 @@
 // Where the messages that wait lead by the table of arcs: those of one ring, and those of all rings, queue 0 first.
 use crate::ROOM;
+use numbers::number::wide;
+use tables::kinds::DiagramState;
 use tables::kinds::Message;
 use tables::kinds::Reached;
-use tables::lookup::Arc;
-use tables::lookup::arc_at;
+use tables::tables::ARCS;
 use tables::tables::MOST_QUEUES;
-ghost use Prim.Native.Nat.{_≤_};
+ghost use Prim.Native.Nat.{_+_, _≤_, _<_};
+ghost use lib.ListN.{length};
 ghost use Rattle.model.specs.Model.{Between};
 ghost use Rattle.model.specs.Diagram.{word};
 ghost use Rattle.tables.specs.Limits.{mostMessages, mostPool};
 ghost use Rattle.tables.specs.Lookup.{ArcsSmall};
 ghost use Rattle.rings.specs.Ring.{waiting, rings};
 ghost use Rattle.rings.specs.Lent.{Ring, Rings, FollowsTo};
+ghost use Rattle.rings.specs.Rows.{RowTo};
+
+// Where the arcs of a state begin in their table, or nowhere.
+enum Row {
+    At(usize),
+    Nowhere,
+}
+
+// The row of the state that an arc of this row leads to. A row is followed by another without the state's number between them, which would
+// be one more wait for each message.
+fn row_after(arcs: &[u8], row: usize, m: Message) -> Row
+    requires { ⌜ row + m .0 < length (now arcs) ⌝ }
+    ensures { λ r. ⌜ RowTo (now (arcs .entry)) row (m .0) r ⌝ }
+{
+    let target = wide(arcs[row + m.0 as usize]);
+    if target == 0 {
+        return Row::Nowhere;
+    }
+    Row::At((target - 1) * ARCS)
+}
 
 // Where what waits in the ring at base leads. The first message that has nowhere to go ends it.
 pub fn follow_ring(
@@ -31,16 +53,16 @@ pub fn follow_ring(
     if from.is_nowhere() {
         return from;
     }
-    let mut s = from.state();
+    let mut row = wide(from.0) * ARCS;
     let mut i: usize = 0;
     while i < count {
-        let Arc::Target(next) = arc_at(arcs, s, Message(memory[base + (head + i) % ROOM])) else {
+        let Row::At(next) = row_after(arcs, row, Message(memory[base + (head + i) % ROOM])) else {
             return Reached::nowhere();
         };
-        s = next;
+        row = next;
         i += 1;
     }
-    Reached::at(s)
+    Reached::at(DiagramState::new(row / ARCS))
 }
 
 // Where what waits in so many rings leads.

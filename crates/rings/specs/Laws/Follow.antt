@@ -5,7 +5,8 @@ use mathlib.Core.Option.{Option, none}
 use mathlib.Core.List.{List, [], _∷_, _++_}
 use native.Mathlib.Omega.{arith}
 use Rattle.tables.specs.Limits.{mostPool, mostMessages}
-use Rattle.tables.specs.Kinds.{reachedOf}
+use borrow.Author.Tests.{lt-ltb}
+use Rattle.tables.specs.Kinds.{reachedOf, limited}
 use Rattle.tables.specs.Lookup.{alongArc, AlongTo}
 use Rattle.tables.specs.Laws.Lookup.{reached-nowhere}
 use Rattle.model.specs.Model.{total, Between, message, Own}
@@ -90,3 +91,7 @@ module _ {arcs u : List ℕ} {t s : ℕ} {v : List ℕ} (f : Following arcs t u 
 
 pub follows-as : {arcs u : List ℕ} {t t′ r : ℕ} → t ≡ t′ → FollowsTo arcs t u r → FollowsTo arcs t′ u r
 follows-as {arcs} {u} e l = record { is = l .is ∙ ap (λ k. followArcs arcs (reachedOf k) u) e; most = l .most }
+
+-- a state that is made of its number
+pub made-state : {x raw : ℕ} → x ≡ limited mostPool raw → raw < mostPool → x ≡ raw
+made-state {x} {raw} e h = e ∙ rw (lt-ltb raw mostPool h)

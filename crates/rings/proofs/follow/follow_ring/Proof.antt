@@ -1,88 +1,111 @@
 use borrow.Author.Needs.{needs}
-use mathlib.Core.Path.{refl, sym, ap, _∙_}
-use Prim.Native.Nat.{_-_, _≤_, _<_}
+use mathlib.Core.Path.{_≡_, refl, sym, ap, _∙_}
+use Prim.Native.Nat.{_-_, _*_, _≤_, _<_}
 use native.Mathlib.Omega.{arith}
-use Rattle.tables.specs.Limits.{mostPool}
-use Rattle.tables.specs.Said.{saidArc}
-use Rattle.tables.specs.Laws.Lookup.{nowhere-true, nowhere-false, state-below, entry-within, arc-small, along-missing, along-arc}
+use Rattle.tables.specs.Limits.{mostPool, mostMessages}
+use Rattle.tables.specs.Laws.Lookup.{nowhere-true, nowhere-false, state-below, arc-small, along-missing, along-arc}
 use Rattle.rings.specs.Ring.{waiting}
+use Rattle.rings.specs.Laws.Rows.{stateAt, row-missing, row-arc}
 use Rattle.rings.specs.Laws.Words.{waitingFrom, waiting-begin, waiting-next, waiting-end}
-use Rattle.rings.specs.Laws.Follow.{Following, follow-begin, state-some, message-small, follow-message, follow-end, follow-lost, follows-as}
+use Rattle.rings.specs.Laws.Follow.{Following, follow-begin, state-some, message-small, follow-message, follow-end, follow-lost, follows-as, made-state}
 use Rattle.rings.proofs.follow.follow_ring.Statement.{statement}
 use Rattle.rings.proofs.follow.follow_ring.Tie as tie
 use Rattle.rings.proofs.follow.follow_ring.Reads as reads
 use Rattle.rings.proofs.follow.follow_ring.Lts as lts
+use Rattle.numbers.proofs.number.wide.Reads as wide-reads
+use Rattle.rings.proofs.follow.row_after.Reads as row-after-reads
+use Rattle.tables.proofs.kinds.DiagramState.new.Reads as new-reads
 use Rattle.tables.proofs.kinds.Reached.at.Reads as at-reads
 use Rattle.tables.proofs.kinds.Reached.is_nowhere.Reads as is-nowhere-reads
 use Rattle.tables.proofs.kinds.Reached.nowhere.Reads as nowhere-reads
-use Rattle.tables.proofs.kinds.Reached.state.Reads as state-reads
-use Rattle.tables.proofs.lookup.arc_at.Reads as arc-at-reads
 
 abbrev Inv-loop : tie.InvT-loop
-Inv-loop arcs memory base head count s₀ i₀ s i = Following arcs (s₀ .0) (waiting memory base head count) (s .0) (waitingFrom memory base head count i) × ((s .0 < mostPool) × (i ≤ count))
+Inv-loop arcs memory base head count row₀ i₀ row i = Following arcs (stateAt row₀) (waiting memory base head count) (stateAt row) (waitingFrom memory base head count i) × ((row ≡ stateAt row * mostMessages) × ((stateAt row < mostPool) × (i ≤ count)))
 
 abbrev μ-loop : tie.MeasureT-loop
-μ-loop arcs memory base head count s₀ i₀ s i = count - i
+μ-loop arcs memory base head count row₀ i₀ row i = count - i
 
+-- src/follow.rt:47:8
 is-nowhere-requires : tie.Need-is-nowhere-requires Inv-loop μ-loop
 is-nowhere-requires c κs = search needs
 
+-- src/follow.rt:48:9
 returns : tie.Need-returns Inv-loop μ-loop
 returns c = let e = nowhere-true _ (c .before .is-nowhere .ensures) (c .if1 .taken) in follow-lost (follow-begin (c .before .before .before .before .pre .1 .0) (c .before .before .before .before .pre .1 .1 .1) refl) e e
 
-state-requires : tie.Need-state-requires Inv-loop μ-loop
-state-requires c κs = state-below (c .before .before .before .before .pre .1 .0) (nowhere-false _ (c .before .is-nowhere .ensures) (c .if1 .left))
+-- src/follow.rt:50:19
+wide-requires : tie.Need-wide-requires Inv-loop μ-loop
+wide-requires c κs = search needs
 
+-- src/follow.rt:50:19
+mul-row : tie.Need-mul-row Inv-loop μ-loop
+mul-row c = search needs
+
+-- src/follow.rt:52:5
 loop-holds : tie.Need-loop-holds Inv-loop μ-loop
-loop-holds c =
-    let small = state-below (c .before .before .before .before .before .pre .1 .0) (nowhere-false _ (c .before .before .is-nowhere .ensures) (c .before .if1 .left)) in
-    (follow-begin (omega (arith, c .state .ensures, small)) (c .before .before .before .before .before .pre .1 .1 .1) (waiting-begin _ _ _ _), (omega (arith, c .state .ensures, small), omega arith))
+loop-holds c = let small = state-below (c .before .before .before .before .before .pre .1 .0) (nowhere-false _ (c .before .before .is-nowhere .ensures) (c .before .if1 .left)) in
+    (follow-begin (omega (arith, c .wide .ensures .same, small)) (c .before .before .before .before .before .pre .1 .1 .1) (waiting-begin _ _ _ _), (omega arith, (omega (arith, c .wide .ensures .same, small), omega arith)))
 
-add-t13 : tie.Need-add-t13 Inv-loop μ-loop
-add-t13 c = search needs
+-- src/follow.rt:53:73
+add-t14 : tie.Need-add-t14 Inv-loop μ-loop
+add-t14 c = search needs
 
-add-t15 : tie.Need-add-t15 Inv-loop μ-loop
-add-t15 c = search needs
+-- src/follow.rt:53:65
+add-t16 : tie.Need-add-t16 Inv-loop μ-loop
+add-t16 c = search needs
 
-shared-slice-read-t17 : tie.Need-shared-slice-read-t17 Inv-loop μ-loop
-shared-slice-read-t17 c = search needs
+-- src/follow.rt:53:58
+shared-slice-read-t18 : tie.Need-shared-slice-read-t18 Inv-loop μ-loop
+shared-slice-read-t18 c = search needs
 
-arc-at-requires : tie.Need-arc-at-requires Inv-loop μ-loop
-arc-at-requires c κs = entry-within (c .before .before .before .before .before .before .before .before .pre .0) (c .before .before .loop .inv .1 .0) (message-small (c .before .before .loop .inv .0) (waiting-next _ _ _ _ (c .before .loop-test .taken)))
+-- src/follow.rt:53:29
+row-after-requires : tie.Need-row-after-requires Inv-loop μ-loop
+row-after-requires c κs = omega (arith, message-small (c .before .before .loop .inv .0) (waiting-next _ _ _ _ (c .before .loop-test .taken)), c .before .before .loop .inv .1 .0, c .before .before .loop .inv .1 .1 .0, c .before .before .before .before .before .before .before .before .pre .0 .long)
 
+-- src/follow.rt:53:21
 enum-known-next : tie.Need-enum-known-next Inv-loop μ-loop
 enum-known-next c = search needs
 
+-- src/follow.rt:54:13
 enum-told : tie.Need-enum-told Inv-loop μ-loop
 enum-told c = search needs
 
+-- src/follow.rt:54:13
 nowhere-requires : tie.Need-nowhere-requires Inv-loop μ-loop
 nowhere-requires c κs = search needs
 
+-- src/follow.rt:54:13
 returns-2 : tie.Need-returns-2 Inv-loop μ-loop
-returns-2 c =
-    let here = waiting-next _ _ _ _ (c .before .before .before .before .before .loop-test .taken) in
-    let missing = sym (c .before .before .before .arc-at .ensures) ∙ ap saidArc (c .before .enum-told .given .1) in
-    let lost = follow-message (c .before .before .before .before .before .before .loop .inv .0) here (along-missing (state-some (c .before .before .before .before .before .before .loop .inv .1 .0)) refl missing refl) in
-    follows-as (c .before .before .before .before .before .before .before .state .ensures) (follow-lost lost refl (c .nowhere .ensures))
+returns-2 c = let here = waiting-next _ _ _ _ (c .before .before .before .before .before .loop-test .taken) in
+    let missing = row-missing (c .before .before .before .before .before .before .loop .inv .1 .0) (c .before .before .before .row-after .ensures) (c .before .enum-told .given .1) in
+    let lost = follow-message (c .before .before .before .before .before .before .loop .inv .0) here (along-missing (state-some (c .before .before .before .before .before .before .loop .inv .1 .1 .0)) refl missing refl) in
+    follows-as (omega (arith, c .before .before .before .before .before .before .before .wide .ensures .same)) (follow-lost lost refl (c .nowhere .ensures))
 
+-- src/follow.rt:57:9
 add-i : tie.Need-add-i Inv-loop μ-loop
 add-i c = search needs
 
+-- src/follow.rt:52:5
 loop-less : tie.Need-loop-less Inv-loop μ-loop
 loop-less c = search needs
 
+-- src/follow.rt:52:5
 loop-again : tie.Need-loop-again Inv-loop μ-loop
-loop-again c =
-    let here = waiting-next _ _ _ _ (c .before .before .before .before .before .loop-test .taken) in
-    let arc = sym (c .before .before .before .arc-at .ensures) ∙ ap saidArc (c .before .next .given .1) in
-    (follow-message (c .before .before .before .before .before .before .loop .inv .0) here (along-arc (state-some (c .before .before .before .before .before .before .loop .inv .1 .0)) refl (c .before .before .before .before .before .before .before .before .before .before .before .before .pre .0) arc refl), (arc-small _ _ (c .before .before .before .before .before .before .before .before .before .before .before .before .pre .0) arc, omega arith))
+loop-again c = let here = waiting-next _ _ _ _ (c .before .before .before .before .before .loop-test .taken) in
+    let arc = row-arc (c .before .before .before .before .before .before .loop .inv .1 .0) (c .before .before .before .row-after .ensures) (c .before .next .given .1) in
+    (follow-message (c .before .before .before .before .before .before .loop .inv .0) here (along-arc (state-some (c .before .before .before .before .before .before .loop .inv .1 .1 .0)) refl (c .before .before .before .before .before .before .before .before .before .before .before .before .pre .0) (arc .0) refl), (arc .1, (arc-small _ _ (c .before .before .before .before .before .before .before .before .before .before .before .before .pre .0) (arc .0), omega arith)))
 
+-- src/follow.rt:59:17
+new-requires : tie.Need-new-requires Inv-loop μ-loop
+new-requires c κs = search needs
+
+-- src/follow.rt:59:5
 at-requires : tie.Need-at-requires Inv-loop μ-loop
 at-requires c κs = search needs
 
+-- src/follow.rt:40:1
 returns-3 : tie.Need-returns-3 Inv-loop μ-loop
-returns-3 c = follows-as (c .before .before .before .state .ensures) (follow-end (c .before .before .loop .inv .0) (waiting-end _ _ _ _ (c .before .loop-test .left)) (c .at .ensures))
+returns-3 c = follows-as (omega (arith, c .before .before .before .before .wide .ensures .same)) (follow-end (c .before .before .before .loop .inv .0) (waiting-end _ _ _ _ (c .before .before .loop-test .left)) (c .at .ensures ∙ made-state (c .before .new .ensures) (c .before .before .before .loop .inv .1 .1 .0)))
 
 pub follow-ring-spec : {M : Type 1} → statement M
 follow-ring-spec =
@@ -92,12 +115,13 @@ follow-ring-spec =
     μ-loop
     is-nowhere-requires
     returns
-    state-requires
+    wide-requires
+    mul-row
     loop-holds
-    add-t13
-    add-t15
-    shared-slice-read-t17
-    arc-at-requires
+    add-t14
+    add-t16
+    shared-slice-read-t18
+    row-after-requires
     enum-known-next
     enum-told
     nowhere-requires
@@ -105,5 +129,6 @@ follow-ring-spec =
     add-i
     loop-less
     loop-again
+    new-requires
     at-requires
     returns-3)

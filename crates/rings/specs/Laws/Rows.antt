@@ -1,0 +1,58 @@
+-- A row leads where its state's arc does.
+use Prim.Native.Nat.{ℕ, _+_, _-_, _*_, _/_, _<_}
+use mathlib.Core.Path.{_≡_, refl, sym, ap, _∙_}
+use mathlib.Core.Bool.{Bool, true, false, cond}
+use mathlib.Core.Option.{none, some}
+use mathlib.Core.List.{List}
+use native.Mathlib.Omega.{arith}
+use lib.Dec.{eqb}
+use borrow.Author.Tests.{eq-eqb, ne-eqb}
+use lib.ListN.{getD}
+use Rattle.tables.specs.Limits.{mostMessages}
+use Rattle.tables.specs.Pool.{arcAt}
+use Rattle.model.specs.Laws.Basics.{none-not-some}
+use Rattle.rings.specs.Rows.{rowOf, saidRow, RowTo}
+use Rattle.rings.specs.declared.follow.Row.{Row}
+use Rattle.rings.specs.declared.follow.Row.the-variants.{At, Nowhere}
+
+-- the state of a row
+abbrev pub stateAt : ℕ → ℕ
+stateAt row = row / mostMessages
+
+-- an entry, by its test
+missing-entry : (b : Bool) (x : ℕ) → cond b none (some ((x - 1) * mostMessages)) ≡ none → cond b none (some (x - 1)) ≡ none
+missing-entry true x h = refl
+missing-entry false x h = none-not-some h refl
+
+arc-entry : (b : Bool) (x next : ℕ) → cond b none (some ((x - 1) * mostMessages)) ≡ some next
+    → (cond b none (some (x - 1)) ≡ some (stateAt next)) × (next ≡ stateAt next * mostMessages)
+arc-entry true x next h = none-not-some refl h
+arc-entry false x next h =
+    let is : (x - 1) * mostMessages ≡ next = cc in
+    let state : x - 1 ≡ stateAt next = omega arith in
+    (ap some state, omega arith)
+
+-- the entry of a row is that of its state
+entry-is : (arcs : List ℕ) (row m : ℕ) → row ≡ stateAt row * mostMessages
+    → arcAt arcs (stateAt row) m ≡ cond (eqb (getD arcs (row + m) 0) 0) none (some (getD arcs (row + m) 0 - 1))
+entry-is arcs row m e = ap (λ (k : ℕ). cond (eqb (getD arcs (k + m) 0) 0) none (some (getD arcs (k + m) 0 - 1))) (sym e)
+
+module _ {arcs : List ℕ} {row m : ℕ} {r : Row} (e : row ≡ stateAt row * mostMessages) (R : RowTo arcs row m r) where
+  pub row-missing : r ≡ Nowhere → arcAt arcs (stateAt row) m ≡ none
+  row-missing z =
+      entry-is arcs row m e
+      ∙ missing-entry (eqb (getD arcs (row + m) 0) 0) (getD arcs (row + m) 0) (sym (R .is) ∙ ap saidRow z)
+
+  pub row-arc : {next : ℕ} → r ≡ At next → (arcAt arcs (stateAt row) m ≡ some (stateAt next)) × (next ≡ stateAt next * mostMessages)
+  row-arc {next} z =
+      let a = arc-entry (eqb (getD arcs (row + m) 0) 0) (getD arcs (row + m) 0) next (sym (R .is) ∙ ap saidRow z) in
+      (entry-is arcs row m e ∙ a .0, a .1)
+
+-- what is read of an entry
+pub row-none : {x e : ℕ} → x ≡ e → x ≡ 0 → none ≡ rowOf e
+row-none {x} {e} s z = sym (ap (λ b. cond b none (some ((e - 1) * mostMessages))) (eq-eqb e 0 (sym s ∙ z)))
+
+pub row-some : {x e : ℕ} → x ≡ e → (x ≡ 0 → ⊥) → some ((x - 1) * mostMessages) ≡ rowOf e
+row-some {x} {e} s n =
+    ap (λ (y : ℕ). some ((y - 1) * mostMessages)) s
+    ∙ sym (ap (λ b. cond b none (some ((e - 1) * mostMessages))) (ne-eqb e 0 (λ z. n (s ∙ z))))
