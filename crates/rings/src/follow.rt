@@ -35,7 +35,7 @@ fn row_after(arcs: &[u8], row: usize, m: Message) -> Row
     Row::At((target - 1) * ARCS)
 }
 
-// Where what waits in the ring at base leads. The first message that has nowhere to go ends it.
+// Where what waits in the ring at base leads. The first message that has nowhere to go ends it; an empty ring, as most are, costs one test.
 pub fn follow_ring(
     arcs: &[u8],
     from: Reached,
@@ -50,6 +50,9 @@ pub fn follow_ring(
     requires { ⌜ Between 0 mostMessages (waiting (now memory) base head count) ⌝ }
     ensures { λ r. ⌜ FollowsTo (now (arcs .entry)) (from .0) (waiting (now (memory .entry)) base head count) (r .0) ⌝ }
 {
+    if count == 0 {
+        return from;
+    }
     if from.is_nowhere() {
         return from;
     }

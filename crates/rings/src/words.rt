@@ -22,7 +22,8 @@ pub fn put_word(memory: &mut [u8], base: usize, from: usize, rows: &[u8], at: us
     }
 }
 
-// Whether the queue in the ring at base begins with the word at this entry of the table.
+// Whether the queue in the ring at base begins with the word at this entry of the table. All messages are compared, whatever the first
+// ones say: without a way out of the loop several are compared at once.
 pub fn begins(
     memory: &[u8],
     base: usize,
@@ -39,12 +40,13 @@ pub fn begins(
     if count < n {
         return false;
     }
+    let mut same = true;
     let mut i: usize = 0;
     while i < n {
         if memory[base + (head + i) % ROOM] != rows[at + i] {
-            return false;
+            same = false;
         }
         i += 1;
     }
-    true
+    same
 }

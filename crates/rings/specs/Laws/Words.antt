@@ -1,7 +1,7 @@
 -- The loops over a ring and over a word of the table, turn by turn.
 use Prim.Native.Nat.{ℕ, suc, _+_, _-_, _%_, _≤_, _<_}
 use mathlib.Core.Path.{_≡_, refl, sym, ap, ap₂, _∙_}
-use mathlib.Core.Bool.{true, false}
+use mathlib.Core.Bool.{Bool, true, false, true≢false}
 use mathlib.Core.Option.{Option, none, some}
 use mathlib.Core.List.{List, [], _∷_}
 use native.Mathlib.Omega.{arith}
@@ -76,21 +76,41 @@ module _ {mem₀ mem w v : List ℕ} {base from p : ℕ} (t : Putting mem₀ bas
 pub record Asking (w q v r : List ℕ) : Type 0 where
   pub is : strip v r ≡ strip w q
 
-pub ask-begin : {w q v r : List ℕ} → w ≡ v → q ≡ r → Asking w q v r
+ask-begin : {w q v r : List ℕ} → w ≡ v → q ≡ r → Asking w q v r
 ask-begin e f = record { is = sym (ap₂ strip e f) }
 
 module _ {w q v r : List ℕ} (t : Asking w q v r) where
-  pub ask-next : {m n : ℕ} {v′ r′ : List ℕ} → v ≡ m ∷ v′ → r ≡ n ∷ r′ → n ≡ m → Asking w q v′ r′
+  ask-next : {m n : ℕ} {v′ r′ : List ℕ} → v ≡ m ∷ v′ → r ≡ n ∷ r′ → n ≡ m → Asking w q v′ r′
   ask-next {m} {n} {v′} {r′} e f same =
       record { is = sym (ap₂ strip e f ∙ rw (eq-eqb m n (sym same), strip)) ∙ t .is }
 
-  pub ask-differs : {m n : ℕ} {v′ r′ : List ℕ} → v ≡ m ∷ v′ → r ≡ n ∷ r′ → (n ≡ m → ⊥) → false ≡ began (strip w q)
+  ask-differs : {m n : ℕ} {v′ r′ : List ℕ} → v ≡ m ∷ v′ → r ≡ n ∷ r′ → (n ≡ m → ⊥) → false ≡ began (strip w q)
   ask-differs {m} {n} {v′} {r′} e f other =
       let gone : strip (m ∷ v′) (n ∷ r′) ≡ none = rw (ne-eqb m n (λ s. other (sym s)), strip) in
       sym (ap began (sym (t .is) ∙ ap₂ strip e f ∙ gone))
 
-  pub ask-end : v ≡ [] → true ≡ began (strip w q)
+  ask-end : v ≡ [] → true ≡ began (strip w q)
   ask-end e = sym (ap began (sym (t .is) ∙ ap (λ l. strip l r) e))
+
+-- THE SAME where the loop goes on after a message that differs, and keeps whether there was none
+pub record Asked (same : Bool) (w q v r : List ℕ) : Type 0 where
+  pub yes : same ≡ true → Asking w q v r
+  pub no : same ≡ false → false ≡ began (strip w q)
+
+pub asked-begin : {w q v r : List ℕ} → w ≡ v → q ≡ r → Asked true w q v r
+asked-begin e f = record { yes = λ _. ask-begin e f; no = λ s. absurd (true≢false s) }
+
+module _ {w q v r : List ℕ} {m n : ℕ} {v′ r′ : List ℕ} (e : v ≡ m ∷ v′) (f : r ≡ n ∷ r′) where
+  pub asked-same : {b b′ : Bool} → Asked b w q v r → n ≡ m → b′ ≡ b → Asked b′ w q v′ r′
+  asked-same t same s = record { yes = λ u. ask-next (t .yes (sym s ∙ u)) e f same; no = λ u. t .no (sym s ∙ u) }
+
+  pub asked-other : (b : Bool) {b′ : Bool} → Asked b w q v r → (n ≡ m → ⊥) → b′ ≡ false → Asked b′ w q v′ r′
+  asked-other true t other s = record { yes = λ u. absurd (true≢false (sym u ∙ s)); no = λ _. ask-differs (t .yes refl) e f other }
+  asked-other false t other s = record { yes = λ u. absurd (true≢false (sym u ∙ s)); no = λ _. t .no refl }
+
+pub asked-end : (b : Bool) {w q v r : List ℕ} → Asked b w q v r → v ≡ [] → b ≡ began (strip w q)
+asked-end true t e = ask-end (t .yes refl) e
+asked-end false t e = t .no refl
 
 -- a queue shorter than the word does not begin with it
 strip-short : (w q : List ℕ) → length q < length w → strip w q ≡ none

@@ -25,87 +25,97 @@ Inv-loop arcs memory base head count row₀ i₀ row i = Following arcs (stateAt
 abbrev μ-loop : tie.MeasureT-loop
 μ-loop arcs memory base head count row₀ i₀ row i = count - i
 
--- src/follow.rt:47:8
+-- src/follow.rt:48:9
+returns : tie.Need-returns Inv-loop μ-loop
+returns c = follow-end (follow-begin (c .before .before .before .pre .1 .0) (c .before .before .before .pre .1 .1 .1) (waiting-begin _ _ _ _)) (waiting-end _ _ _ _ (omega arith)) refl
+
+-- src/follow.rt:50:8
 is-nowhere-requires : tie.Need-is-nowhere-requires Inv-loop μ-loop
 is-nowhere-requires c κs = search needs
 
--- src/follow.rt:48:9
-returns : tie.Need-returns Inv-loop μ-loop
-returns c = let e = nowhere-true _ (c .before .is-nowhere .ensures) (c .if1 .taken) in follow-lost (follow-begin (c .before .before .before .before .pre .1 .0) (c .before .before .before .before .pre .1 .1 .1) refl) e e
+-- src/follow.rt:51:9
+returns-2 : tie.Need-returns-2 Inv-loop μ-loop
+returns-2 c = let e = nowhere-true _ (c .before .is-nowhere .ensures) (c .if2 .taken) in follow-lost (follow-begin (c .before .before .before .before .before .pre .1 .0) (c .before .before .before .before .before .pre .1 .1 .1) refl) e e
 
--- src/follow.rt:50:19
+-- src/follow.rt:53:19
 wide-requires : tie.Need-wide-requires Inv-loop μ-loop
 wide-requires c κs = search needs
 
--- src/follow.rt:50:19
+-- src/follow.rt:53:19
 mul-row : tie.Need-mul-row Inv-loop μ-loop
 mul-row c = search needs
 
--- src/follow.rt:52:5
+-- src/follow.rt:55:5
 loop-holds : tie.Need-loop-holds Inv-loop μ-loop
-loop-holds c = let small = state-below (c .before .before .before .before .before .pre .1 .0) (nowhere-false _ (c .before .before .is-nowhere .ensures) (c .before .if1 .left)) in
-    (follow-begin (omega (arith, c .wide .ensures .same, small)) (c .before .before .before .before .before .pre .1 .1 .1) (waiting-begin _ _ _ _), (omega arith, (omega (arith, c .wide .ensures .same, small), omega arith)))
+loop-holds c = let small = state-below (c .before .before .before .before .before .before .pre .1 .0) (nowhere-false _ (c .before .before .is-nowhere .ensures) (c .before .if2 .left)) in
+    (follow-begin (omega (arith, c .wide .ensures .same, small)) (c .before .before .before .before .before .before .pre .1 .1 .1) (waiting-begin _ _ _ _), (omega arith, (omega (arith, c .wide .ensures .same, small), omega arith)))
 
--- src/follow.rt:53:73
-add-t14 : tie.Need-add-t14 Inv-loop μ-loop
-add-t14 c = search needs
+-- src/follow.rt:56:73
+add-t15 : tie.Need-add-t15 Inv-loop μ-loop
+add-t15 c = search needs
 
--- src/follow.rt:53:65
-add-t16 : tie.Need-add-t16 Inv-loop μ-loop
-add-t16 c = search needs
+-- src/follow.rt:56:65
+add-t17 : tie.Need-add-t17 Inv-loop μ-loop
+add-t17 c = search needs
 
--- src/follow.rt:53:58
-shared-slice-read-t18 : tie.Need-shared-slice-read-t18 Inv-loop μ-loop
-shared-slice-read-t18 c = search needs
+-- src/follow.rt:56:58
+shared-slice-read-t19 : tie.Need-shared-slice-read-t19 Inv-loop μ-loop
+shared-slice-read-t19 c = search needs
 
--- src/follow.rt:53:29
+-- src/follow.rt:56:29
 row-after-requires : tie.Need-row-after-requires Inv-loop μ-loop
-row-after-requires c κs = omega (arith, message-small (c .before .before .loop .inv .0) (waiting-next _ _ _ _ (c .before .loop-test .taken)), c .before .before .loop .inv .1 .0, c .before .before .loop .inv .1 .1 .0, c .before .before .before .before .before .before .before .before .pre .0 .long)
+row-after-requires c κs =
+    let inv = c .before .before .loop .inv in
+    omega (arith, message-small (inv .0) (waiting-next _ _ _ _ (c .before .loop-test .taken)), inv .1 .0, inv .1 .1 .0, c .before .before .before .before .before .before .before .before .before .pre .0 .long)
 
--- src/follow.rt:53:21
+-- src/follow.rt:56:21
 enum-known-next : tie.Need-enum-known-next Inv-loop μ-loop
 enum-known-next c = search needs
 
--- src/follow.rt:54:13
+-- src/follow.rt:57:13
 enum-told : tie.Need-enum-told Inv-loop μ-loop
 enum-told c = search needs
 
--- src/follow.rt:54:13
+-- src/follow.rt:57:13
 nowhere-requires : tie.Need-nowhere-requires Inv-loop μ-loop
 nowhere-requires c κs = search needs
 
--- src/follow.rt:54:13
-returns-2 : tie.Need-returns-2 Inv-loop μ-loop
-returns-2 c = let here = waiting-next _ _ _ _ (c .before .before .before .before .before .loop-test .taken) in
-    let missing = row-missing (c .before .before .before .before .before .before .loop .inv .1 .0) (c .before .before .before .row-after .ensures) (c .before .enum-told .given .1) in
-    let lost = follow-message (c .before .before .before .before .before .before .loop .inv .0) here (along-missing (state-some (c .before .before .before .before .before .before .loop .inv .1 .1 .0)) refl missing refl) in
+-- src/follow.rt:57:13
+returns-3 : tie.Need-returns-3 Inv-loop μ-loop
+returns-3 c =
+    let inv = c .before .before .before .before .before .before .loop .inv in
+    let here = waiting-next _ _ _ _ (c .before .before .before .before .before .loop-test .taken) in
+    let missing = row-missing (inv .1 .0) (c .before .before .before .row-after .ensures) (c .before .enum-told .given .1) in
+    let lost = follow-message (inv .0) here (along-missing (state-some (inv .1 .1 .0)) refl missing refl) in
     follows-as (omega (arith, c .before .before .before .before .before .before .before .wide .ensures .same)) (follow-lost lost refl (c .nowhere .ensures))
 
--- src/follow.rt:57:9
+-- src/follow.rt:60:9
 add-i : tie.Need-add-i Inv-loop μ-loop
 add-i c = search needs
 
--- src/follow.rt:52:5
+-- src/follow.rt:55:5
 loop-less : tie.Need-loop-less Inv-loop μ-loop
 loop-less c = search needs
 
--- src/follow.rt:52:5
+-- src/follow.rt:55:5
 loop-again : tie.Need-loop-again Inv-loop μ-loop
-loop-again c = let here = waiting-next _ _ _ _ (c .before .before .before .before .before .loop-test .taken) in
-    let arc = row-arc (c .before .before .before .before .before .before .loop .inv .1 .0) (c .before .before .before .row-after .ensures) (c .before .next .given .1) in
-    (follow-message (c .before .before .before .before .before .before .loop .inv .0) here (along-arc (state-some (c .before .before .before .before .before .before .loop .inv .1 .1 .0)) refl (c .before .before .before .before .before .before .before .before .before .before .before .before .pre .0) (arc .0) refl), (arc .1, (arc-small _ _ (c .before .before .before .before .before .before .before .before .before .before .before .before .pre .0) (arc .0), omega arith)))
+loop-again c =
+    let inv = c .before .before .before .before .before .before .loop .inv in
+    let here = waiting-next _ _ _ _ (c .before .before .before .before .before .loop-test .taken) in
+    let arc = row-arc (inv .1 .0) (c .before .before .before .row-after .ensures) (c .before .next .given .1) in
+    (follow-message (inv .0) here (along-arc (state-some (inv .1 .1 .0)) refl (c .before .before .before .before .before .before .before .before .before .before .before .before .before .pre .0) (arc .0) refl), (arc .1, (arc-small _ _ (c .before .before .before .before .before .before .before .before .before .before .before .before .before .pre .0) (arc .0), omega arith)))
 
--- src/follow.rt:59:17
+-- src/follow.rt:62:17
 new-requires : tie.Need-new-requires Inv-loop μ-loop
 new-requires c κs = search needs
 
--- src/follow.rt:59:5
+-- src/follow.rt:62:5
 at-requires : tie.Need-at-requires Inv-loop μ-loop
 at-requires c κs = search needs
 
 -- src/follow.rt:40:1
-returns-3 : tie.Need-returns-3 Inv-loop μ-loop
-returns-3 c = follows-as (omega (arith, c .before .before .before .before .wide .ensures .same)) (follow-end (c .before .before .before .loop .inv .0) (waiting-end _ _ _ _ (c .before .before .loop-test .left)) (c .at .ensures ∙ made-state (c .before .new .ensures) (c .before .before .before .loop .inv .1 .1 .0)))
+returns-4 : tie.Need-returns-4 Inv-loop μ-loop
+returns-4 c = follows-as (omega (arith, c .before .before .before .before .wide .ensures .same)) (follow-end (c .before .before .before .loop .inv .0) (waiting-end _ _ _ _ (c .before .before .loop-test .left)) (c .at .ensures ∙ made-state (c .before .new .ensures) (c .before .before .before .loop .inv .1 .1 .0)))
 
 pub follow-ring-spec : {M : Type 1} → statement M
 follow-ring-spec =
@@ -113,22 +123,23 @@ follow-ring-spec =
     (tie.spec
     Inv-loop
     μ-loop
-    is-nowhere-requires
     returns
+    is-nowhere-requires
+    returns-2
     wide-requires
     mul-row
     loop-holds
-    add-t14
-    add-t16
-    shared-slice-read-t18
+    add-t15
+    add-t17
+    shared-slice-read-t19
     row-after-requires
     enum-known-next
     enum-told
     nowhere-requires
-    returns-2
+    returns-3
     add-i
     loop-less
     loop-again
     new-requires
     at-requires
-    returns-3)
+    returns-4)
