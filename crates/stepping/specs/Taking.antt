@@ -5,10 +5,11 @@ use mathlib.Core.Bool.{true, false}
 use mathlib.Core.Option.{none, some}
 use mathlib.Core.List.{List}
 use lib.ListN.{length, drop}
-use Rattle.tables.specs.Rows.{rowLength, wordEntry, queueAt, lengthAt}
+use Rattle.tables.specs.Rows.{rowLength, wordEntry, kindAt, queueAt, lengthAt, wordAt}
 use Rattle.tables.specs.Valid.{MachinesValid, QueuesValid, TransitionsValid, ActionValid}
 use Rattle.tables.specs.declared.tables.Queues.{Queues}
-use Rattle.model.specs.Model.{Action, Configuration, act, take?}
+use Rattle.model.specs.Model.{Action, send, receive, Configuration, act, take?}
+use Rattle.meaning.specs.Tables.{actionOf}
 use Rattle.trace.specs.Rules.{room, fits}
 use Rattle.stepping.specs.Frame.{transitionsOf, modelIn}
 use Rattle.rings.specs.Ring.{rings}
@@ -63,6 +64,20 @@ Shifts q a hs ls mem NotPossible hs′ ls′ mem′ = (act a (rings mem hs ls (q
 Shifts q a hs ls mem NoRoom hs′ ls′ mem′ =
     ((qs : List (List ℕ)) × (act a (rings mem hs ls (q .count)) ≡ some qs) × (fits qs ≡ false)) × Unshifted hs ls mem hs′ ls′ mem′
 
+-- what a function that performs an action finds, whichever queues the row is of; then the actions of a row
+abbrev pub Performs : Action → List ℕ → ℕ → List ℕ → List ℕ → List ℕ → Took → List ℕ → List ℕ → List ℕ → Type 0
+Performs a rows row hs ls mem t hs′ ls′ mem′ = (q : Queues) → Shiftable q rows row hs ls mem → Shifts q a hs ls mem t hs′ ls′ mem′
+
+abbrev pub Sends : List ℕ → ℕ → List ℕ → List ℕ → List ℕ → Took → List ℕ → List ℕ → Type 0
+Sends rows row hs ls mem t ls′ mem′ = Performs (send (queueAt rows row) (wordAt rows row)) rows row hs ls mem t hs ls′ mem′
+
+abbrev pub Receives : List ℕ → ℕ → List ℕ → List ℕ → List ℕ → Took → List ℕ → List ℕ → Type 0
+Receives rows row hs ls mem t hs′ ls′ = Performs (receive (queueAt rows row) (wordAt rows row)) rows row hs ls mem t hs′ ls′ mem
+
+abbrev pub Acts : List ℕ → ℕ → List ℕ → List ℕ → List ℕ → Took → List ℕ → List ℕ → List ℕ → Type 0
+Acts rows row hs ls mem t hs′ ls′ mem′ =
+    Performs (actionOf (kindAt rows row) (queueAt rows row) (wordAt rows row)) rows row hs ls mem t hs′ ls′ mem′
+
 -- WHAT IS FOUND OF A TRANSITION
 -- the step is taken, and the memory past the queues stays
 pub record Moves (f : Frame) (rows : List ℕ) (i : ℕ) (r : RunRecord) (mem : List ℕ) (r′ : RunRecord) (mem′ : List ℕ) : Type 0 where
@@ -84,3 +99,7 @@ Takes f rows i r mem NotPossible r′ mem′ =
 Takes f rows i r mem NoRoom r′ mem′ =
     ((γ : Configuration) × (take? (modelIn f rows) i (configOf (f .machines) (f .queues) r mem) ≡ some γ) × (fits (γ .queues) ≡ false))
     × Stays r mem r′ mem′
+
+-- what taking finds, whichever frame the tables are of
+abbrev pub Tries : List ℕ → ℕ → RunRecord → List ℕ → Took → RunRecord → List ℕ → Type 0
+Tries rows i r mem t r′ mem′ = (f : Frame) → Takeable f rows r mem i → Takes f rows i r mem t r′ mem′

@@ -11,13 +11,8 @@ use tables::tables::QUEUE;
 use tables::tables::ROW;
 use tables::tables::TO;
 use tables::tables::WORD;
-ghost use Rattle.model.specs.Model.{send, receive};
-ghost use Rattle.tables.specs.Rows.{kindAt, queueAt, wordAt};
-ghost use Rattle.meaning.specs.Tables.{actionOf};
 ghost use Rattle.stepping.specs.Configurations.{runOf};
-ghost use Rattle.stepping.specs.Taking.{Takeable, TakeAsked, Takes, Shiftable, ShiftAsked, Shifts};
-ghost use Rattle.stepping.specs.declared.frame.Frame.{Frame};
-ghost use Rattle.tables.specs.declared.tables.Queues.{Queues};
+ghost use Rattle.stepping.specs.Taking.{TakeAsked, Tries, ShiftAsked, Sends, Receives, Acts};
 
 // Whether a transition was taken.
 pub enum Took {
@@ -42,7 +37,7 @@ fn send(
     memory: &mut [u8],
 ) -> Took
     requires { ⌜ ShiftAsked (now rows) row (now heads) (now lengths) (now memory) ⌝ }
-    ensures { λ a. ⌜ ((q : Queues) → Shiftable q (now (rows .entry)) row (now (heads .entry)) (now (lengths .entry)) (now (memory .entry)) → Shifts q (send (queueAt (now (rows .entry)) row) (wordAt (now (rows .entry)) row)) (now (heads .entry)) (now (lengths .entry)) (now (memory .entry)) a (now (heads .entry)) (now (lengths .exit)) (now (memory .exit))) ⌝ }
+    ensures { λ a. ⌜ Sends (now (rows .entry)) row (now (heads .entry)) (now (lengths .entry)) (now (memory .entry)) a (now (lengths .exit)) (now (memory .exit)) ⌝ }
 {
     let q = rows[row + QUEUE] as usize;
     let n = rows[row + LENGTH] as usize;
@@ -64,7 +59,7 @@ fn receive(
     memory: &[u8],
 ) -> Took
     requires { ⌜ ShiftAsked (now rows) row (now heads) (now lengths) (now memory) ⌝ }
-    ensures { λ a. ⌜ ((q : Queues) → Shiftable q (now (rows .entry)) row (now (heads .entry)) (now (lengths .entry)) (now (memory .entry)) → Shifts q (receive (queueAt (now (rows .entry)) row) (wordAt (now (rows .entry)) row)) (now (heads .entry)) (now (lengths .entry)) (now (memory .entry)) a (now (heads .exit)) (now (lengths .exit)) (now (memory .entry))) ⌝ }
+    ensures { λ a. ⌜ Receives (now (rows .entry)) row (now (heads .entry)) (now (lengths .entry)) (now (memory .entry)) a (now (heads .exit)) (now (lengths .exit)) ⌝ }
 {
     let q = rows[row + QUEUE] as usize;
     let n = rows[row + LENGTH] as usize;
@@ -87,7 +82,7 @@ fn shift(
     memory: &mut [u8],
 ) -> Took
     requires { ⌜ ShiftAsked (now rows) row (now heads) (now lengths) (now memory) ⌝ }
-    ensures { λ a. ⌜ ((q : Queues) → Shiftable q (now (rows .entry)) row (now (heads .entry)) (now (lengths .entry)) (now (memory .entry)) → Shifts q (actionOf (kindAt (now (rows .entry)) row) (queueAt (now (rows .entry)) row) (wordAt (now (rows .entry)) row)) (now (heads .entry)) (now (lengths .entry)) (now (memory .entry)) a (now (heads .exit)) (now (lengths .exit)) (now (memory .exit))) ⌝ }
+    ensures { λ a. ⌜ Acts (now (rows .entry)) row (now (heads .entry)) (now (lengths .entry)) (now (memory .entry)) a (now (heads .exit)) (now (lengths .exit)) (now (memory .exit)) ⌝ }
 {
     let kind = rows[row + KIND];
     if kind == LOCAL {
@@ -109,7 +104,7 @@ pub fn take(
     i: usize,
 ) -> Took
     requires { ⌜ TakeAsked (now rows) (runOf (now states) (now heads) (now lengths)) (now memory) i ⌝ }
-    ensures { λ a. ⌜ ((f : Frame) → Takeable f (now (rows .entry)) (runOf (now (states .entry)) (now (heads .entry)) (now (lengths .entry))) (now (memory .entry)) i → Takes f (now (rows .entry)) i (runOf (now (states .entry)) (now (heads .entry)) (now (lengths .entry))) (now (memory .entry)) a (runOf (now (states .exit)) (now (heads .exit)) (now (lengths .exit))) (now (memory .exit))) ⌝ }
+    ensures { λ a. ⌜ Tries (now (rows .entry)) i (runOf (now (states .entry)) (now (heads .entry)) (now (lengths .entry))) (now (memory .entry)) a (runOf (now (states .exit)) (now (heads .exit)) (now (lengths .exit))) (now (memory .exit)) ⌝ }
 {
     let row = i * ROW;
     let machine = rows[row] as usize;
