@@ -6,13 +6,14 @@ use mathlib.Core.List.{List}
 use lib.ListN.{length, drop}
 use Rattle.numbers.specs.Limits.{mostBytes}
 use Rattle.tables.specs.Valid.{Valid}
-use Rattle.model.specs.Model.{Configuration}
+use Rattle.model.specs.Model.{Configuration, take?}
 use Rattle.model.specs.Session.{Session}
 use Rattle.meaning.specs.Tables.{sessionOf}
 use Rattle.trace.specs.Rules.{room, Why, Ended, ended}
-use Rattle.trace.specs.Replay.{Turn, stops, goes, turn, replayFrom}
+use Rattle.trace.specs.Replay.{Turn, stops, goes, moved, turn, replayFrom}
 use Rattle.rings.specs.Laid.{memoryAfter}
-use Rattle.stepping.specs.Configurations.{configOf, Holds, Settles}
+use Rattle.stepping.specs.Frame.{modelIn}
+use Rattle.stepping.specs.Configurations.{runOf, configOf, Holds, Settles}
 use Rattle.stepping.specs.After.{recordAfter}
 use Rattle.stepping.specs.Taking.{Takeable}
 use Rattle.stepping.specs.declared.runs.RunRecord.{RunRecord}
@@ -32,6 +33,10 @@ pub record State : Type 0 where
 
 abbrev pub state : RunRecord → List ℕ → Progress → State
 state r mem p = record { lent = r; memory = mem; progress = p }
+
+-- of the record's parts
+abbrev pub parts : List ℕ → List ℕ → List ℕ → List ℕ → Progress → State
+parts states heads lengths mem p = state (runOf states heads lengths) mem p
 
 abbrev pub endedOf : Progress → Code.Ended
 endedOf p = record { why = p .why; steps = p .steps }
@@ -79,6 +84,10 @@ pub data Turned (f : Frame) (t : Turn) (x y : State) : Type 0 where
 
 pub record Stepped (f : Frame) (flat s : List ℕ) (x y : State) : Type 0 where
   pub turned : Turned f (turn (sessionIn f flat) s (x .progress .at) (stands f x)) x y
+
+-- the number of transition i was read, and ends before the place next
+abbrev pub TurnedBy : Frame → List ℕ → ℕ → ℕ → State → State → Type 0
+TurnedBy f rows i next x y = Turned f (moved (x .progress .at) next (take? (modelIn f rows) i (stands f x))) x y
 
 -- the replay ends where it stands, for this reason
 pub record Stopped (f : Frame) (x : State) (why : Stop) (y : State) : Type 0 where

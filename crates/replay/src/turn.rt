@@ -17,11 +17,8 @@ use stepping::taking::take;
 use tables::tables::MOST_MACHINES;
 use tables::tables::MOST_QUEUES;
 ghost use mathlib.Core.Path.{_≡_};
-ghost use Rattle.model.specs.Model.{take?};
-ghost use Rattle.trace.specs.Replay.{moved};
-ghost use Rattle.stepping.specs.Frame.{modelIn};
-ghost use Rattle.stepping.specs.Configurations.{runOf, configOf, Settleable};
-ghost use Rattle.replay.specs.Run.{state, endedOf, Ready, Turned, Stepped, Ends, TurnAsked};
+ghost use Rattle.stepping.specs.Configurations.{Settleable};
+ghost use Rattle.replay.specs.Run.{parts, endedOf, Ready, TurnedBy, Stepped, Ends, TurnAsked};
 
 // The replay ends here: record and memory are brought into the form of the end.
 fn stopped(
@@ -56,8 +53,8 @@ fn taken(
     i: usize,
     next: usize,
 ) -> Progress
-    requires { ⌜ TurnAsked f (now rows) (state (runOf (now states) (now heads) (now lengths)) (now memory) p) i ⌝ }
-    ensures { λ a. ⌜ Turned f (moved (p .at) next (take? (modelIn f (now (rows .entry))) i (configOf (f .machines) (f .queues) (runOf (now (states .entry)) (now (heads .entry)) (now (lengths .entry))) (now (memory .entry))))) (state (runOf (now (states .entry)) (now (heads .entry)) (now (lengths .entry))) (now (memory .entry)) p) (state (runOf (now (states .exit)) (now (heads .exit)) (now (lengths .exit))) (now (memory .exit)) a) ⌝ }
+    requires { ⌜ TurnAsked f (now rows) (parts (now states) (now heads) (now lengths) (now memory) p) i ⌝ }
+    ensures { λ a. ⌜ TurnedBy f (now (rows .entry)) i next (parts (now (states .entry)) (now (heads .entry)) (now (lengths .entry)) (now (memory .entry)) p) (parts (now (states .exit)) (now (heads .exit)) (now (lengths .exit)) (now (memory .exit)) a) ⌝ }
 {
     let took = take(rows, states, heads, lengths, memory, i);
     match took {
@@ -82,8 +79,8 @@ pub(crate) fn turn(
     memory: &mut [u8],
     p: Progress,
 ) -> Progress
-    requires { ⌜ Ready f (now flat) (now trace) (state (runOf (now states) (now heads) (now lengths)) (now memory) p) ⌝ }
-    ensures { λ a. ⌜ Stepped f (now (flat .entry)) (now (trace .entry)) (state (runOf (now (states .entry)) (now (heads .entry)) (now (lengths .entry))) (now (memory .entry)) p) (state (runOf (now (states .exit)) (now (heads .exit)) (now (lengths .exit))) (now (memory .exit)) a) ⌝ }
+    requires { ⌜ Ready f (now flat) (now trace) (parts (now states) (now heads) (now lengths) (now memory) p) ⌝ }
+    ensures { λ a. ⌜ Stepped f (now (flat .entry)) (now (trace .entry)) (parts (now (states .entry)) (now (heads .entry)) (now (lengths .entry)) (now (memory .entry)) p) (parts (now (states .exit)) (now (heads .exit)) (now (lengths .exit)) (now (memory .exit)) a) ⌝ }
 {
     let finals = &flat[FINALS_AT..ARCS_AT];
     let arcs = &flat[ARCS_AT..ROOTS_AT];
