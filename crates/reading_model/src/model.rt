@@ -4,31 +4,53 @@ use crate::queues::read_queues;
 use crate::transitions::read_transitions;
 use numbers::number::Filled;
 use numbers::refusal::Refusal;
-use tables::empty::empty_model;
-use tables::tables::ModelTables;
+use tables::tables::MOST_MACHINES;
+use tables::tables::MOST_QUEUES;
+use tables::tables::Machines;
+use tables::tables::Queues;
+use tables::tables::ROWS;
 ghost use mathlib.Core.Path.{_≡_};
+ghost use mathlib.Core.List.{List};
+ghost use Prim.Native.Nat.{ℕ};
+ghost use lib.ListN.{replicate};
 ghost use Rattle.numbers.specs.Part.{refused};
 ghost use Rattle.numbers.specs.Said.{numberOf, placeOf, filledWith};
-ghost use Rattle.reading_model.specs.Model.{readModel};
+ghost use Rattle.tables.specs.Rows.{rowsLength};
+ghost use Rattle.reading_model.specs.Model.{readModel, modelOf};
 
+// The table of the transitions is lent: it is large, and would be copied at every return.
 pub struct ModelRead {
     pub filled: Filled,
-    pub model: ModelTables,
+    pub machines: Machines,
+    pub queues: Queues,
+    pub transitions: u8,
 }
 
 // After a refusal the tables are of no account.
 fn refused(why: Refusal) -> ModelRead
-    ensures { λ r. ⌜ filledWith (r .filled) (r .model) ≡ refused (numberOf why) (placeOf why) ⌝ }
+    ensures { λ r. ⌜ ((rows : List ℕ) → filledWith (r .filled) (modelOf (r .machines) (r .queues) (r .transitions) rows) ≡ refused (numberOf why) (placeOf why)) ⌝ }
 {
-    let model = empty_model();
     ModelRead {
         filled: Filled::Refused(why),
-        model,
+        machines: Machines {
+            count: 0,
+            product: 0,
+            states: [0u8; MOST_MACHINES as usize],
+            starts: [0u8; MOST_MACHINES as usize],
+        },
+        queues: Queues {
+            count: 0,
+            sum: 0,
+            messages: [0u8; MOST_QUEUES as usize],
+        },
+        transitions: 0,
     }
 }
 
-pub fn read_model(s: &[u8], at: usize) -> ModelRead
-    ensures { λ r. ⌜ filledWith (r .filled) (r .model) ≡ readModel (now (s .entry)) at ⌝ }
+// The rows of the transitions go into a table of 0.
+pub fn read_model(s: &[u8], at: usize, rows: &mut [u8; ROWS]) -> ModelRead
+    requires { ⌜ now rows ≡ replicate rowsLength 0 ⌝ }
+    ensures { λ r. ⌜ filledWith (r .filled) (modelOf (r .machines) (r .queues) (r .transitions) (now (rows .exit))) ≡ readModel (now (s .entry)) at ⌝ }
 {
     let first = read_machines(s, at);
     let after_machines = first.filled;
@@ -42,16 +64,13 @@ pub fn read_model(s: &[u8], at: usize) -> ModelRead
                 Filled::To(p2) => {
                     let machines = first.machines;
                     let queues = second.queues;
-                    let third = read_transitions(s, p2, machines, queues);
+                    let third = read_transitions(s, p2, machines, queues, rows);
                     let filled = third.filled;
-                    let transitions = third.transitions;
                     ModelRead {
                         filled,
-                        model: ModelTables {
-                            machines,
-                            queues,
-                            transitions,
-                        },
+                        machines,
+                        queues,
+                        transitions: third.count,
                     }
                 }
             }

@@ -23,19 +23,18 @@ use tables::tables::Queues;
 use tables::tables::ROW;
 use tables::tables::ROWS;
 use tables::tables::TO;
-use tables::tables::Transitions;
 use tables::tables::WORD;
 ghost use mathlib.Core.Path.{_≡_};
 ghost use Prim.Native.Nat.{_+_, _-_, _≤_};
-ghost use lib.ListN.{getD};
+ghost use lib.ListN.{getD, replicate};
 ghost use Rattle.numbers.specs.Said.{saidField, filledWith};
 ghost use Rattle.tables.specs.Limits.{mostControls, mostTransitions};
 ghost use Rattle.tables.specs.Rows.{rowLength, rowsLength};
-ghost use Rattle.reading_model.specs.Transitions.{readMessage, readWord, readAction, readTransition, readRows, readTransitions};
+ghost use Rattle.reading_model.specs.Transitions.{readMessage, readWord, readAction, readTransition, readRows, inRows, readTransitions};
 
 pub struct TransitionsRead {
     pub filled: Filled,
-    pub transitions: Transitions,
+    pub count: u8,
 }
 
 // A message below the sum, of the queue whose messages are those from lo on and below hi.
@@ -189,21 +188,24 @@ fn read_rows(
     Filled::To(place)
 }
 
-pub(crate) fn read_transitions(s: &[u8], at: usize, m: Machines, q: Queues) -> TransitionsRead
-    ensures { λ r. ⌜ filledWith (r .filled) (r .transitions) ≡ readTransitions (now (s .entry)) at m q ⌝ }
+pub(crate) fn read_transitions(
+    s: &[u8],
+    at: usize,
+    m: Machines,
+    q: Queues,
+    rows: &mut [u8; ROWS],
+) -> TransitionsRead
+    requires { ⌜ now rows ≡ replicate rowsLength 0 ⌝ }
+    ensures { λ r. ⌜ filledWith (r .filled) (inRows (r .count) (now (rows .exit))) ≡ readTransitions (now (s .entry)) at m q ⌝ }
 {
-    let mut rows = [0u8; ROWS];
     match read_within(s, at, 0, MOST_TRANSITIONS) {
         Field::Refused(why) => TransitionsRead {
             filled: Filled::Refused(why),
-            transitions: Transitions { count: 0, rows },
+            count: 0,
         },
         Field::Value(count, place) => {
-            let filled = read_rows(s, place, m, q, wide(count), &mut rows);
-            TransitionsRead {
-                filled,
-                transitions: Transitions { count, rows },
-            }
+            let filled = read_rows(s, place, m, q, wide(count), rows);
+            TransitionsRead { filled, count }
         }
     }
 }

@@ -10,60 +10,60 @@ use Rattle.reading_model.proofs.model.refused.Reads as refused-reads
 use Rattle.reading_model.proofs.queues.read_queues.Reads as read-queues-reads
 use Rattle.reading_model.proofs.transitions.read_transitions.Reads as read-transitions-reads
 
--- src/model.rt:53:9
+-- src/model.rt:55:9
 read-machines-requires : tie.Need-read-machines-requires
 read-machines-requires c κs = search needs
 
--- src/model.rt:56:25
+-- src/model.rt:58:25
 enum-known-after-machines : tie.Need-enum-known-after-machines
 enum-known-after-machines c = search needs
 
--- src/model.rt:56:33
+-- src/model.rt:58:33
 refused-requires : tie.Need-refused-requires
 refused-requires c κs = search needs
 
--- src/model.rt:57:20
+-- src/model.rt:59:20
 enum-known-after-machines-2 : tie.Need-enum-known-after-machines-2
 enum-known-after-machines-2 c = search needs
 
--- src/model.rt:58:17
+-- src/model.rt:60:17
 read-queues-requires : tie.Need-read-queues-requires
 read-queues-requires c κs = search needs
 
--- src/model.rt:61:33
+-- src/model.rt:63:33
 enum-known-after-queues : tie.Need-enum-known-after-queues
 enum-known-after-queues c = search needs
 
--- src/model.rt:61:41
+-- src/model.rt:63:41
 refused-requires-2 : tie.Need-refused-requires-2
 refused-requires-2 c κs = search needs
 
--- src/model.rt:62:28
+-- src/model.rt:64:28
 enum-known-after-queues-2 : tie.Need-enum-known-after-queues-2
 enum-known-after-queues-2 c = search needs
 
--- src/model.rt:65:25
+-- src/model.rt:67:25
 read-transitions-requires : tie.Need-read-transitions-requires
 read-transitions-requires c κs = search needs
 
--- src/model.rt:50:1
+-- src/model.rt:51:1
 returns : tie.Need-returns
 unfolding readModel
-returns c = let e = rw (c .before .before .after-machines .given .1) at (c .before .before .before .before .read-machines .ensures) in rw (← e) (c .refused .ensures)
+returns c = let e = rw (c .before .before .after-machines .given .1) at (c .before .before .before .before .read-machines .ensures) in rw (← e) (c .refused .ensures _)
 
--- src/model.rt:50:1
+-- src/model.rt:51:1
 returns-2 : tie.Need-returns-2
 unfolding readModel
 returns-2 c = let e = rw (c .before .before .before .before .before .before .after-machines2 .given .1) at (c .before .before .before .before .before .before .before .before .read-machines .ensures) in
     let f = rw (c .before .before .after-queues .given .1) at (c .before .before .before .before .read-queues .ensures) in
-    rw (← e, ← f) (c .refused2 .ensures)
+    rw (← e, ← f) (c .refused2 .ensures _)
 
--- src/model.rt:50:1
+-- src/model.rt:51:1
 returns-3 : tie.Need-returns-3
 unfolding readModel
 returns-3 c = let e = rw (c .before .before .before .before .before .before .before .before .before .after-machines2 .given .1) at (c .before .before .before .before .before .before .before .before .before .before .before .read-machines .ensures) in
     let f = rw (c .before .before .before .before .before .after-queues2 .given .1) at (c .before .before .before .before .before .before .before .read-queues .ensures) in
-    rw (← e, ← f) (filled-into (c .before .read-transitions .result .filled) (c .before .read-transitions .result .transitions) (λ τ. record { machines = _; queues = _; transitions = τ }) (c .before .read-transitions .ensures))
+    rw (← e, ← f) (filled-into (c .read-transitions .result .filled) _ (λ τ. record { machines = _; queues = _; transitions = τ }) (c .read-transitions .ensures))
 
 pub read-model-spec : {M : Type 1} → statement M
 read-model-spec =
