@@ -6,12 +6,13 @@ use tables::kinds::Message;
 use tables::lookup::Arc;
 use tables::lookup::arc_of;
 use tables::tables::MOST_QUEUES;
-use tables::tables::Pool;
 use tables::tables::Queues;
 ghost use mathlib.Core.Path.{_≡_};
-ghost use Prim.Native.Nat.{_-_, _≤_};
+ghost use mathlib.Core.List.{List};
+ghost use Prim.Native.Nat.{ℕ, _-_, _≤_};
 ghost use Rattle.tables.specs.Limits.{mostPool, mostQueues, mostMessages};
 ghost use Rattle.tables.specs.Queues.{firstMessage};
+ghost use Rattle.reading_pool.specs.Pool.{poolOf};
 ghost use Rattle.reading_pool.specs.Lowest.{lowest, lowests, arcsOrdered, statesOrdered, queuesOrdered, inQueueOrder};
 
 // The lowest message that a state has an arc for, or the sum.
@@ -98,16 +99,15 @@ fn queues_ordered(
     true
 }
 
-// THE TEST OF QUEUE ORDER.
-pub fn in_queue_order(q: Queues, pool: Pool) -> bool
-    requires { ⌜ pool .count ≤ mostPool ⌝ }
+// THE TEST OF QUEUE ORDER, of the pool with these arcs; its final marks are of no account.
+pub fn in_queue_order(q: Queues, count: u8, arcs: &[u8]) -> bool
+    requires { ⌜ count ≤ mostPool ⌝ }
     requires { ⌜ q .count ≤ mostQueues ⌝ }
     requires { ⌜ firstMessage (q .messages) (q .count) ≤ mostMessages ⌝ }
-    ensures { λ r. ⌜ r ≡ inQueueOrder q pool ⌝ }
+    ensures { λ r. ⌜ ((finals : List ℕ) → r ≡ inQueueOrder q (poolOf count finals (now (arcs .entry)))) ⌝ }
 {
-    let arcs = pool.arcs;
     let messages = q.messages;
     let mut lows = [0u8; DiagramState::LIMIT];
-    fill_lowest(&arcs, pool.count, q.sum, &mut lows);
-    queues_ordered(&arcs, &lows, pool.count, messages, q.count)
+    fill_lowest(arcs, count, q.sum, &mut lows);
+    queues_ordered(arcs, &lows, count, messages, q.count)
 }

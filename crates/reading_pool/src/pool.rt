@@ -13,17 +13,18 @@ use tables::kinds::DiagramState;
 use tables::tables::ARCS;
 use tables::tables::MOST_POOL;
 use tables::tables::POOL_ARCS;
-use tables::tables::Pool;
 ghost use mathlib.Core.Path.{_≡_};
 ghost use Prim.Native.Nat.{_+_, _≤_};
+ghost use lib.ListN.{replicate};
 ghost use Rattle.numbers.specs.Said.{saidNumber, saidField, saidPair, fieldWith, filledWith};
 ghost use Rattle.tables.specs.Limits.{mostPool, mostMessages};
 ghost use Rattle.tables.specs.Pool.{poolArcs};
-ghost use Rattle.reading_pool.specs.Pool.{ascends, readAscending, readArc, readArcs, readState, readStates, readPool};
+ghost use Rattle.reading_pool.specs.Pool.{ascends, readAscending, readArc, readArcs, readState, readStates, poolOf, readPool};
 
+// Its two tables are lent: they are large, and would be copied at every return.
 pub struct PoolRead {
     pub filled: Filled,
-    pub pool: Pool,
+    pub count: u8,
 }
 
 // An arc's message, which was read at a place: not below the least that still ascends.
@@ -148,31 +149,27 @@ fn read_states(
     Filled::To(place)
 }
 
-pub fn read_pool(s: &[u8], at: usize, sum: u8) -> PoolRead
+// The states go into two tables of 0.
+pub fn read_pool(
+    s: &[u8],
+    at: usize,
+    sum: u8,
+    finals: &mut [u8; DiagramState::LIMIT],
+    arcs: &mut [u8; POOL_ARCS],
+) -> PoolRead
     requires { ⌜ sum ≤ mostMessages ⌝ }
-    ensures { λ r. ⌜ filledWith (r .filled) (r .pool) ≡ readPool (now (s .entry)) at sum ⌝ }
+    requires { ⌜ now finals ≡ replicate mostPool 0 ⌝ }
+    requires { ⌜ now arcs ≡ replicate poolArcs 0 ⌝ }
+    ensures { λ r. ⌜ filledWith (r .filled) (poolOf (r .count) (now (finals .exit)) (now (arcs .exit))) ≡ readPool (now (s .entry)) at sum ⌝ }
 {
-    let mut finals = [0u8; DiagramState::LIMIT];
-    let mut arcs = [0u8; POOL_ARCS];
     match read_within(s, at, 1, MOST_POOL) {
         Field::Refused(why) => PoolRead {
             filled: Filled::Refused(why),
-            pool: Pool {
-                count: 0,
-                finals,
-                arcs,
-            },
+            count: 0,
         },
         Field::Value(count, place) => {
-            let filled = read_states(s, place, count, sum, &mut finals, &mut arcs);
-            PoolRead {
-                filled,
-                pool: Pool {
-                    count,
-                    finals,
-                    arcs,
-                },
-            }
+            let filled = read_states(s, place, count, sum, finals, arcs);
+            PoolRead { filled, count }
         }
     }
 }

@@ -43,8 +43,9 @@ returns c = rw (sym (c .before .before .before .read-within .ensures) ∙ ap sai
 returns-2 : tie.Need-returns-2
 unfolding readTransitions
 returns-2 c =
-    rw (sym (c .before .before .before .before .before .before .read-within .ensures) ∙ ap saidField (c .before .before .before .before .count .given .1), ← c .before .before .wide .ensures .same, ← c .before .before .before .before .before .before .before .before .pre)
-    (filled-into (c .read-rows .result) _ (inRows (c .before .before .wide .result)) (c .read-rows .ensures))
+    let e = rw (c .before .before .before .before .before .before .before .before .pre) at (c .read-rows .ensures) in
+    rw (sym (c .before .before .before .before .before .before .read-within .ensures) ∙ ap saidField (c .before .before .before .before .count .given .1), ← c .before .before .wide .ensures .same)
+    (filled-into (c .read-rows .result) _ (inRows (c .before .before .wide .result)) e)
 
 pub read-transitions-spec : {M : Type 1} → statement M
 read-transitions-spec =
