@@ -4,6 +4,7 @@ use crate::sets::read_sets;
 use numbers::number::Filled;
 use numbers::refusal::MOST_BYTES;
 use numbers::refusal::Refusal;
+use reading_model::model::ModelRead;
 use reading_model::model::read_model;
 use reading_pool::order::in_queue_order;
 use reading_pool::pool::read_pool;
@@ -12,17 +13,27 @@ use tables::kinds::DiagramState;
 use tables::tables::BadList;
 use tables::tables::ENTRIES;
 use tables::tables::MOST_CONTROLS;
+use tables::tables::Machines;
 use tables::tables::Map;
-use tables::tables::ModelTables;
 use tables::tables::POOL_ARCS;
 use tables::tables::Pool;
+use tables::tables::Queues;
+use tables::tables::ROWS;
 use tables::tables::SetTables;
 use tables::tables::Tables;
+use tables::tables::Transitions;
 ghost use mathlib.Core.Path.{_≡_};
-ghost use Rattle.numbers.specs.Part.{refused};
+ghost use mathlib.Core.List.{List};
+ghost use Prim.Native.Nat.{ℕ};
+ghost use lib.ListN.{replicate};
+ghost use Rattle.numbers.specs.Part.{got, refused};
 ghost use Rattle.numbers.specs.Said.{numberOf, placeOf};
-ghost use Rattle.session.specs.Said.{read, saidAnswer};
-ghost use Rattle.session.specs.File.{Reads, readFile, joined};
+ghost use Rattle.tables.specs.Limits.{mostPool};
+ghost use Rattle.tables.specs.Rows.{rowsLength};
+ghost use Rattle.tables.specs.Pool.{poolArcs};
+ghost use Rattle.reading_model.specs.Model.{modelOf};
+ghost use Rattle.reading_pool.specs.Pool.{poolOf};
+ghost use Rattle.session.specs.File.{Reads, readFile, joined, readingOf, uncleared};
 
 pub enum Answer {
     Read,
@@ -35,82 +46,89 @@ pub struct Reading {
     pub tables: Tables,
 }
 
-// The tables of a model, a pool and sets over it.
-fn joined(model: ModelTables, pool: Pool, sets: SetTables) -> Reading
-    ensures { λ r. ⌜ (saidAnswer (r .answer) ≡ read) × (r .tables ≡ joined model pool sets) ⌝ }
+// What reading answers beside the three large tables. Those are lent: handed on by value they would be copied at every return.
+pub struct HeadRead {
+    pub answer: Answer,
+    pub machines: Machines,
+    pub queues: Queues,
+    pub transitions: u8,
+    pub states: u8,
+    pub map: Map,
+    pub bad: BadList,
+}
+
+// All was read: a model, the number of the pool's states, and sets over it.
+fn all_read(model: ModelRead, states: u8, sets: SetTables) -> HeadRead
+    ensures { λ h. ⌜ ((rows finals arcs : List ℕ) (end : ℕ) → Reads (got (joined (modelOf (model .machines) (model .queues) (model .transitions) rows) (poolOf states finals arcs) sets) end) (uncleared h rows finals arcs)) ⌝ }
 {
     let machines = model.machines;
     let queues = model.queues;
-    let transitions = model.transitions;
     let map = sets.map;
     let bad = sets.bad;
-    Reading {
+    HeadRead {
         answer: Answer::Read,
-        tables: Tables {
-            machines,
-            queues,
-            transitions,
-            pool,
-            map,
-            bad,
-        },
+        machines,
+        queues,
+        transitions: model.transitions,
+        states,
+        map,
+        bad,
     }
 }
 
-fn refused(why: Refusal) -> Reading
-    ensures { λ r. ⌜ Reads (refused (numberOf why) (placeOf why)) r ⌝ }
+fn refused(why: Refusal) -> HeadRead
+    ensures { λ h. ⌜ ((rows finals arcs : List ℕ) → Reads (refused (numberOf why) (placeOf why)) (uncleared h rows finals arcs)) ⌝ }
 {
     let model = empty_model();
     let machines = model.machines;
     let queues = model.queues;
-    let transitions = model.transitions;
-    Reading {
+    HeadRead {
         answer: Answer::Refused(why),
-        tables: Tables {
-            machines,
-            queues,
-            transitions,
-            pool: Pool {
-                count: 0,
-                finals: [0u8; DiagramState::LIMIT],
-                arcs: [0u8; POOL_ARCS],
-            },
-            map: Map {
-                roots: [0u8; MOST_CONTROLS],
-            },
-            bad: BadList {
-                count: 0,
-                rows: [0u8; ENTRIES],
-            },
+        machines,
+        queues,
+        transitions: 0,
+        states: 0,
+        map: Map {
+            roots: [0u8; MOST_CONTROLS],
+        },
+        bad: BadList {
+            count: 0,
+            rows: [0u8; ENTRIES],
         },
     }
 }
 
-// The tables of a session file, or why it is refused.
-pub fn read(s: &[u8]) -> Reading
-    ensures { λ x. ⌜ Reads (readFile (now (s .entry))) x ⌝ }
+// Field after field. A refusal leaves the lent tables as far as they were filled.
+fn read_open(
+    s: &[u8],
+    rows: &mut [u8; ROWS],
+    finals: &mut [u8; DiagramState::LIMIT],
+    arcs: &mut [u8; POOL_ARCS],
+) -> HeadRead
+    requires { ⌜ now rows ≡ replicate rowsLength 0 ⌝ }
+    requires { ⌜ now finals ≡ replicate mostPool 0 ⌝ }
+    requires { ⌜ now arcs ≡ replicate poolArcs 0 ⌝ }
+    ensures { λ h. ⌜ Reads (readFile (now (s .entry))) (uncleared h (now (rows .exit)) (now (finals .exit)) (now (arcs .exit))) ⌝ }
 {
     if MOST_BYTES < s.len() {
         return refused(Refusal::TooLong);
     }
-    let first = read_model(s, 0);
+    let first = read_model(s, 0, rows);
     let after_model = first.filled;
     match after_model {
         Filled::Refused(why) => refused(why),
         Filled::To(p1) => {
-            let model = first.model;
-            let queues = model.queues;
-            let second = read_pool(s, p1, queues.sum);
+            let queues = first.queues;
+            let second = read_pool(s, p1, queues.sum, finals, arcs);
             let after_pool = second.filled;
             match after_pool {
                 Filled::Refused(why) => refused(why),
                 Filled::To(p2) => {
-                    let pool = second.pool;
-                    if !in_queue_order(queues, pool) {
+                    if !in_queue_order(queues, second.count, arcs) {
                         return refused(Refusal::NotInQueueOrder(p2));
                     }
-                    let machines = model.machines;
-                    let third = read_sets(s, p2, machines.product, pool.count);
+                    let machines = first.machines;
+                    let third = read_sets(s, p2, machines.product, second.count);
                     let after_sets = third.filled;
                     match after_sets {
                         Filled::Refused(why) => refused(why),
@@ -119,11 +137,69 @@ pub fn read(s: &[u8]) -> Reading
                                 return refused(Refusal::Trailing(p3));
                             }
                             let sets = third.sets;
-                            joined(model, pool, sets)
+                            all_read(first, second.count, sets)
                         }
                     }
                 }
             }
         }
+    }
+}
+
+// The same, and the lent tables are all 0 again after a refusal.
+pub fn read_into(
+    s: &[u8],
+    rows: &mut [u8; ROWS],
+    finals: &mut [u8; DiagramState::LIMIT],
+    arcs: &mut [u8; POOL_ARCS],
+) -> HeadRead
+    requires { ⌜ now rows ≡ replicate rowsLength 0 ⌝ }
+    requires { ⌜ now finals ≡ replicate mostPool 0 ⌝ }
+    requires { ⌜ now arcs ≡ replicate poolArcs 0 ⌝ }
+    ensures { λ h. ⌜ Reads (readFile (now (s .entry))) (readingOf h (now (rows .exit)) (now (finals .exit)) (now (arcs .exit))) ⌝ }
+{
+    let head = read_open(s, rows, finals, arcs);
+    let answer = head.answer;
+    match answer {
+        Answer::Read => head,
+        Answer::Refused(_) => {
+            *rows = [0u8; ROWS];
+            *finals = [0u8; DiagramState::LIMIT];
+            *arcs = [0u8; POOL_ARCS];
+            head
+        }
+    }
+}
+
+// The tables of a session file, or why it is refused.
+pub fn read(s: &[u8]) -> Reading
+    ensures { λ x. ⌜ Reads (readFile (now (s .entry))) x ⌝ }
+{
+    let mut rows = [0u8; ROWS];
+    let mut finals = [0u8; DiagramState::LIMIT];
+    let mut arcs = [0u8; POOL_ARCS];
+    let head = read_into(s, &mut rows, &mut finals, &mut arcs);
+    let answer = head.answer;
+    let machines = head.machines;
+    let queues = head.queues;
+    let map = head.map;
+    let bad = head.bad;
+    Reading {
+        answer,
+        tables: Tables {
+            machines,
+            queues,
+            transitions: Transitions {
+                count: head.transitions,
+                rows,
+            },
+            pool: Pool {
+                count: head.states,
+                finals,
+                arcs,
+            },
+            map,
+            bad,
+        },
     }
 }
