@@ -1,11 +1,16 @@
 -- What the functions under the service promise: a step, the loop over steps, and the beginning.
-use Prim.Native.Nat.{ℕ, _+_, _-_, _*_, _≤_}
+use Prim.Native.Nat.{ℕ, _+_, _-_, _*_, _≤_, _<_}
 use mathlib.Core.Path.{_≡_}
-use mathlib.Core.Bool.{true, false}
+use mathlib.Core.Bool.{Bool, true, false}
 use mathlib.Core.List.{List}
-use lib.ListN.{length, drop}
+use lib.ListN.{length, drop, replicate}
 use Rattle.numbers.specs.Limits.{mostBytes}
+use Rattle.numbers.specs.declared.refusal.Refusal.{Refusal}
+use Rattle.tables.specs.Limits.{mostQueues}
 use Rattle.tables.specs.Valid.{Valid}
+use Rattle.tables.specs.declared.tables.Machines.{Machines}
+use Rattle.session.specs.declared.reading.Answer.{Answer}
+use Rattle.session.specs.declared.reading.Answer.the-variants.{Read, Refused}
 use Rattle.model.specs.Model.{Configuration, take?}
 use Rattle.model.specs.Session.{Session}
 use Rattle.meaning.specs.Tables.{sessionOf}
@@ -18,9 +23,10 @@ use Rattle.stepping.specs.After.{recordAfter}
 use Rattle.stepping.specs.Taking.{Takeable}
 use Rattle.stepping.specs.declared.runs.RunRecord.{RunRecord}
 use Rattle.stepping.specs.declared.frame.Frame.{Frame}
-use Rattle.replay.specs.Flat.{flatLong, view}
+use Rattle.replay.specs.Flat.{flatLong, view, refusedBy}
 use Rattle.replay.specs.Reply.{ran, Outcome, turnedAway, ranTo, saidStop, replayOf}
 use Rattle.replay.specs.declared.progress.Stop.{Stop}
+use Rattle.replay.specs.declared.progress.Stop.the-variants.{End, FileRefused, TraceTooLong, MemoryShort}
 use Rattle.replay.specs.declared.progress.Progress.{Progress}
 use Rattle.replay.specs.declared.progress.Ended as Code
 use Rattle.replay.specs.declared.progress.Begun.{Begun}
@@ -120,6 +126,22 @@ pub record Reached (f : Frame) (flat s : List ℕ) (x y : State) : Type 0 where
   pub on : x .progress .going ≡ true → y .progress .going ≡ true
       → (Ready f flat s x → Ready f flat s y) × (rest f flat s y ≡ rest f flat s x) × Kept f (x .memory) (y .memory)
   pub off : x .progress .going ≡ true → y .progress .going ≡ false → Final f (rest f flat s x) (x .memory) y
+
+-- HOW A REPLAY OPENS, after this answer of reading, with so many queues, bytes of the trace and bytes of memory
+pub data Opens (a : Answer) (queues long bytes : ℕ) (p : Progress) : Type 0 where
+  unread : (why : Refusal) → a ≡ Refused why → p ≡ refusedBy (FileRefused why) → Opens a queues long bytes p
+  tooLong : a ≡ Read → mostBytes < long → p ≡ refusedBy TraceTooLong → Opens a queues long bytes p
+  tooShort : a ≡ Read → long ≤ mostBytes → bytes < queues * room → p ≡ refusedBy MemoryShort → Opens a queues long bytes p
+  opened : a ≡ Read → long ≤ mostBytes → queues * room ≤ bytes → p ≡ record { going = true; why = End; at = 0; steps = 0 }
+      → Opens a queues long bytes p
+
+-- the record of the start, starting states and empty queues; the one before where the replay does not go
+abbrev pub startsWith : Machines → RunRecord
+startsWith m = record { states = m .starts; heads = replicate mostQueues 0; lengths = replicate mostQueues 0 }
+
+abbrev pub recordFor : RunRecord → Machines → Bool → RunRecord
+recordFor r m true = startsWith m
+recordFor r m false = r
 
 -- THE BEGINNING, with n bytes of memory lent, whatever they hold: a refusal with the record as it was, or the first state
 pub data Begins (bytes s : List ℕ) (n : ℕ) (r : RunRecord) (b : Begun) : Type 0 where

@@ -7,12 +7,16 @@ use numbers::number::wide;
 use numbers::refusal::MOST_BYTES;
 use rings::ROOM;
 use session::reading::Answer;
-use session::reading::read;
+use session::reading::read_into;
 use stepping::runs::RunRecord;
+use tables::kinds::DiagramState;
 use tables::tables::MOST_QUEUES;
+use tables::tables::Machines;
+use tables::tables::POOL_ARCS;
+use tables::tables::ROWS;
 ghost use mathlib.Core.Path.{_≡_};
 ghost use Rattle.replay.specs.Flat.{refusedBy};
-ghost use Rattle.replay.specs.Run.{Begins};
+ghost use Rattle.replay.specs.Run.{Opens, recordFor, Begins};
 
 fn refused(why: Stop) -> Progress
     ensures { λ p. ⌜ p ≡ refusedBy why ⌝ }
@@ -25,37 +29,56 @@ fn refused(why: Stop) -> Progress
     }
 }
 
-// The first state; after a refusal the record is as it was.
-pub(crate) fn start(r: RunRecord, file: &[u8], trace: &[u8], bytes: usize) -> Begun
-    ensures { λ b. ⌜ Begins (now (file .entry)) (now (trace .entry)) bytes r b ⌝ }
+// How far a replay has come before its first step: it may go, or file, trace or memory is refused.
+fn opening(answer: Answer, queues: u8, length: usize, bytes: usize) -> Progress
+    ensures { λ p. ⌜ Opens answer queues length bytes p ⌝ }
 {
-    let reading = read(file);
-    let answer = reading.answer;
-    let tables = reading.tables;
     match answer {
-        Answer::Refused(why) => begun(r, tables, refused(Stop::FileRefused(why))),
+        Answer::Refused(why) => refused(Stop::FileRefused(why)),
         Answer::Read => {
-            if MOST_BYTES < trace.len() {
-                return begun(r, tables, refused(Stop::TraceTooLong));
+            if MOST_BYTES < length {
+                return refused(Stop::TraceTooLong);
             }
-            let queues = tables.queues;
-            if bytes < wide(queues.count) * ROOM {
-                return begun(r, tables, refused(Stop::MemoryShort));
+            if bytes < wide(queues) * ROOM {
+                return refused(Stop::MemoryShort);
             }
-            let machines = tables.machines;
-            let states = machines.starts;
-            let first = RunRecord {
-                states,
-                heads: [0usize; MOST_QUEUES as usize],
-                lengths: [0usize; MOST_QUEUES as usize],
-            };
-            let p = Progress {
+            Progress {
                 going: true,
                 why: Stop::End,
                 at: 0,
                 steps: 0,
-            };
-            begun(first, tables, p)
+            }
         }
     }
+}
+
+// The record that the file begins with; after a refusal it is as it was.
+fn record_for(r: RunRecord, machines: Machines, going: bool) -> RunRecord
+    ensures { λ x. ⌜ x ≡ recordFor r machines going ⌝ }
+{
+    if !going {
+        return r;
+    }
+    let states = machines.starts;
+    RunRecord {
+        states,
+        heads: [0usize; MOST_QUEUES as usize],
+        lengths: [0usize; MOST_QUEUES as usize],
+    }
+}
+
+// The first state.
+pub(crate) fn start(r: RunRecord, file: &[u8], trace: &[u8], bytes: usize) -> Begun
+    ensures { λ b. ⌜ Begins (now (file .entry)) (now (trace .entry)) bytes r b ⌝ }
+{
+    let mut rows = [0u8; ROWS];
+    let mut finals = [0u8; DiagramState::LIMIT];
+    let mut arcs = [0u8; POOL_ARCS];
+    let head = read_into(file, &mut rows, &mut finals, &mut arcs);
+    let answer = head.answer;
+    let queues = head.queues;
+    let machines = head.machines;
+    let p = opening(answer, queues.count, trace.len(), bytes);
+    let first = record_for(r, machines, p.going);
+    begun(first, head, &rows, &finals, &arcs, p)
 }

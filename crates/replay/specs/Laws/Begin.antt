@@ -10,14 +10,18 @@ use lib.Seq.{length-take-le}
 use lib.Dec.{leb}
 use borrow.Author.Tests.{le-leb, lt-leb}
 use Rattle.numbers.specs.Limits.{mostBytes}
-use Rattle.numbers.specs.Part.{got, refused}
+use Rattle.numbers.specs.Part.{Part, got, refused}
 use Rattle.numbers.specs.Said.{numberOf, placeOf}
 use Rattle.numbers.specs.Laws.Written.{zeros-hold}
 use Rattle.numbers.specs.declared.refusal.Refusal.{Refusal}
 use Rattle.tables.specs.Limits.{mostMachines, mostQueues}
 use Rattle.tables.specs.Valid.{Valid}
 use Rattle.tables.specs.declared.tables.Tables.{Tables}
-use Rattle.session.specs.File.{readFile}
+use Rattle.session.specs.File.{readFile, Reads}
+use Rattle.session.specs.Said.{saidAnswer}
+use Rattle.session.specs.Laws.Reading.{answer-refused, answer-read}
+use Rattle.session.specs.declared.reading.Reading.{Reading}
+use Rattle.session.specs.declared.reading.Answer.the-variants.{Read}
 use Rattle.session.specs.Laws.Valid.{valid}
 use Rattle.model.specs.Model.{Configuration, Own, begin, number}
 use Rattle.model.specs.Laws.Basics.{false-not-true}
@@ -34,17 +38,17 @@ use Rattle.rings.specs.Laws.Each.{each-empty}
 use Rattle.stepping.specs.Configurations.{configOf, countsOf, InRings, Holds}
 use Rattle.stepping.specs.Frame.{noBad}
 use Rattle.stepping.specs.declared.runs.RunRecord.{RunRecord}
-use Rattle.replay.specs.Flat.{flatOf, frameOf, view, begunOf, refusedBy}
+use Rattle.replay.specs.Flat.{flatOf, Sized, frameOf, view, begunOf, refusedBy}
 use Rattle.replay.specs.Reply.{Reply, file, trace, memory, turnedAway, ranTo, lentTo, replayTo, replayOf, saidStop, Replays}
-use Rattle.replay.specs.Run.{state, stands, endedOf, sessionIn, Ready, rest, Ran, Begins, refuses, starts}
-use Rattle.replay.specs.Laws.Flat.{valid-sized, flat-long, view-is, view-valid, goodTables}
+use Rattle.replay.specs.Run.{state, stands, endedOf, sessionIn, Ready, rest, Ran, Opens, unread, tooLong, tooShort, opened, startsWith, recordFor, Begins, refuses, starts}
+use Rattle.replay.specs.Laws.Flat.{valid-sized, empty-sized, flat-long, view-is, view-valid, goodTables}
 use Rattle.replay.specs.declared.progress.Stop.{Stop}
+use Rattle.replay.specs.declared.progress.Stop.the-variants.{End, FileRefused, TraceTooLong, MemoryShort}
 use Rattle.replay.specs.declared.progress.Progress.{Progress}
 use Rattle.replay.specs.declared.progress.Begun.{Begun}
 
--- the record of the start: starting states, and empty queues
-abbrev pub startOf : Tables → RunRecord
-startOf T = record { states = T .machines .starts; heads = replicate mostQueues 0; lengths = replicate mostQueues 0 }
+abbrev startOf : Tables → RunRecord
+startOf T = startsWith (T .machines)
 
 -- A REFUSAL, and what is replied to it
 module _ (bytes s : List ℕ) (n : ℕ) (r : RunRecord) (why : Stop) (T : Tables) {p : Progress} {b : Begun} (refusing : p ≡ refusedBy why)
@@ -57,12 +61,12 @@ module _ (bytes s : List ℕ) (n : ℕ) (r : RunRecord) (why : Stop) (T : Tables
       is : b ≡ begunOf r T (refusedBy why)
       is = made ∙ ap (begunOf r T) refusing
 
-  pub begin-unread : (k q : ℕ) → readFile bytes ≡ refused k q → saidStop why ≡ file k q → Begins bytes s n r b
+  begin-unread : (k q : ℕ) → readFile bytes ≡ refused k q → saidStop why ≡ file k q → Begins bytes s n r b
   unfolding replayOf
   begin-unread k q e w = begins-refused (λ mem _. ap (λ x. replayTo x s mem r) e ∙ ap (λ x. turnedAway x r mem) (sym w))
 
   module _ {U : Tables} {next : ℕ} (e : readFile bytes ≡ got U next) where
-    pub begin-long : mostBytes < length s → saidStop why ≡ trace 1 mostBytes → Begins bytes s n r b
+    begin-long : mostBytes < length s → saidStop why ≡ trace 1 mostBytes → Begins bytes s n r b
     unfolding replayOf
     begin-long h w =
         begins-refused
@@ -71,7 +75,7 @@ module _ (bytes s : List ℕ) (n : ℕ) (r : RunRecord) (why : Stop) (T : Tables
         ∙ ap (λ x. lentTo x (leb (U .queues .count * room) (length mem)) U s mem r) (lt-leb (length s) mostBytes h)
         ∙ ap (λ x. turnedAway x r mem) (sym w))
 
-    pub begin-short : length s ≤ mostBytes → n < U .queues .count * room → saidStop why ≡ memory 2 0 → Begins bytes s n r b
+    begin-short : length s ≤ mostBytes → n < U .queues .count * room → saidStop why ≡ memory 2 0 → Begins bytes s n r b
     unfolding replayOf
     begin-short h l w =
         begins-refused
@@ -121,7 +125,7 @@ module _ (T : Tables) (v : Valid T) where
       ap (λ U. replayed (sessionOf U) s) (view-is T (valid-sized v))
       ∙ replayed-without-bad (sessionOf T .model) (sessionOf T .pool) (sessionOf T .root) (sessionOf (goodTables T (valid-sized v)) .bad) (sessionOf T .bad) s
 
-pub begin-replay : (bytes s : List ℕ) (n : ℕ) (r : RunRecord) {T : Tables} {next : ℕ} → readFile bytes ≡ got T next → length s ≤ mostBytes
+begin-replay : (bytes s : List ℕ) (n : ℕ) (r : RunRecord) {T : Tables} {next : ℕ} → readFile bytes ≡ got T next → length s ≤ mostBytes
     → T .queues .count * room ≤ n → (p : Progress) → p .going ≡ true → p .at ≡ 0 → p .steps ≡ 0 → Begins bytes s n r (begunOf (startOf T) T p)
 unfolding replayOf
 begin-replay bytes s n r {T} {next} e h l p g at steps = starts g (λ mem long. (ready mem long, is mem long))
@@ -152,6 +156,33 @@ begin-replay bytes s n r {T} {next} e h l p g at steps = starts g (λ mem long. 
         ap (λ x. replayTo x s mem r) e
         ∙ ap₂ (λ x y. lentTo x y T s mem r) (le-leb (length s) mostBytes h) (le-leb (T .queues .count * room) (length mem) (omega arith))
         ∙ ap (ranTo T mem) (sym (all mem))
+
+-- THE BEGINNING of what was read, whatever it was
+pub reads-sized : (bytes : List ℕ) {R : Reading} → Reads (readFile bytes) R → Sized (R .tables)
+reads-sized bytes {R} h = sized (readFile bytes) refl h
+  where
+    sized : (x : Part Tables) → readFile bytes ≡ x → Reads x R → Sized (R .tables)
+    sized (got T next) e h′ = subst Sized (sym (h′ .tables)) (valid-sized (valid bytes e))
+    sized (refused k q) e h′ = empty-sized (h′ .tables)
+
+module _ (bytes s : List ℕ) (n : ℕ) (r : RunRecord) (R : Reading) (reads : Reads (readFile bytes) R) where
+  abbrev T : Tables
+  T = R .tables
+
+  abbrev begunFor : Progress → Progress → Begun
+  begunFor q p = begunOf (recordFor r (T .machines) (q .going)) T p
+
+  readAs : (a : R .answer ≡ Read) → readFile bytes ≡ got T (answer-read (readFile bytes) R reads (ap saidAnswer a) .0)
+  readAs a = answer-read (readFile bytes) R reads (ap saidAnswer a) .1
+
+  pub begins : {p : Progress} {b : Begun} → Opens (R .answer) (T .queues .count) (length s) n p → b ≡ begunFor p p → Begins bytes s n r b
+  begins {p} (unread why a e) made =
+      begin-unread bytes s n r (FileRefused why) T e (made ∙ ap (λ q. begunFor q p) e) (numberOf why) (placeOf why) (answer-refused (readFile bytes) R reads _ _ (ap saidAnswer a)) refl
+  begins {p} (tooLong a h e) made = begin-long bytes s n r TraceTooLong T e (made ∙ ap (λ q. begunFor q p) e) (readAs a) h refl
+  begins {p} (tooShort a h l e) made = begin-short bytes s n r MemoryShort T e (made ∙ ap (λ q. begunFor q p) e) (readAs a) h l refl
+  begins {p} (opened a h l e) made =
+      subst (Begins bytes s n r) (sym (made ∙ ap (λ q. begunFor q q) e))
+      (begin-replay bytes s n r (readAs a) h l (record { going = true; why = End; at = 0; steps = 0 }) refl refl refl)
 
 -- WHAT THE LOOP NEEDS of a beginning, and what both together promise
 pub begins-ready : {bytes s : List ℕ} {n : ℕ} {r : RunRecord} {b : Begun} → Begins bytes s n r b → (mem : List ℕ) → length mem ≡ n
