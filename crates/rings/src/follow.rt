@@ -57,9 +57,10 @@ pub fn follow_ring(
         return from;
     }
     let mut row = wide(from.0) * ARCS;
-    let mut i: usize = 0;
-    while i < count {
-        let Row::At(next) = row_after(arcs, row, Message(memory[base + (head + i) % ROOM])) else {
+    let end = head + count;
+    let mut i = head;
+    while i < end {
+        let Row::At(next) = row_after(arcs, row, Message(memory[base + i % ROOM])) else {
             return Reached::nowhere();
         };
         row = next;

@@ -39,6 +39,22 @@ module _ (mem : List ℕ) (base head n : ℕ) where
   unfolding waiting
   waiting-end h = rw (sub-eq-zero-of-le h)
 
+-- the same by places, from place i on and before the place end
+abbrev pub waitingTo : List ℕ → ℕ → ℕ → ℕ → List ℕ
+waitingTo mem base end i = waiting mem base i (end - i)
+
+module _ (mem : List ℕ) (base : ℕ) where
+  pub places-begin : (head n : ℕ) → waiting mem base head n ≡ waitingTo mem base (head + n) head
+  places-begin head n = ap (waiting mem base head) (let z : n ≡ head + n - head = omega arith in z)
+
+  pub places-next : {end i : ℕ} → i < end → waitingTo mem base end i ≡ getD mem (base + i % room) 0 ∷ waitingTo mem base end (i + 1)
+  unfolding waiting
+  places-next {end} {i} h = ap (waiting mem base i) (one-more h)
+
+  pub places-end : {end i : ℕ} → end ≤ i → waitingTo mem base end i ≡ []
+  unfolding waiting
+  places-end h = rw (sub-eq-zero-of-le h)
+
 module _ (rows : List ℕ) (at n : ℕ) where
   pub word-begin : take n (drop at rows) ≡ wordFrom rows at n 0
   word-begin = rw (add-zero, sub-zero)

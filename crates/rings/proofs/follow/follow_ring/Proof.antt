@@ -6,7 +6,7 @@ use Rattle.tables.specs.Limits.{mostPool, mostMessages}
 use Rattle.tables.specs.Laws.Lookup.{nowhere-true, nowhere-false, state-below, arc-small, along-missing, along-arc}
 use Rattle.rings.specs.Ring.{waiting}
 use Rattle.rings.specs.Laws.Rows.{stateAt, row-missing, row-arc}
-use Rattle.rings.specs.Laws.Words.{waitingFrom, waiting-begin, waiting-next, waiting-end}
+use Rattle.rings.specs.Laws.Words.{waitingTo, places-begin, places-next, places-end}
 use Rattle.rings.specs.Laws.Follow.{Following, follow-begin, state-some, message-small, follow-message, follow-end, follow-lost, follows-as, made-state}
 use Rattle.rings.proofs.follow.follow_ring.Statement.{statement}
 use Rattle.rings.proofs.follow.follow_ring.Tie as tie
@@ -20,14 +20,14 @@ use Rattle.tables.proofs.kinds.Reached.is_nowhere.Reads as is-nowhere-reads
 use Rattle.tables.proofs.kinds.Reached.nowhere.Reads as nowhere-reads
 
 abbrev Inv-loop : tie.InvT-loop
-Inv-loop arcs memory base head count row₀ i₀ row i = Following arcs (stateAt row₀) (waiting memory base head count) (stateAt row) (waitingFrom memory base head count i) × ((row ≡ stateAt row * mostMessages) × ((stateAt row < mostPool) × (i ≤ count)))
+Inv-loop arcs memory base head count row₀ end i₀ row i = Following arcs (stateAt row₀) (waiting memory base head count) (stateAt row) (waitingTo memory base end i) × ((row ≡ stateAt row * mostMessages) × (stateAt row < mostPool))
 
 abbrev μ-loop : tie.MeasureT-loop
-μ-loop arcs memory base head count row₀ i₀ row i = count - i
+μ-loop arcs memory base head count row₀ end i₀ row i = end - i
 
 -- src/follow.rt:48:9
 returns : tie.Need-returns Inv-loop μ-loop
-returns c = follow-end (follow-begin (c .before .before .before .pre .1 .0) (c .before .before .before .pre .1 .1 .1) (waiting-begin _ _ _ _)) (waiting-end _ _ _ _ (omega arith)) refl
+returns c = follow-end (follow-begin (c .before .before .before .pre .1 .0) (c .before .before .before .pre .1 .1 .1) (places-begin _ _ _ _)) (places-end _ _ (omega arith)) refl
 
 -- src/follow.rt:50:8
 is-nowhere-requires : tie.Need-is-nowhere-requires Inv-loop μ-loop
@@ -45,14 +45,14 @@ wide-requires c κs = search needs
 mul-row : tie.Need-mul-row Inv-loop μ-loop
 mul-row c = search needs
 
+-- src/follow.rt:54:15
+add-end : tie.Need-add-end Inv-loop μ-loop
+add-end c = search needs
+
 -- src/follow.rt:55:5
 loop-holds : tie.Need-loop-holds Inv-loop μ-loop
 loop-holds c = let small = state-below (c .before .before .before .before .before .before .pre .1 .0) (nowhere-false _ (c .before .before .is-nowhere .ensures) (c .before .if2 .left)) in
-    (follow-begin (omega (arith, c .wide .ensures .same, small)) (c .before .before .before .before .before .before .pre .1 .1 .1) (waiting-begin _ _ _ _), (omega arith, (omega (arith, c .wide .ensures .same, small), omega arith)))
-
--- src/follow.rt:56:73
-add-t15 : tie.Need-add-t15 Inv-loop μ-loop
-add-t15 c = search needs
+    (follow-begin (omega (arith, c .wide .ensures .same, small)) (c .before .before .before .before .before .before .pre .1 .1 .1) (places-begin _ _ _ _), (omega arith, omega (arith, c .wide .ensures .same, small)))
 
 -- src/follow.rt:56:65
 add-t17 : tie.Need-add-t17 Inv-loop μ-loop
@@ -66,7 +66,7 @@ shared-slice-read-t19 c = search needs
 row-after-requires : tie.Need-row-after-requires Inv-loop μ-loop
 row-after-requires c κs =
     let inv = c .before .before .loop .inv in
-    omega (arith, message-small (inv .0) (waiting-next _ _ _ _ (c .before .loop-test .taken)), inv .1 .0, inv .1 .1 .0, c .before .before .before .before .before .before .before .before .before .pre .0 .long)
+    omega (arith, message-small (inv .0) (places-next _ _ (c .before .loop-test .taken)), inv .1 .0, inv .1 .1, c .before .before .before .before .before .before .before .before .before .pre .0 .long)
 
 -- src/follow.rt:56:21
 enum-known-next : tie.Need-enum-known-next Inv-loop μ-loop
@@ -84,9 +84,9 @@ nowhere-requires c κs = search needs
 returns-3 : tie.Need-returns-3 Inv-loop μ-loop
 returns-3 c =
     let inv = c .before .before .before .before .before .before .loop .inv in
-    let here = waiting-next _ _ _ _ (c .before .before .before .before .before .loop-test .taken) in
+    let here = places-next _ _ (c .before .before .before .before .before .loop-test .taken) in
     let missing = row-missing (inv .1 .0) (c .before .before .before .row-after .ensures) (c .before .enum-told .given .1) in
-    let lost = follow-message (inv .0) here (along-missing (state-some (inv .1 .1 .0)) refl missing refl) in
+    let lost = follow-message (inv .0) here (along-missing (state-some (inv .1 .1)) refl missing refl) in
     follows-as (omega (arith, c .before .before .before .before .before .before .before .wide .ensures .same)) (follow-lost lost refl (c .nowhere .ensures))
 
 -- src/follow.rt:60:9
@@ -101,9 +101,9 @@ loop-less c = search needs
 loop-again : tie.Need-loop-again Inv-loop μ-loop
 loop-again c =
     let inv = c .before .before .before .before .before .before .loop .inv in
-    let here = waiting-next _ _ _ _ (c .before .before .before .before .before .loop-test .taken) in
+    let here = places-next _ _ (c .before .before .before .before .before .loop-test .taken) in
     let arc = row-arc (inv .1 .0) (c .before .before .before .row-after .ensures) (c .before .next .given .1) in
-    (follow-message (inv .0) here (along-arc (state-some (inv .1 .1 .0)) refl (c .before .before .before .before .before .before .before .before .before .before .before .before .before .pre .0) (arc .0) refl), (arc .1, (arc-small _ _ (c .before .before .before .before .before .before .before .before .before .before .before .before .before .pre .0) (arc .0), omega arith)))
+    (follow-message (inv .0) here (along-arc (state-some (inv .1 .1)) refl (c .before .before .before .before .before .before .before .before .before .before .before .before .before .pre .0) (arc .0) refl), (arc .1, arc-small _ _ (c .before .before .before .before .before .before .before .before .before .before .before .before .before .pre .0) (arc .0)))
 
 -- src/follow.rt:62:17
 new-requires : tie.Need-new-requires Inv-loop μ-loop
@@ -115,7 +115,7 @@ at-requires c κs = search needs
 
 -- src/follow.rt:40:1
 returns-4 : tie.Need-returns-4 Inv-loop μ-loop
-returns-4 c = follows-as (omega (arith, c .before .before .before .before .wide .ensures .same)) (follow-end (c .before .before .before .loop .inv .0) (waiting-end _ _ _ _ (c .before .before .loop-test .left)) (c .at .ensures ∙ made-state (c .before .new .ensures) (c .before .before .before .loop .inv .1 .1 .0)))
+returns-4 c = follows-as (omega (arith, c .before .before .before .before .wide .ensures .same)) (follow-end (c .before .before .before .loop .inv .0) (places-end _ _ (c .before .before .loop-test .left)) (c .at .ensures ∙ made-state (c .before .new .ensures) (c .before .before .before .loop .inv .1 .1)))
 
 pub follow-ring-spec : {M : Type 1} → statement M
 follow-ring-spec =
@@ -128,8 +128,8 @@ follow-ring-spec =
     returns-2
     wide-requires
     mul-row
+    add-end
     loop-holds
-    add-t15
     add-t17
     shared-slice-read-t19
     row-after-requires
