@@ -4,8 +4,8 @@ use crate::queues::read_queues;
 use crate::transitions::read_transitions;
 use numbers::number::Filled;
 use numbers::refusal::Refusal;
-use tables::tables::MOST_MACHINES;
-use tables::tables::MOST_QUEUES;
+use tables::empty::empty_machines;
+use tables::empty::empty_queues;
 use tables::tables::Machines;
 use tables::tables::Queues;
 use tables::tables::ROWS;
@@ -30,19 +30,12 @@ pub struct ModelRead {
 fn refused(why: Refusal) -> ModelRead
     ensures { λ r. ⌜ ((rows : List ℕ) → filledWith (r .filled) (modelOf (r .machines) (r .queues) (r .transitions) rows) ≡ refused (numberOf why) (placeOf why)) ⌝ }
 {
+    let machines = empty_machines();
+    let queues = empty_queues();
     ModelRead {
         filled: Filled::Refused(why),
-        machines: Machines {
-            count: 0,
-            product: 0,
-            states: [0u8; MOST_MACHINES as usize],
-            starts: [0u8; MOST_MACHINES as usize],
-        },
-        queues: Queues {
-            count: 0,
-            sum: 0,
-            messages: [0u8; MOST_QUEUES as usize],
-        },
+        machines,
+        queues,
         transitions: 0,
     }
 }

@@ -8,7 +8,8 @@ use reading_model::model::ModelRead;
 use reading_model::model::read_model;
 use reading_pool::order::in_queue_order;
 use reading_pool::pool::read_pool;
-use tables::empty::empty_model;
+use tables::empty::empty_machines;
+use tables::empty::empty_queues;
 use tables::kinds::DiagramState;
 use tables::tables::BadList;
 use tables::tables::ENTRIES;
@@ -79,9 +80,8 @@ fn all_read(model: ModelRead, states: u8, sets: SetTables) -> HeadRead
 fn refused(why: Refusal) -> HeadRead
     ensures { λ h. ⌜ ((rows finals arcs : List ℕ) → Reads (refused (numberOf why) (placeOf why)) (uncleared h rows finals arcs)) ⌝ }
 {
-    let model = empty_model();
-    let machines = model.machines;
-    let queues = model.queues;
+    let machines = empty_machines();
+    let queues = empty_queues();
     HeadRead {
         answer: Answer::Refused(why),
         machines,

@@ -2,13 +2,20 @@
 use lib.ListN.{replicate}
 use Rattle.tables.specs.Limits.{mostMachines, mostQueues}
 use Rattle.tables.specs.Rows.{rowsLength}
+use Rattle.tables.specs.declared.tables.Machines.{Machines}
+use Rattle.tables.specs.declared.tables.Queues.{Queues}
 use Rattle.tables.specs.declared.tables.ModelTables.{ModelTables}
+
+abbrev pub emptyMachines : Machines
+emptyMachines = record { count = 0; product = 0; states = replicate mostMachines 0; starts = replicate mostMachines 0 }
+
+abbrev pub emptyQueues : Queues
+emptyQueues = record { count = 0; sum = 0; messages = replicate mostQueues 0 }
 
 abbrev pub emptyModel : ModelTables
 emptyModel =
     record {
-      machines =
-          record { count = 0; product = 0; states = replicate mostMachines 0; starts = replicate mostMachines 0 };
-      queues = record { count = 0; sum = 0; messages = replicate mostQueues 0 };
+      machines = emptyMachines;
+      queues = emptyQueues;
       transitions = record { count = 0; rows = replicate rowsLength 0 };
     }
