@@ -2,4 +2,5 @@ pub mod Machines
 pub mod Queues
 pub mod Transitions
 pub mod Model
+pub mod Lent
 pub mod Laws

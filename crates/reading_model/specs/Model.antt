@@ -4,9 +4,7 @@ use mathlib.Core.List.{List}
 use Rattle.numbers.specs.Part.{Part, got, andThen}
 use Rattle.reading_model.specs.Machines.{readMachines}
 use Rattle.reading_model.specs.Queues.{readQueues}
-use Rattle.reading_model.specs.Transitions.{inRows, readTransitions}
-use Rattle.tables.specs.declared.tables.Machines.{Machines}
-use Rattle.tables.specs.declared.tables.Queues.{Queues}
+use Rattle.reading_model.specs.Transitions.{readTransitions}
 use Rattle.tables.specs.declared.tables.ModelTables.{ModelTables}
 
 unfoldable pub readModel : List ℕ → ℕ → Part ModelTables
@@ -15,7 +13,3 @@ readModel s at =
     andThen (readQueues s p₁) (λ q p₂.
     andThen (readTransitions s p₂ m q) (λ τ p₃.
     got (record { machines = m; queues = q; transitions = τ }) p₃)))
-
--- the model of its parts: machines, queues, and the transitions' count and table
-abbrev pub modelOf : Machines → Queues → ℕ → List ℕ → ModelTables
-modelOf m q count rows = record { machines = m; queues = q; transitions = inRows count rows }

@@ -49,10 +49,6 @@ readRows s at m q zero t rows = got rows at
 readRows s at m q (suc left) t rows =
     andThen (readTransition s at m q (t * rowLength) rows) (λ rows′ next. readRows s next m q left (t + 1) rows′)
 
--- the transitions of a count and a table
-abbrev pub inRows : ℕ → List ℕ → Transitions
-inRows count rows = record { count = count; rows = rows }
-
 unfoldable pub readTransitions : List ℕ → ℕ → Machines → Queues → Part Transitions
 readTransitions s at m q =
     andThen (readWithin s at 0 mostTransitions) (λ count p₁.

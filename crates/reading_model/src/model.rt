@@ -16,7 +16,8 @@ ghost use lib.ListN.{replicate};
 ghost use Rattle.numbers.specs.Part.{refused};
 ghost use Rattle.numbers.specs.Said.{numberOf, placeOf, filledWith};
 ghost use Rattle.tables.specs.Rows.{rowsLength};
-ghost use Rattle.reading_model.specs.Model.{readModel, modelOf};
+ghost use Rattle.reading_model.specs.Model.{readModel};
+ghost use Rattle.reading_model.specs.Lent.{lentModel};
 
 // The table of the transitions is lent: it is large, and would be copied at every return.
 pub struct ModelRead {
@@ -28,7 +29,7 @@ pub struct ModelRead {
 
 // After a refusal the tables are of no account.
 fn refused(why: Refusal) -> ModelRead
-    ensures { λ r. ⌜ ((rows : List ℕ) → filledWith (r .filled) (modelOf (r .machines) (r .queues) (r .transitions) rows) ≡ refused (numberOf why) (placeOf why)) ⌝ }
+    ensures { λ r. ⌜ ((rows : List ℕ) → filledWith (r .filled) (lentModel (r .machines) (r .queues) (r .transitions) rows) ≡ refused (numberOf why) (placeOf why)) ⌝ }
 {
     let machines = empty_machines();
     let queues = empty_queues();
@@ -43,7 +44,7 @@ fn refused(why: Refusal) -> ModelRead
 // The rows of the transitions go into a table of 0.
 pub fn read_model(s: &[u8], at: usize, rows: &mut [u8; ROWS]) -> ModelRead
     requires { ⌜ now rows ≡ replicate rowsLength 0 ⌝ }
-    ensures { λ r. ⌜ filledWith (r .filled) (modelOf (r .machines) (r .queues) (r .transitions) (now (rows .exit))) ≡ readModel (now (s .entry)) at ⌝ }
+    ensures { λ r. ⌜ filledWith (r .filled) (lentModel (r .machines) (r .queues) (r .transitions) (now (rows .exit))) ≡ readModel (now (s .entry)) at ⌝ }
 {
     let first = read_machines(s, at);
     let after_machines = first.filled;

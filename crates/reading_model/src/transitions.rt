@@ -30,7 +30,8 @@ ghost use lib.ListN.{getD, replicate};
 ghost use Rattle.numbers.specs.Said.{saidField, filledWith};
 ghost use Rattle.tables.specs.Limits.{mostControls, mostTransitions};
 ghost use Rattle.tables.specs.Rows.{rowLength, rowsLength};
-ghost use Rattle.reading_model.specs.Transitions.{readMessage, readWord, readAction, readTransition, readRows, inRows, readTransitions};
+ghost use Rattle.reading_model.specs.Transitions.{readMessage, readWord, readAction, readTransition, readRows, readTransitions};
+ghost use Rattle.reading_model.specs.Lent.{lentTransitions};
 
 pub struct TransitionsRead {
     pub filled: Filled,
@@ -196,7 +197,7 @@ pub(crate) fn read_transitions(
     rows: &mut [u8; ROWS],
 ) -> TransitionsRead
     requires { ⌜ now rows ≡ replicate rowsLength 0 ⌝ }
-    ensures { λ r. ⌜ filledWith (r .filled) (inRows (r .count) (now (rows .exit))) ≡ readTransitions (now (s .entry)) at m q ⌝ }
+    ensures { λ r. ⌜ filledWith (r .filled) (lentTransitions (r .count) (now (rows .exit))) ≡ readTransitions (now (s .entry)) at m q ⌝ }
 {
     match read_within(s, at, 0, MOST_TRANSITIONS) {
         Field::Refused(why) => TransitionsRead {

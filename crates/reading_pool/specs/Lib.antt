@@ -1,3 +1,4 @@
 pub mod Pool
+pub mod Lent
 pub mod Lowest
 pub mod Laws

@@ -44,10 +44,6 @@ readStates s at n sum (suc left) i finals arcs =
     andThen (readState s at n sum (i * mostMessages) arcs) (λ state next.
     readStates s next n sum left (i + 1) (set finals i (state .0)) (state .1))
 
--- the pool of a count and two tables
-abbrev pub poolOf : ℕ → List ℕ → List ℕ → Pool
-poolOf count finals arcs = record { count = count; finals = finals; arcs = arcs }
-
 unfoldable pub readPool : List ℕ → ℕ → ℕ → Part Pool
 readPool s at sum =
     andThen (readWithin s at 1 mostPool) (λ n p₁.

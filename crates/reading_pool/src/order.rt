@@ -12,7 +12,7 @@ ghost use mathlib.Core.List.{List};
 ghost use Prim.Native.Nat.{ℕ, _-_, _≤_};
 ghost use Rattle.tables.specs.Limits.{mostPool, mostQueues, mostMessages};
 ghost use Rattle.tables.specs.Queues.{firstMessage};
-ghost use Rattle.reading_pool.specs.Pool.{poolOf};
+ghost use Rattle.reading_pool.specs.Lent.{lentPool};
 ghost use Rattle.reading_pool.specs.Lowest.{lowest, lowests, arcsOrdered, statesOrdered, queuesOrdered, inQueueOrder};
 
 // The lowest message that a state has an arc for, or the sum.
@@ -104,7 +104,7 @@ pub fn in_queue_order(q: Queues, count: u8, arcs: &[u8]) -> bool
     requires { ⌜ count ≤ mostPool ⌝ }
     requires { ⌜ q .count ≤ mostQueues ⌝ }
     requires { ⌜ firstMessage (q .messages) (q .count) ≤ mostMessages ⌝ }
-    ensures { λ r. ⌜ ((finals : List ℕ) → r ≡ inQueueOrder q (poolOf count finals (now (arcs .entry)))) ⌝ }
+    ensures { λ r. ⌜ ((finals : List ℕ) → r ≡ inQueueOrder q (lentPool count finals (now (arcs .entry)))) ⌝ }
 {
     let messages = q.messages;
     let mut lows = [0u8; DiagramState::LIMIT];

@@ -19,7 +19,8 @@ ghost use lib.ListN.{replicate};
 ghost use Rattle.numbers.specs.Said.{saidNumber, saidField, saidPair, fieldWith, filledWith};
 ghost use Rattle.tables.specs.Limits.{mostPool, mostMessages};
 ghost use Rattle.tables.specs.Pool.{poolArcs};
-ghost use Rattle.reading_pool.specs.Pool.{ascends, readAscending, readArc, readArcs, readState, readStates, poolOf, readPool};
+ghost use Rattle.reading_pool.specs.Pool.{ascends, readAscending, readArc, readArcs, readState, readStates, readPool};
+ghost use Rattle.reading_pool.specs.Lent.{lentPool};
 
 // Its two tables are lent: they are large, and would be copied at every return.
 pub struct PoolRead {
@@ -160,7 +161,7 @@ pub fn read_pool(
     requires { ⌜ sum ≤ mostMessages ⌝ }
     requires { ⌜ now finals ≡ replicate mostPool 0 ⌝ }
     requires { ⌜ now arcs ≡ replicate poolArcs 0 ⌝ }
-    ensures { λ r. ⌜ filledWith (r .filled) (poolOf (r .count) (now (finals .exit)) (now (arcs .exit))) ≡ readPool (now (s .entry)) at sum ⌝ }
+    ensures { λ r. ⌜ filledWith (r .filled) (lentPool (r .count) (now (finals .exit)) (now (arcs .exit))) ≡ readPool (now (s .entry)) at sum ⌝ }
 {
     match read_within(s, at, 1, MOST_POOL) {
         Field::Refused(why) => PoolRead {

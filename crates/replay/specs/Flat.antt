@@ -10,7 +10,7 @@ use Rattle.tables.specs.Limits.{mostControls, mostPool}
 use Rattle.tables.specs.Rows.{rowsLength}
 use Rattle.tables.specs.Pool.{poolArcs}
 use Rattle.tables.specs.declared.tables.Tables.{Tables}
-use Rattle.session.specs.File.{readingOf}
+use Rattle.session.specs.Lent.{lentReading}
 use Rattle.session.specs.declared.reading.HeadRead.{HeadRead}
 use Rattle.stepping.specs.Frame.{tablesOf}
 use Rattle.stepping.specs.declared.frame.Frame.{Frame}
@@ -21,7 +21,7 @@ use Rattle.replay.specs.declared.progress.Begun.{Begun}
 
 -- the tables that were read into lent arrays
 abbrev pub tablesRead : HeadRead → List ℕ → List ℕ → List ℕ → Tables
-tablesRead h rows finals arcs = readingOf h rows finals arcs .tables
+tablesRead h rows finals arcs = lentReading h rows finals arcs .tables
 
 -- transitions, final marks, arcs, roots
 abbrev pub flatOf : Tables → List ℕ

@@ -8,20 +8,16 @@ use Rattle.numbers.specs.Limits.{mostBytes}
 use Rattle.tables.specs.Limits.{mostControls, mostPool, mostBad}
 use Rattle.numbers.specs.Part.{Part, got, refused, provided, andThen}
 use Rattle.session.specs.Said.{ReadReply, saidAnswer, read, refusal}
-use Rattle.reading_model.specs.Model.{readModel, modelOf}
+use Rattle.reading_model.specs.Model.{readModel}
 use Rattle.tables.specs.Pool.{poolArcs}
-use Rattle.tables.specs.Rows.{rowsLength}
 use Rattle.tables.specs.Empty.{emptyModel}
-use Rattle.reading_pool.specs.Pool.{readPool, poolOf}
+use Rattle.reading_pool.specs.Pool.{readPool}
 use Rattle.reading_pool.specs.Lowest.{inQueueOrder}
 use Rattle.session.specs.Sets.{readSets}
 use Rattle.tables.specs.declared.tables.ModelTables.{ModelTables}
 use Rattle.tables.specs.declared.tables.Pool.{Pool}
 use Rattle.tables.specs.declared.tables.SetTables.{SetTables}
 use Rattle.tables.specs.declared.tables.Tables.{Tables}
-use Rattle.session.specs.declared.reading.Answer.{Answer}
-use Rattle.session.specs.declared.reading.Answer.the-variants.{Read, Refused as AnswerRefused}
-use Rattle.session.specs.declared.reading.HeadRead.{HeadRead}
 use Rattle.session.specs.declared.reading.Reading.{Reading}
 
 -- the tables of a model, a pool and sets over it
@@ -66,23 +62,3 @@ tablesOf (refused k p) = empty
 pub record Reads (x : Part Tables) (r : Reading) : Type 0 where
   pub reply : saidAnswer (r .answer) ≡ readReplyOf x
   pub tables : r .tables ≡ tablesOf x
-
--- the reading of a head and the three lent tables: rows, final marks, arcs
-abbrev pub readingOf : HeadRead → List ℕ → List ℕ → List ℕ → Reading
-readingOf h rows finals arcs =
-    record {
-      answer = h .answer;
-      tables =
-          joined (modelOf (h .machines) (h .queues) (h .transitions) rows) (poolOf (h .states) finals arcs)
-          (record { map = h .map; bad = h .bad });
-    }
-
--- a lent table of n entries once it is cleared after a refusal
-abbrev pub cleared : Answer → ℕ → List ℕ → List ℕ
-cleared Read n t = t
-cleared (AnswerRefused why) n t = replicate n 0
-
--- the same where the lent tables are still to be cleared after a refusal
-abbrev pub uncleared : HeadRead → List ℕ → List ℕ → List ℕ → Reading
-uncleared h rows finals arcs =
-    readingOf h (cleared (h .answer) rowsLength rows) (cleared (h .answer) mostPool finals) (cleared (h .answer) poolArcs arcs)

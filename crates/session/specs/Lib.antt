@@ -3,5 +3,6 @@ pub mod Map
 pub mod Bad
 pub mod Sets
 pub mod File
+pub mod Lent
 pub mod Causes
 pub mod Laws

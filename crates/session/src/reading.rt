@@ -32,9 +32,10 @@ ghost use Rattle.numbers.specs.Said.{numberOf, placeOf};
 ghost use Rattle.tables.specs.Limits.{mostPool};
 ghost use Rattle.tables.specs.Rows.{rowsLength};
 ghost use Rattle.tables.specs.Pool.{poolArcs};
-ghost use Rattle.reading_model.specs.Model.{modelOf};
-ghost use Rattle.reading_pool.specs.Pool.{poolOf};
-ghost use Rattle.session.specs.File.{Reads, readFile, joined, readingOf, uncleared};
+ghost use Rattle.reading_model.specs.Lent.{lentModel};
+ghost use Rattle.reading_pool.specs.Lent.{lentPool};
+ghost use Rattle.session.specs.File.{Reads, readFile, joined};
+ghost use Rattle.session.specs.Lent.{lentReading, uncleared};
 
 pub enum Answer {
     Read,
@@ -60,7 +61,7 @@ pub struct HeadRead {
 
 // All was read: a model, the number of the pool's states, and sets over it.
 fn all_read(model: ModelRead, states: u8, sets: SetTables) -> HeadRead
-    ensures { λ h. ⌜ ((rows finals arcs : List ℕ) (end : ℕ) → Reads (got (joined (modelOf (model .machines) (model .queues) (model .transitions) rows) (poolOf states finals arcs) sets) end) (uncleared h rows finals arcs)) ⌝ }
+    ensures { λ h. ⌜ ((rows finals arcs : List ℕ) (end : ℕ) → Reads (got (joined (lentModel (model .machines) (model .queues) (model .transitions) rows) (lentPool states finals arcs) sets) end) (uncleared h rows finals arcs)) ⌝ }
 {
     let machines = model.machines;
     let queues = model.queues;
@@ -156,7 +157,7 @@ pub fn read_into(
     requires { ⌜ now rows ≡ replicate rowsLength 0 ⌝ }
     requires { ⌜ now finals ≡ replicate mostPool 0 ⌝ }
     requires { ⌜ now arcs ≡ replicate poolArcs 0 ⌝ }
-    ensures { λ h. ⌜ Reads (readFile (now (s .entry))) (readingOf h (now (rows .exit)) (now (finals .exit)) (now (arcs .exit))) ⌝ }
+    ensures { λ h. ⌜ Reads (readFile (now (s .entry))) (lentReading h (now (rows .exit)) (now (finals .exit)) (now (arcs .exit))) ⌝ }
 {
     let head = read_open(s, rows, finals, arcs);
     let answer = head.answer;

@@ -2,7 +2,8 @@ use mathlib.Core.Path.{_≡_, sym, ap, _∙_}
 use native.Mathlib.Omega.{arith}
 use Rattle.numbers.specs.Said.{saidField}
 use Rattle.numbers.specs.Laws.Parts.{filled-into}
-use Rattle.reading_model.specs.Transitions.{readTransitions, inRows}
+use Rattle.reading_model.specs.Transitions.{readTransitions}
+use Rattle.reading_model.specs.Lent.{lentTransitions}
 use Rattle.numbers.specs.Laws.Ranges.{within-range}
 use borrow.Author.Needs.{needs}
 use Rattle.reading_model.proofs.transitions.read_transitions.Statement.{statement}
@@ -45,7 +46,7 @@ unfolding readTransitions
 returns-2 c =
     let e = rw (c .before .before .before .before .before .before .before .before .pre) at (c .read-rows .ensures) in
     rw (sym (c .before .before .before .before .before .before .read-within .ensures) ∙ ap saidField (c .before .before .before .before .count .given .1), ← c .before .before .wide .ensures .same)
-    (filled-into (c .read-rows .result) _ (inRows (c .before .before .wide .result)) e)
+    (filled-into (c .read-rows .result) _ (lentTransitions (c .before .before .wide .result)) e)
 
 pub read-transitions-spec : {M : Type 1} → statement M
 read-transitions-spec =

@@ -3,7 +3,8 @@ use mathlib.Core.List.{List}
 use Prim.Native.Nat.{ℕ}
 use Rattle.numbers.specs.Said.{saidField}
 use Rattle.numbers.specs.Laws.Parts.{filled-into}
-use Rattle.reading_pool.specs.Pool.{poolOf, readPool}
+use Rattle.reading_pool.specs.Pool.{readPool}
+use Rattle.reading_pool.specs.Lent.{lentPool}
 use Rattle.numbers.specs.Laws.Ranges.{within-range}
 use borrow.Author.Needs.{needs}
 use Rattle.reading_pool.proofs.pool.read_pool.Statement.{statement}
@@ -41,7 +42,7 @@ unfolding readPool
 returns-2 c =
     let e = rw (c .before .before .before .before .before .before .before .before .pre .1 .0, c .before .before .before .before .before .before .before .before .pre .1 .1) at (c .read-states .ensures) in
     rw (sym (c .before .before .before .before .before .before .read-within .ensures) ∙ ap saidField (c .before .before .before .before .count .given .1))
-    (filled-into (c .read-states .result) _ (λ (states : List ℕ × List ℕ). poolOf (c .before .before .before .before .count .given .0 .0) (states .0) (states .1)) e)
+    (filled-into (c .read-states .result) _ (λ (states : List ℕ × List ℕ). lentPool (c .before .before .before .before .count .given .0 .0) (states .0) (states .1)) e)
 
 pub read-pool-spec : {M : Type 1} → statement M
 read-pool-spec =
