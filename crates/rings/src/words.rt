@@ -8,13 +8,18 @@ ghost use Rattle.trace.specs.Rules.{room};
 ghost use Rattle.rings.specs.Ring.{waiting, putRound, began};
 ghost use Rattle.rings.specs.Lent.{Ring};
 
-// The word at this entry of the table, put into the ring at base from a place on. Places are taken round the ring.
+// The word at this entry of the table, put into the ring at base from a place on. Places are taken round the ring. Most words have one
+// message, for which a loop costs more than its work, here and below.
 pub fn put_word(memory: &mut [u8], base: usize, from: usize, rows: &[u8], at: usize, n: usize)
     requires { ⌜ base + room ≤ length (now memory) ⌝ }
     requires { ⌜ at + n ≤ length (now rows) ⌝ }
     requires { ⌜ from ≤ 2 * room ⌝ }
     ensures { λ r. ⌜ now (memory .exit) ≡ putRound (now (memory .entry)) base from (take n (drop at (now (rows .entry)))) ⌝ }
 {
+    if n == 1 {
+        memory[base + from % ROOM] = rows[at];
+        return;
+    }
     let mut i: usize = 0;
     while i < n {
         memory[base + (from + i) % ROOM] = rows[at + i];
@@ -39,6 +44,9 @@ pub fn begins(
 {
     if count < n {
         return false;
+    }
+    if n == 1 {
+        return rows[at] == memory[base + head];
     }
     let mut same = true;
     let mut i: usize = 0;

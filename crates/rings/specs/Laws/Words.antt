@@ -55,6 +55,11 @@ module _ (mem : List ℕ) (base : ℕ) where
   unfolding waiting
   places-end h = rw (sub-eq-zero-of-le h)
 
+  pub places-first : (head n : ℕ) → head < room → 0 < n → waiting mem base head n ≡ getD mem (base + head) 0 ∷ waitingTo mem base (head + n) (head + 1)
+  places-first head n placed waits =
+      places-begin head n ∙ places-next (omega arith)
+      ∙ ap (λ k. getD mem (base + k) 0 ∷ waitingTo mem base (head + n) (head + 1)) (let z : head % room ≡ head = omega arith in z)
+
 module _ (rows : List ℕ) (at n : ℕ) where
   pub word-begin : take n (drop at rows) ≡ wordFrom rows at n 0
   word-begin = rw (add-zero, sub-zero)
@@ -67,6 +72,12 @@ module _ (rows : List ℕ) (at n : ℕ) where
   pub word-end : {i : ℕ} → n ≤ i → wordFrom rows at n i ≡ []
   word-end h = rw (sub-eq-zero-of-le h)
 
+  -- a word of one message
+  pub word-one : n ≡ 1 → at + n ≤ length rows → take n (drop at rows) ≡ getD rows at 0 ∷ []
+  word-one e g =
+      word-begin ∙ word-next (omega arith) g ∙ ap (λ w. getD rows (at + 0) 0 ∷ w) (word-end (omega arith))
+      ∙ ap (λ k. getD rows k 0 ∷ []) (add-zero at)
+
 -- A WORD IS PUT
 pub record Putting (mem₀ : List ℕ) (base from : ℕ) (w mem : List ℕ) (p : ℕ) (rest : List ℕ) : Type 0 where
   pub is : putRound mem base p rest ≡ putRound mem₀ base from w
@@ -74,6 +85,10 @@ pub record Putting (mem₀ : List ℕ) (base from : ℕ) (w mem : List ℕ) (p :
 
 pub put-begin : (mem : List ℕ) (base from : ℕ) {w v : List ℕ} → w ≡ v → Putting mem base from w mem (from + 0) v
 put-begin mem base from e = record { is = ap₂ (putRound mem base) (add-zero from) (sym e); long = refl }
+
+pub put-one : (mem : List ℕ) (base from : ℕ) {m : ℕ} {w : List ℕ} → w ≡ m ∷ [] → set mem (base + from % room) m ≡ putRound mem base from w
+unfolding putRound
+put-one mem base from e = ap (putRound mem base from) (sym e)
 
 module _ {mem₀ mem w v : List ℕ} {base from p : ℕ} (t : Putting mem₀ base from w mem p v) where
   pub put-next : {m : ℕ} {rest : List ℕ} {p′ : ℕ} → v ≡ m ∷ rest → p′ ≡ p + 1 → Putting mem₀ base from w (set mem (base + p % room) m) p′ rest
@@ -127,6 +142,14 @@ module _ {w q v r : List ℕ} {m n : ℕ} {v′ r′ : List ℕ} (e : v ≡ m �
 pub asked-end : (b : Bool) {w q v r : List ℕ} → Asked b w q v r → v ≡ [] → b ≡ began (strip w q)
 asked-end true t e = ask-end (t .yes refl) e
 asked-end false t e = t .no refl
+
+-- a word of one message is the first that waits
+pub ask-one : {w q r : List ℕ} {m n : ℕ} → w ≡ m ∷ [] → q ≡ n ∷ r → eqb m n ≡ began (strip w q)
+ask-one {w} {q} {r} {m} {n} e f = first (eqb m n) refl ∙ sym (ap began (ap₂ strip e f))
+  where
+    first : (b : Bool) → eqb m n ≡ b → eqb m n ≡ began (strip (m ∷ []) (n ∷ r))
+    first true t = rw (t, strip)
+    first false t = rw (t, strip)
 
 -- a queue shorter than the word does not begin with it
 strip-short : (w q : List ℕ) → length q < length w → strip w q ≡ none
