@@ -1,12 +1,13 @@
 -- The table of arcs by rows: where the arcs of a state begin, which is its number times the messages.
-use Prim.Native.Nat.{ℕ, _+_, _-_, _*_}
+use Prim.Native.Nat.{ℕ, _+_, _-_, _*_, _/_, _<_}
 use mathlib.Core.Path.{_≡_}
 use mathlib.Core.Bool.{cond}
 use mathlib.Core.Option.{Option, none, some}
 use mathlib.Core.List.{List}
 use lib.Dec.{eqb}
 use lib.ListN.{getD}
-use Rattle.tables.specs.Limits.{mostMessages}
+use Rattle.tables.specs.Limits.{mostMessages, mostPool}
+use Rattle.rings.specs.Lent.{FollowsTo}
 use Rattle.rings.specs.declared.follow.Row.{Row}
 use Rattle.rings.specs.declared.follow.Row.the-variants.{At, Nowhere}
 
@@ -21,3 +22,19 @@ saidRow Nowhere = none
 -- what a row's entry for a message says
 pub record RowTo (arcs : List ℕ) (row m : ℕ) (r : Row) : Type 0 where
   pub is : saidRow r ≡ rowOf (getD arcs (row + m) 0)
+
+-- the state of a row, and that a row is of a state of the pool
+abbrev pub stateAt : ℕ → ℕ
+stateAt row = row / mostMessages
+
+pub record StateRow (row : ℕ) : Type 0 where
+  pub is : row ≡ stateAt row * mostMessages
+  pub below : stateAt row < mostPool
+
+-- what a word says from a row on: the row of the state that it leads to
+abbrev pub followedTo : List ℕ → ℕ → List ℕ → Row → Type 0
+followedTo arcs row u (At next) = StateRow next × FollowsTo arcs (stateAt row) u (stateAt next)
+followedTo arcs row u Nowhere = FollowsTo arcs (stateAt row) u mostPool
+
+pub record RowFollows (arcs : List ℕ) (row : ℕ) (u : List ℕ) (r : Row) : Type 0 where
+  pub is : followedTo arcs row u r

@@ -14,7 +14,7 @@ ghost use Rattle.tables.specs.Limits.{mostMessages, mostPool};
 ghost use Rattle.tables.specs.Lookup.{ArcsSmall};
 ghost use Rattle.rings.specs.Ring.{waiting, rings};
 ghost use Rattle.rings.specs.Lent.{Ring, Rings, FollowsTo};
-ghost use Rattle.rings.specs.Rows.{RowTo};
+ghost use Rattle.rings.specs.Rows.{RowTo, StateRow, RowFollows};
 
 // Where the arcs of a state begin in their table, or nowhere.
 enum Row {
@@ -35,41 +35,35 @@ fn row_after(arcs: &[u8], row: usize, m: Message) -> Row
     Row::At((target - 1) * ARCS)
 }
 
-// Where what waits in the ring at base leads. The first message that has nowhere to go ends it; an empty ring, as most are, costs one test.
-pub fn follow_ring(
+// The row that what waits in the ring at base leads to. The first message that has nowhere to go ends it.
+fn follow_ring(
     arcs: &[u8],
-    from: Reached,
+    from: usize,
     memory: &[u8],
     base: usize,
     head: usize,
     count: usize,
-) -> Reached
+) -> Row
     requires { ⌜ ArcsSmall (now arcs) ⌝ }
-    requires { ⌜ from .0 ≤ mostPool ⌝ }
+    requires { ⌜ StateRow from ⌝ }
     requires { ⌜ Ring (now memory) base head count ⌝ }
     requires { ⌜ Between 0 mostMessages (waiting (now memory) base head count) ⌝ }
-    ensures { λ r. ⌜ FollowsTo (now (arcs .entry)) (from .0) (waiting (now (memory .entry)) base head count) (r .0) ⌝ }
+    ensures { λ r. ⌜ RowFollows (now (arcs .entry)) from (waiting (now (memory .entry)) base head count) r ⌝ }
 {
-    if count == 0 {
-        return from;
-    }
-    if from.is_nowhere() {
-        return from;
-    }
-    let mut row = wide(from.0) * ARCS;
     let end = head + count;
+    let mut row = from;
     let mut i = head;
     while i < end {
         let Row::At(next) = row_after(arcs, row, Message(memory[base + i % ROOM])) else {
-            return Reached::nowhere();
+            return Row::Nowhere;
         };
         row = next;
         i += 1;
     }
-    Reached::at(DiagramState::new(row / ARCS))
+    Row::At(row)
 }
 
-// Where what waits in so many rings leads.
+// Where what waits in so many rings leads. Between rings, too, a state is its row.
 pub fn follow_rings(
     arcs: &[u8],
     from: Reached,
@@ -84,11 +78,17 @@ pub fn follow_rings(
     requires { ⌜ Between 0 mostMessages (word (rings (now memory) (now heads) (now lengths) count)) ⌝ }
     ensures { λ r. ⌜ FollowsTo (now (arcs .entry)) (from .0) (word (rings (now (memory .entry)) (now (heads .entry)) (now (lengths .entry)) count)) (r .0) ⌝ }
 {
-    let mut at = from;
+    if from.is_nowhere() {
+        return from;
+    }
+    let mut row = wide(from.0) * ARCS;
     let mut q: usize = 0;
     while q < count {
-        at = follow_ring(arcs, at, memory, q * ROOM, heads[q], lengths[q]);
+        let Row::At(next) = follow_ring(arcs, row, memory, q * ROOM, heads[q], lengths[q]) else {
+            return Reached::nowhere();
+        };
+        row = next;
         q += 1;
     }
-    at
+    Reached::at(DiagramState::new(row / ARCS))
 }

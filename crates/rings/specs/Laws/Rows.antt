@@ -1,6 +1,6 @@
 -- A row leads where its state's arc does.
-use Prim.Native.Nat.{ℕ, _+_, _-_, _*_, _/_, _<_}
-use mathlib.Core.Path.{_≡_, refl, sym, ap, _∙_}
+use Prim.Native.Nat.{ℕ, _+_, _-_, _*_, _<_}
+use mathlib.Core.Path.{_≡_, refl, sym, ap, subst, _∙_}
 use mathlib.Core.Bool.{Bool, true, false, cond}
 use mathlib.Core.Option.{none, some}
 use mathlib.Core.List.{List}
@@ -8,16 +8,13 @@ use native.Mathlib.Omega.{arith}
 use lib.Dec.{eqb}
 use borrow.Author.Tests.{eq-eqb, ne-eqb}
 use lib.ListN.{getD}
-use Rattle.tables.specs.Limits.{mostMessages}
+use Rattle.tables.specs.Limits.{mostMessages, mostPool}
 use Rattle.tables.specs.Pool.{arcAt}
 use Rattle.model.specs.Laws.Basics.{none-not-some}
-use Rattle.rings.specs.Rows.{rowOf, saidRow, RowTo}
+use Rattle.rings.specs.Lent.{FollowsTo}
+use Rattle.rings.specs.Rows.{rowOf, saidRow, RowTo, stateAt, StateRow, followedTo, RowFollows}
 use Rattle.rings.specs.declared.follow.Row.{Row}
 use Rattle.rings.specs.declared.follow.Row.the-variants.{At, Nowhere}
-
--- the state of a row
-abbrev pub stateAt : ℕ → ℕ
-stateAt row = row / mostMessages
 
 -- an entry, by its test
 missing-entry : (b : Bool) (x : ℕ) → cond b none (some ((x - 1) * mostMessages)) ≡ none → cond b none (some (x - 1)) ≡ none
@@ -56,3 +53,11 @@ pub row-some : {x e : ℕ} → x ≡ e → (x ≡ 0 → ⊥) → some ((x - 1) *
 row-some {x} {e} s n =
     ap (λ (y : ℕ). some ((y - 1) * mostMessages)) s
     ∙ sym (ap (λ b. cond b none (some ((e - 1) * mostMessages))) (ne-eqb e 0 (λ z. n (s ∙ z))))
+
+-- where a word was followed from a row on, by its answer
+module _ {arcs u : List ℕ} {row : ℕ} {r : Row} (R : RowFollows arcs row u r) where
+  pub followed-at : {next : ℕ} → r ≡ At next → StateRow next × FollowsTo arcs (stateAt row) u (stateAt next)
+  followed-at z = subst (followedTo arcs row u) z (R .is)
+
+  pub followed-nowhere : r ≡ Nowhere → FollowsTo arcs (stateAt row) u mostPool
+  followed-nowhere z = subst (followedTo arcs row u) z (R .is)
