@@ -50,7 +50,16 @@ pub record Partable (states : List ℕ) (count c machine : ℕ) : Type 0 where
 
 -- WHAT IS ASKED to number the states of so many machines
 pub record Numberable (states places : List ℕ) (count : ℕ) : Type 0 where
+  pub least : 1 ≤ count
   pub stepped : Stepped states count
   pub statesLong : count ≤ length states
   pub placesLong : count ≤ length places
   pub small : number (take count states) (take count places) ≤ mostControls
+
+-- UNDERWAY: the machines before number i are numbered by sum, and with the rest it is the number of all
+abbrev pub withRest : List ℕ → List ℕ → ℕ → ℕ → ℕ → ℕ
+withRest states places count i sum =
+    sum * product (drop i (take count states)) + number (drop i (take count states)) (drop i (take count places))
+
+pub record Numbering (states places : List ℕ) (count i sum : ℕ) : Type 0 where
+  pub is : withRest states places count i sum ≡ number (take count states) (take count places)

@@ -4,24 +4,34 @@ use tables::kinds::ControlState;
 use tables::tables::MOST_MACHINES;
 use tables::tables::Machines;
 ghost use mathlib.Core.Path.{_≡_};
+ghost use Prim.Native.Nat.{_+_};
 ghost use lib.ListN.{take};
 ghost use Rattle.model.specs.Model.{number};
 ghost use Rattle.model.specs.Session.{States};
-ghost use Rattle.controls.specs.Controls.{sizesOf, Numberable};
+ghost use Rattle.controls.specs.Controls.{sizesOf, Numberable, Numbering};
 ghost use Rattle.tables.specs.Valid.{MachinesValid};
 
-// The number where machine i, of states[i] states, is in state at[i]; machine 0 is most significant.
+// The number sum of the machines before number i, with machine i taken in if there is one.
+fn with_machine(sum: usize, states: [u8; 4], at: &[u8; 4], count: usize, i: usize) -> usize
+    requires { ⌜ Numberable states (now at) count ⌝ }
+    requires { ⌜ Numbering states (now at) count i sum ⌝ }
+    ensures { λ r. ⌜ Numbering states (now (at .entry)) count (i + 1) r ⌝ }
+{
+    if i < count {
+        return sum * wide(states[i]) + wide(at[i]);
+    }
+    sum
+}
+
+// The number where machine i, of states[i] states, is in state at[i]; machine 0 is most significant. A loop over so few machines costs more
+// than its work, and each step of a replay asks.
 fn number_of(states: [u8; 4], at: &[u8; 4], count: usize) -> usize
     requires { ⌜ Numberable states (now at) count ⌝ }
     ensures { λ r. ⌜ r ≡ number (take count states) (take count (now (at .entry))) ⌝ }
 {
-    let mut sum: usize = 0;
-    let mut i: usize = 0;
-    while i < count {
-        sum = sum * wide(states[i]) + wide(at[i]);
-        i += 1;
-    }
-    sum
+    let second = with_machine(wide(at[0]), states, at, count, 1);
+    let third = with_machine(second, states, at, count, 2);
+    with_machine(third, states, at, count, 3)
 }
 
 // The control state in which each machine is in the state given for it.
@@ -31,5 +41,5 @@ pub fn control_of(m: Machines, at: &[u8; MOST_MACHINES as usize]) -> ControlStat
     ensures { λ r. ⌜ r .0 ≡ number (sizesOf m) (take (m .count) (now (at .entry))) ⌝ }
 {
     let states = m.states;
-    ControlState::new(number_of(states, at, wide(m.count)))
+    ControlState(number_of(states, at, wide(m.count)) as u8)
 }

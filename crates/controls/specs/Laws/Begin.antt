@@ -14,13 +14,8 @@ use Rattle.model.specs.Model.{product, number}
 use Rattle.model.specs.Session.{States}
 use Rattle.model.specs.Laws.Controls.{number-below}
 use Rattle.meaning.specs.Laws.Counts.{states-are}
-use Rattle.controls.specs.Controls.{sizesOf, startsOf, Numberable, Stepped}
+use Rattle.controls.specs.Controls.{sizesOf, startsOf, Numberable, Numbering, withRest, Stepped}
 use Rattle.controls.specs.Laws.Parting.{sizes-length, sizes-stepped, sizes-product}
-
--- the machines before number i are numbered by sum: what all of them give
-abbrev pub withRest : List ℕ → List ℕ → ℕ → ℕ → ℕ → ℕ
-withRest states places count i sum =
-    sum * product (drop i (take count states)) + number (drop i (take count states)) (drop i (take count places))
 
 gathered : (sum k p P N : ℕ) → sum * (k * P) + (p * P + N) ≡ (sum * k + p) * P + N
 gathered sum k p P N =
@@ -29,7 +24,7 @@ gathered sum k p P N =
     ∙ ap (λ (x : ℕ). x + N) (sym (add-mul (sum * k) p P))
 
 -- one machine more
-pub number-step : (states places : List ℕ) (count i sum k p : ℕ) → Numberable states places count → i < count
+number-step : (states places : List ℕ) (count i sum k p : ℕ) → Numberable states places count → i < count
     → k ≡ getD states i 0 → p ≡ getD places i 0
     → withRest states places count i sum ≡ withRest states places count (i + 1) (sum * k + p)
 number-step states places count i sum k p a h e f =
@@ -46,19 +41,46 @@ number-step states places count i sum k p a h e f =
         drop-cons (take count places) i 0 (omega (arith, length-take count places, a .placesLong))
         ∙ ap₂ (λ x n. x ∷ drop n (take count places)) (getD-take count places i 0 h ∙ sym f) (sym (add-one i))
 
--- and it stays small
-pub number-small : (states places : List ℕ) (count i sum : ℕ) → Numberable states places count
-    → withRest states places count i sum ≡ number (take count states) (take count places) → sum ≤ mostControls
-number-small states places count i sum a e =
-    let g : sum * 1 ≤ sum * product (drop i (take count states)) = mul-le-mul (le-refl sum) (a .stepped .small i .0) in
-    omega (arith, g, e, a .small, mul-one sum)
-
-pub number-end : (states places : List ℕ) (count i sum : ℕ) → Numberable states places count → count ≤ i
+-- past the last machine nothing is left
+number-end : (states places : List ℕ) (count i sum : ℕ) → Numberable states places count → count ≤ i
     → withRest states places count i sum ≡ sum
 number-end states places count i sum a h =
     ap (λ ks. sum * product ks + number ks (drop i (take count places)))
     (drop-of-length-le (take count states) {i = i} (omega (arith, length-take count states, a .statesLong)))
     ∙ omega (arith, mul-one sum)
+
+module _ {states places : List ℕ} {count : ℕ} (a : Numberable states places count) where
+  -- the first machine alone
+  pub numbering-first : {p : ℕ} → p ≡ getD places 0 0 → Numbering states places count 1 p
+  numbering-first {p} e =
+      record {
+        is =
+            ap (withRest states places count 1) (omega arith)
+            ∙ sym (number-step states places count 0 0 (getD states 0 0) p a (a .least) refl e)
+            ∙ omega arith;
+      }
+
+  module _ {i sum : ℕ} (n : Numbering states places count i sum) where
+    -- one more, or none
+    pub numbering-next : {k p : ℕ} → i < count → k ≡ getD states i 0 → p ≡ getD places i 0
+        → Numbering states places count (i + 1) (sum * k + p)
+    numbering-next {k} {p} h e f = record { is = sym (number-step states places count i sum k p a h e f) ∙ n .is }
+
+    pub numbering-done : count ≤ i → Numbering states places count (i + 1) sum
+    numbering-done h =
+        record {
+          is =
+              number-end states places count (i + 1) sum a (omega arith) ∙ sym (number-end states places count i sum a h) ∙ n .is;
+        }
+
+    -- the sum stays small, and is the number at the end
+    pub numbering-small : sum ≤ mostControls
+    numbering-small =
+        let g : sum * 1 ≤ sum * product (drop i (take count states)) = mul-le-mul (le-refl sum) (a .stepped .small i .0) in
+        omega (arith, g, n .is, a .small, mul-one sum)
+
+    pub numbering-end : count ≤ i → sum ≡ number (take count states) (take count places)
+    numbering-end h = sym (number-end states places count i sum a h) ∙ n .is
 
 -- a state for each machine
 states-length : (ks ps : List ℕ) → States ks ps → length ps ≡ length ks
@@ -70,6 +92,7 @@ module _ (m : Machines) (v : MachinesValid m) where
   pub read-numberable : (places : List ℕ) → States (sizesOf m) (take (m .count) places) → Numberable (m .states) places (m .count)
   read-numberable places s =
       record {
+        least = v .least;
         stepped = sizes-stepped m v;
         statesLong = omega (arith, v .statesLong, v .most);
         placesLong =
