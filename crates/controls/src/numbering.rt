@@ -29,9 +29,9 @@ fn number_of(states: [u8; 4], at: &[u8; 4], count: usize) -> usize
     requires { ⌜ Numberable states (now at) count ⌝ }
     ensures { λ r. ⌜ r ≡ number (take count states) (take count (now (at .entry))) ⌝ }
 {
-    let second = with_machine(wide(at[0]), states, at, count, 1);
-    let third = with_machine(second, states, at, count, 2);
-    with_machine(third, states, at, count, 3)
+    let two = with_machine(wide(at[0]), states, at, count, 1);
+    let three = with_machine(two, states, at, count, 2);
+    with_machine(three, states, at, count, 3)
 }
 
 // The control state in which each machine is in the state given for it.

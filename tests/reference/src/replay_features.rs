@@ -13,8 +13,6 @@ use crate::stream::Replay;
 
 /// Replays of each end and refusal.
 const OF_EACH_REPLY: usize = 100;
-/// Replays refused by the trace's 1, each of which has more than 16,384 bytes.
-const OF_LONG_TRACES: usize = 20;
 /// Traces of just 16,384 bytes.
 const OF_LONGEST_TRACES: usize = 10;
 /// Replays in which 5,000 messages pass through a queue.
@@ -49,6 +47,8 @@ pub fn asked() -> BTreeMap<String, usize> {
             "refused 14 by the queue's front",
             "refused 15",
             "file refused",
+            "trace refused 1",
+            "trace of 16,385 bytes",
             "memory refused 2",
             "lying across the room's end at a refused step",
             "memory just as asked",
@@ -56,7 +56,6 @@ pub fn asked() -> BTreeMap<String, usize> {
             "bytes past the last queue kept",
         ],
     );
-    ask(OF_LONG_TRACES, &["trace refused 1", "trace of 16,385 bytes"]);
     ask(OF_LONGEST_TRACES, &["trace of 16,384 bytes"]);
     ask(OF_MANY_MESSAGES, &["5,000 messages through a queue"]);
     ask(

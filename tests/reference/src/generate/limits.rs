@@ -51,10 +51,14 @@ impl Generator {
     pub(super) fn refused_traces(&mut self) {
         let reply = Reply::TraceRefused(Refusal { number: 1, place: LONGEST_TRACE });
         let (mut file, mut trace, mut tables) = self.long_walk(LONGEST_TRACE + 1, 30);
-        for round in 0..28 {
+        for round in 0..120 {
             // A walk serves four times, with other lengths of memory.
             if round % 4 == 0 {
-                let length = if round == 12 { 20_000 } else { LONGEST_TRACE + 1 };
+                let length = match round {
+                    12 => 20_000,
+                    40 => LONGEST_TRACE + 2,
+                    _ => LONGEST_TRACE + 1,
+                };
                 (file, trace, tables) = self.long_walk(length, 30);
             }
             let asked = tables.queue_count * QUEUE_ROOM;
