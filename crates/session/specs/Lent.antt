@@ -1,5 +1,6 @@
 -- The reading where rows, final marks and arcs went into lent tables.
 use Prim.Native.Nat.{ℕ}
+use mathlib.Core.Path.{_≡_}
 use mathlib.Core.List.{List}
 use lib.ListN.{replicate}
 use Rattle.tables.specs.Limits.{mostPool}
@@ -12,6 +13,10 @@ use Rattle.session.specs.declared.reading.Answer.{Answer}
 use Rattle.session.specs.declared.reading.Answer.the-variants.{Read, Refused}
 use Rattle.session.specs.declared.reading.HeadRead.{HeadRead}
 use Rattle.session.specs.declared.reading.Reading.{Reading}
+
+-- WHAT IS ASKED of the lent tables: all entries are 0
+abbrev pub Blank : List ℕ → List ℕ → List ℕ → Type 0
+Blank rows finals arcs = (rows ≡ replicate rowsLength 0) × ((finals ≡ replicate mostPool 0) × (arcs ≡ replicate poolArcs 0))
 
 -- the reading of a head and the three lent tables: rows, final marks, arcs
 abbrev pub lentReading : HeadRead → List ℕ → List ℕ → List ℕ → Reading

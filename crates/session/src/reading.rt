@@ -23,19 +23,14 @@ use tables::tables::ROWS;
 use tables::tables::SetTables;
 use tables::tables::Tables;
 use tables::tables::Transitions;
-ghost use mathlib.Core.Path.{_≡_};
 ghost use mathlib.Core.List.{List};
 ghost use Prim.Native.Nat.{ℕ};
-ghost use lib.ListN.{replicate};
 ghost use Rattle.numbers.specs.Part.{got, refused};
 ghost use Rattle.numbers.specs.Said.{numberOf, placeOf};
-ghost use Rattle.tables.specs.Limits.{mostPool};
-ghost use Rattle.tables.specs.Rows.{rowsLength};
-ghost use Rattle.tables.specs.Pool.{poolArcs};
 ghost use Rattle.reading_model.specs.Lent.{lentModel};
 ghost use Rattle.reading_pool.specs.Lent.{lentPool};
 ghost use Rattle.session.specs.File.{Reads, readFile, joined};
-ghost use Rattle.session.specs.Lent.{lentReading, uncleared};
+ghost use Rattle.session.specs.Lent.{Blank, lentReading, uncleared};
 
 pub enum Answer {
     Read,
@@ -106,9 +101,7 @@ fn read_open(
     finals: &mut [u8; DiagramState::LIMIT],
     arcs: &mut [u8; POOL_ARCS],
 ) -> HeadRead
-    requires { ⌜ now rows ≡ replicate rowsLength 0 ⌝ }
-    requires { ⌜ now finals ≡ replicate mostPool 0 ⌝ }
-    requires { ⌜ now arcs ≡ replicate poolArcs 0 ⌝ }
+    requires { ⌜ Blank (now rows) (now finals) (now arcs) ⌝ }
     ensures { λ h. ⌜ Reads (readFile (now (s .entry))) (uncleared h (now (rows .exit)) (now (finals .exit)) (now (arcs .exit))) ⌝ }
 {
     if MOST_BYTES < s.len() {
@@ -154,9 +147,7 @@ pub fn read_into(
     finals: &mut [u8; DiagramState::LIMIT],
     arcs: &mut [u8; POOL_ARCS],
 ) -> HeadRead
-    requires { ⌜ now rows ≡ replicate rowsLength 0 ⌝ }
-    requires { ⌜ now finals ≡ replicate mostPool 0 ⌝ }
-    requires { ⌜ now arcs ≡ replicate poolArcs 0 ⌝ }
+    requires { ⌜ Blank (now rows) (now finals) (now arcs) ⌝ }
     ensures { λ h. ⌜ Reads (readFile (now (s .entry))) (lentReading h (now (rows .exit)) (now (finals .exit)) (now (arcs .exit))) ⌝ }
 {
     let head = read_open(s, rows, finals, arcs);
