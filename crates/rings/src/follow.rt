@@ -35,7 +35,8 @@ fn row_after(arcs: &[u8], row: usize, m: Message) -> Row
     Row::At((target - 1) * ARCS)
 }
 
-// The row that what waits in the ring at base leads to. The first message that has nowhere to go ends it.
+// The row that what waits in the ring at base leads to. The first message that has nowhere to go ends it. A place is taken round the ring
+// when it moves on, so that the next message is loaded without a wait.
 fn follow_ring(
     arcs: &[u8],
     from: usize,
@@ -50,15 +51,16 @@ fn follow_ring(
     requires { ⌜ Between 0 mostMessages (waiting (now memory) base head count) ⌝ }
     ensures { λ r. ⌜ RowFollows (now (arcs .entry)) from (waiting (now (memory .entry)) base head count) r ⌝ }
 {
-    let end = head + count;
     let mut row = from;
     let mut i = head;
-    while i < end {
-        let Row::At(next) = row_after(arcs, row, Message(memory[base + i % ROOM])) else {
+    let mut left = count;
+    while 0 < left {
+        let Row::At(next) = row_after(arcs, row, Message(memory[base + i])) else {
             return Row::Nowhere;
         };
         row = next;
-        i += 1;
+        i = (i + 1) % ROOM;
+        left -= 1;
     }
     Row::At(row)
 }

@@ -15,7 +15,7 @@ use Rattle.trace.specs.Rules.{room}
 use Rattle.model.specs.Model.{strip}
 use Rattle.model.specs.Laws.Basics.{byTest}
 use Rattle.rings.specs.Ring.{waiting, putRound, began}
-use Rattle.rings.specs.Laws.Waiting.{waiting-length}
+use Rattle.rings.specs.Laws.Waiting.{waiting-length, waiting-round}
 
 -- WHAT IS LEFT of the messages that wait, of a word of the table
 abbrev pub waitingFrom : List ℕ → ℕ → ℕ → ℕ → ℕ → List ℕ
@@ -39,26 +39,18 @@ module _ (mem : List ℕ) (base head n : ℕ) where
   unfolding waiting
   waiting-end h = rw (sub-eq-zero-of-le h)
 
--- the same by places, from place i on and before the place end
-abbrev pub waitingTo : List ℕ → ℕ → ℕ → ℕ → List ℕ
-waitingTo mem base end i = waiting mem base i (end - i)
-
-module _ (mem : List ℕ) (base : ℕ) where
-  pub places-begin : (head n : ℕ) → waiting mem base head n ≡ waitingTo mem base (head + n) head
-  places-begin head n = ap (waiting mem base head) (let z : n ≡ head + n - head = omega arith in z)
-
-  pub places-next : {end i : ℕ} → i < end → waitingTo mem base end i ≡ getD mem (base + i % room) 0 ∷ waitingTo mem base end (i + 1)
+-- the first message that waits, and those after it from the next place round the ring on
+module _ (mem : List ℕ) (base i n : ℕ) where
+  pub waiting-first : i < room → 0 < n → waiting mem base i n ≡ getD mem (base + i) 0 ∷ waiting mem base ((i + 1) % room) (n - 1)
   unfolding waiting
-  places-next {end} {i} h = ap (waiting mem base i) (one-more h)
+  waiting-first placed waits =
+      ap (waiting mem base i) (let z : n ≡ suc (n - 1) = omega arith in z)
+      ∙ ap (λ k. getD mem (base + k) 0 ∷ waiting mem base (i + 1) (n - 1)) (let z : i % room ≡ i = omega arith in z)
+      ∙ ap (λ l. getD mem (base + i) 0 ∷ l) (waiting-round mem base (i + 1) ((i + 1) % room) (n - 1) (omega arith))
 
-  pub places-end : {end i : ℕ} → end ≤ i → waitingTo mem base end i ≡ []
+  pub waiting-none : n ≤ 0 → waiting mem base i n ≡ []
   unfolding waiting
-  places-end h = rw (sub-eq-zero-of-le h)
-
-  pub places-first : (head n : ℕ) → head < room → 0 < n → waiting mem base head n ≡ getD mem (base + head) 0 ∷ waitingTo mem base (head + n) (head + 1)
-  places-first head n placed waits =
-      places-begin head n ∙ places-next (omega arith)
-      ∙ ap (λ k. getD mem (base + k) 0 ∷ waitingTo mem base (head + n) (head + 1)) (let z : head % room ≡ head = omega arith in z)
+  waiting-none h = ap (waiting mem base i) (let z : n ≡ 0 = omega arith in z)
 
 module _ (rows : List ℕ) (at n : ℕ) where
   pub word-begin : take n (drop at rows) ≡ wordFrom rows at n 0
