@@ -57,17 +57,19 @@ fn run(tables: &Tables, trace: &[u8], record: &mut Record, rings: &mut [Ring]) -
 /// All waiting messages are followed from the control state's root, until there is nowhere to go.
 #[inline]
 fn is_inside(tables: &Tables, record: &Record, rings: &[Ring]) -> bool {
-    let mut entry = tables.roots[control_state(tables, record)];
+    let Some(root) = tables.roots[control_state(tables, record)].checked_sub(1) else { return false };
+    let mut row = usize::from(root) * MESSAGES;
     for ((ring, &head), &length) in rings.iter().zip(&record.heads).zip(&record.lengths) {
         if length == 0 {
             continue;
         }
         let (behind, ahead) = ring.split_at(head);
         let before_end = length.min(ahead.len());
-        entry = follow(tables, entry, &ahead[..before_end]);
-        entry = follow(tables, entry, &behind[..length - before_end]);
+        let Some(middle) = follow(tables, row, &ahead[..before_end]) else { return false };
+        let Some(last) = follow(tables, middle, &behind[..length - before_end]) else { return false };
+        row = last;
     }
-    entry > 0 && tables.finals[usize::from(entry) - 1]
+    tables.finals[row / MESSAGES]
 }
 
 #[inline]
@@ -76,17 +78,18 @@ fn control_state(tables: &Tables, record: &Record) -> usize {
     machines.fold(0, |number, (&states, &state)| number * usize::from(states) + usize::from(state))
 }
 
-/// Where messages lead, as an entry of the table: 0 for nowhere, else 1 plus the state. Rows, and not one index, are what
-/// the compiler makes the shortest loop of.
+/// Where messages lead: a state is the place of its first arc, as it is in the product.
 #[inline]
-fn follow(tables: &Tables, from: u8, messages: &[u8]) -> u8 {
-    let rows: &[[u8; MESSAGES]] = tables.arcs.as_chunks().0;
-    let mut entry = from;
+fn follow(tables: &Tables, from: usize, messages: &[u8]) -> Option<usize> {
+    let mut row = from;
     for &message in messages {
-        let Some(row) = rows.get(usize::from(entry).wrapping_sub(1)) else { return 0 };
-        entry = row[usize::from(message)];
+        let entry = usize::from(tables.arcs[row + usize::from(message)]);
+        if entry == 0 {
+            return None;
+        }
+        row = (entry - 1) * MESSAGES;
     }
-    entry
+    Some(row)
 }
 
 /// Takes a transition, or says by which number it is refused.
@@ -120,9 +123,13 @@ fn step(transition: &Transition, record: &mut Record, rings: &mut [Ring]) -> Res
     Ok(())
 }
 
-/// Puts a word into the ring from a place on.
+/// Puts a word into the ring from a place on. One message alone needs no copying of slices, here and below.
 #[inline]
 fn put(ring: &mut Ring, at: usize, word: &[u8]) {
+    if let &[message] = word {
+        ring[at] = message;
+        return;
+    }
     if let Some(room) = ring.get_mut(at..at + word.len()) {
         room.copy_from_slice(word);
     } else {
@@ -135,6 +142,9 @@ fn put(ring: &mut Ring, at: usize, word: &[u8]) {
 /// Whether a word stands in the ring from a place on.
 #[inline]
 fn has(ring: &Ring, at: usize, word: &[u8]) -> bool {
+    if let &[message] = word {
+        return ring[at] == message;
+    }
     if let Some(front) = ring.get(at..at + word.len()) {
         return front == word;
     }
