@@ -22,13 +22,14 @@ enum Row {
     Nowhere,
 }
 
-// The row of the state that an arc of this row leads to. A row is followed by another without the state's number between them, which would
-// be one more wait for each message.
+// The row of the state that an arc of this row leads to. A row is followed by another without the state's number between them, and is looked
+// up in the table's part from the message on: the message is there before the row is, so nothing is added to a row that had to be waited for.
 fn row_after(arcs: &[u8], row: usize, m: Message) -> Row
     requires { ⌜ row + m .0 < length (now arcs) ⌝ }
     ensures { λ r. ⌜ RowTo (now (arcs .entry)) row (m .0) r ⌝ }
 {
-    let target = wide(arcs[row + m.0 as usize]);
+    let line = &arcs[m.0 as usize..];
+    let target = wide(line[row]);
     if target == 0 {
         return Row::Nowhere;
     }

@@ -7,7 +7,8 @@ use mathlib.Core.List.{List}
 use native.Mathlib.Omega.{arith}
 use lib.Dec.{eqb}
 use borrow.Author.Tests.{eq-eqb, ne-eqb}
-use lib.ListN.{getD}
+use lib.ListN.{length, getD, take, drop}
+use lib.Seq.{getD-take, getD-drop}
 use Rattle.tables.specs.Limits.{mostMessages, mostPool}
 use Rattle.tables.specs.Pool.{arcAt}
 use Rattle.model.specs.Laws.Basics.{none-not-some}
@@ -44,6 +45,12 @@ module _ {arcs : List ℕ} {row m : ℕ} {r : Row} (e : row ≡ stateAt row * mo
   row-arc {next} z =
       let a = arc-entry (eqb (getD arcs (row + m) 0) 0) (getD arcs (row + m) 0) next (sym (R .is) ∙ ap saidRow z) in
       (entry-is arcs row m e ∙ a .0, a .1)
+
+-- an entry, read in the table's part from its message on
+pub entry-in-part : (arcs : List ℕ) (m row : ℕ) → row + m < length arcs → getD (take (length arcs - m) (drop m arcs)) row 0 ≡ getD arcs (row + m) 0
+entry-in-part arcs m row h =
+    getD-take (length arcs - m) (drop m arcs) row 0 (omega arith) ∙ getD-drop m arcs row 0
+    ∙ ap (λ i. getD arcs i 0) (let z : m + row ≡ row + m = omega arith in z)
 
 -- what is read of an entry
 pub row-none : {x e : ℕ} → x ≡ e → x ≡ 0 → none ≡ rowOf e
