@@ -10,10 +10,11 @@ use crate::generate::verdicts;
 use crate::long_words::{self, has_long_word};
 use crate::membership::{membership, membership_line};
 use crate::read::{read, Kind, Refusal, Tables, WORD_LENGTH};
-use crate::replay::replay;
+use crate::replay::{replay, Answer};
 use crate::replay_features;
 use crate::replay_traps::{replay_with, ReplayTrap};
-use crate::stream::Question;
+use crate::rings::replay_in_rings;
+use crate::stream::{Question, Replay};
 use crate::traps::{verdict_with, Trap};
 use crate::verdict::{line, Verdict};
 use crate::walk::{check, Scratch};
@@ -295,6 +296,13 @@ const ENOUGH_REPLAYS_TOLD: usize = 10;
 /// Mistakes are tried on traces up to this many bytes, but for those about long traces.
 const SHORT_TRACE: usize = 600;
 
+/// The answer of the form that is timed.
+fn in_rings(asked: &Replay) -> Answer {
+    let mut lent = asked.lent();
+    let reply = replay_in_rings(&mut lent.record, &asked.file, &asked.trace, &mut lent.memory);
+    Answer { reply, lent }
+}
+
 pub fn replay_coverage(cases: &[replays::Case]) -> Coverage {
     let asked = replay_features::asked();
     let mut features: BTreeMap<String, usize> = asked.keys().map(|feature| (feature.clone(), 0)).collect();
@@ -307,6 +315,12 @@ pub fn replay_coverage(cases: &[replays::Case]) -> Coverage {
         let answer = replay(&asked.file, &asked.trace, &lent);
         if expected.is_some_and(|expected| expected != answer.reply) {
             complaints.push(format!("replay {index} ({kind}): made for {expected:?}, but {}", answer.reply));
+        }
+        let without_a_mistake = replay_with(&asked.file, &asked.trace, &lent, None);
+        for (form, other) in [("in rings", in_rings(asked)), ("without a mistake", without_a_mistake)] {
+            if other != answer {
+                complaints.push(format!("replay {index} ({kind}): {}, but {form} {}", answer.reply, other.reply));
+            }
         }
         for feature in replay_features::features(asked, &answer) {
             features.entry(feature).and_modify(|count| *count += 1);
