@@ -3,9 +3,9 @@ use mathlib.Core.Path.{_≡_}
 use mathlib.Core.Bool.{Bool, true, false, not, _&&_}
 use mathlib.Core.Option.{Option, none, some}
 use mathlib.Core.List.{List}
-use Prim.Native.Nat.{ℕ, suc, _+_, _≤_, _<_}
+use Prim.Native.Nat.{ℕ, suc, _≤_}
 use lib.Dec.{ltb, eqb}
-use lib.ListN.{length, getD, take, drop}
+use lib.ListN.{getD}
 use Rattle.meaning.specs.Tables.{arcOf}
 use Rattle.tables.specs.Lookup.{finalAt, ArcsSmall}
 use Rattle.tables.specs.Limits.{mostPool, mostMessages}
@@ -14,6 +14,7 @@ use Rattle.model.specs.Model.{messages}
 use Rattle.model.specs.Session.{Session}
 use Rattle.model.specs.Diagram.{Pool, along, follow}
 use Rattle.model.specs.Verdict.{Pair, before, after}
+use Rattle.following.specs.Follow.{wordOver, WordWithin}
 use Rattle.model.specs.Judge as Judge
 use Rattle.model.specs.Judge.{same, pair}
 use Rattle.pairs.specs.declared.pairs.Walk.{Walk}
@@ -24,10 +25,6 @@ use Rattle.pairs.specs.Pairs.{mostCodes, afterSide, sideOf}
 -- the states and arcs alone; which are final is asked when a pair is judged
 abbrev pub poolOver : List ℕ → Pool
 poolOver arcs = record { states = mostPool; final = λ s. false; arc = arcOf arcs }
-
--- so many messages of the word that begins at this entry
-abbrev pub wordOver : List ℕ → ℕ → ℕ → List ℕ
-wordOver rows at n = take n (drop at rows)
 
 -- THE WALK of the model that the code's walk is
 abbrev pub walkOver : List ℕ → Walk → Judge.Walk
@@ -81,11 +78,6 @@ pub record Over (arcs finals : List ℕ) (sum : ℕ) (S : Session) : Type 0 wher
   pub letters : messages (S .model) ≡ sum
 
 -- WHAT IS ASKED OF THE TABLES: every file that was read has it
--- so many messages of a word stand at this entry
-pub record WordWithin (rows : List ℕ) (at n : ℕ) : Type 0 where
-  pub within : at + n ≤ length rows
-  pub messages : (i : ℕ) → i < n → getD rows (at + i) 0 < mostMessages
-
 pub record Lent (arcs rows : List ℕ) (w : Walk) : Type 0 where
   pub small : ArcsSmall arcs
   pub sum : w .sum ≤ mostMessages
@@ -94,13 +86,9 @@ pub record Lent (arcs rows : List ℕ) (w : Walk) : Type 0 where
   pub into : WordWithin rows (w .word) (w .into)
 
 -- WHAT THE PARTS OF THE CODE SAY
--- the number r stands for where t leads by a message, and by so many messages of a word
+-- the number r stands for where t leads by a message
 pub record MessageRead (arcs : List ℕ) (t m r : ℕ) : Type 0 where
   pub is : reachedOf r ≡ along (poolOver arcs) (reachedOf t) m
-  pub most : r ≤ mostPool
-
-pub record Follows (arcs rows : List ℕ) (at n t r : ℕ) : Type 0 where
-  pub is : reachedOf r ≡ follow (poolOver arcs) (reachedOf t) (wordOver rows at n)
   pub most : r ≤ mostPool
 
 -- what the messages lead to from a node

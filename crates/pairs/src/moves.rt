@@ -3,58 +3,26 @@ use crate::pairs::AFTER;
 use crate::pairs::Node;
 use crate::pairs::Walk;
 use crate::pairs::code_of;
+use following::words::follow_word;
 use tables::kinds::Message;
 use tables::kinds::Reached;
 use tables::lookup::Arc;
 use tables::lookup::along;
 use tables::lookup::arc_at;
 ghost use mathlib.Core.Option.{some};
-ghost use mathlib.Core.Path.{_≡_};
-ghost use Prim.Native.Nat.{_<_, _≤_};
-ghost use lib.ListN.{length, getD};
-ghost use Rattle.tables.specs.Limits.{mostPool, mostMessages};
+ghost use Prim.Native.Nat.{_<_};
+ghost use Rattle.tables.specs.Limits.{mostMessages};
 ghost use Rattle.tables.specs.Kinds.{reachedOf};
 ghost use Rattle.tables.specs.Lookup.{ArcsSmall};
 ghost use Rattle.model.specs.Judge.{pair};
 ghost use Rattle.pairs.specs.Pairs.{sideOf, NodeFits};
-ghost use Rattle.pairs.specs.Over.{readOver, jumpOver, WordWithin, Lent, Follows};
+ghost use Rattle.pairs.specs.Over.{readOver, jumpOver, Lent};
 ghost use Rattle.pairs.specs.Leads.{LeadsTo};
 
 // Where a letter leads: to the pair with this code, or nowhere.
 pub enum Next {
     Pair(usize),
     Nowhere,
-}
-
-// A message of a word in the table of transitions.
-fn message_at(rows: &[u8], i: usize) -> Message
-    requires { ⌜ i < length (now rows) ⌝ }
-    ensures { λ r. ⌜ r .0 ≡ getD (now (rows .entry)) i 0 ⌝ }
-{
-    Message(rows[i])
-}
-
-// Where so many messages more lead, those of the word at this entry of the table of transitions. The first that has nowhere to go
-// ends it.
-pub fn follow(arcs: &[u8], rows: &[u8], at: usize, n: usize, from: Reached) -> Reached
-    requires { ⌜ ArcsSmall (now arcs) ⌝ }
-    requires { ⌜ WordWithin (now rows) at n ⌝ }
-    requires { ⌜ from .0 ≤ mostPool ⌝ }
-    ensures { λ r. ⌜ Follows (now (arcs .entry)) (now (rows .entry)) at n (from .0) (r .0) ⌝ }
-{
-    if from.is_nowhere() {
-        return from;
-    }
-    let mut s = from.state();
-    let mut i: usize = 0;
-    while i < n {
-        let Arc::Target(next) = arc_at(arcs, s, message_at(rows, at + i)) else {
-            return Reached::nowhere();
-        };
-        s = next;
-        i += 1;
-    }
-    Reached::at(s)
 }
 
 // The pair that a letter leads to. For a bad entry it is dropped where the target is nowhere; for a step that is the pair that
@@ -98,11 +66,11 @@ pub fn step(arcs: &[u8], rows: &[u8], w: Walk, x: Node) -> Next
     requires { ⌜ NodeFits x ⌝ }
     ensures { λ r. ⌜ LeadsTo r (jumpOver (now (arcs .entry)) (now (rows .entry)) w (x .source .0) (reachedOf (x .target .0))) ⌝ }
 {
-    let source = follow(arcs, rows, w.word, w.out, Reached::at(x.source));
+    let source = follow_word(arcs, Reached::at(x.source), rows, w.word, w.out);
     if source.is_nowhere() {
         return Next::Nowhere;
     }
-    let target = follow(arcs, rows, w.word, w.into, x.target);
+    let target = follow_word(arcs, x.target, rows, w.word, w.into);
     let y = Node {
         side: AFTER,
         source: source.state(),

@@ -3,6 +3,5 @@ pub mod Waiting
 pub mod Each
 pub mod Rings
 pub mod Words
-pub mod Follow
+pub mod Pieces
 pub mod Settle
-pub mod Rows

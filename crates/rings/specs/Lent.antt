@@ -1,12 +1,9 @@
 -- What the code asks of lent rings, and what it finds in them.
 use Prim.Native.Nat.{ℕ, _+_, _*_, _≤_, _<_}
-use mathlib.Core.Path.{_≡_}
 use mathlib.Core.List.{List}
 use lib.ListN.{length, getD}
-use Rattle.tables.specs.Limits.{mostQueues, mostPool}
-use Rattle.tables.specs.Kinds.{reachedOf}
+use Rattle.tables.specs.Limits.{mostQueues}
 use Rattle.trace.specs.Rules.{room}
-use Rattle.rings.specs.Ring.{followArcs}
 
 -- a ring stands in the memory at base: its head is one of its places, and no more than its room waits
 pub record Ring (mem : List ℕ) (base head count : ℕ) : Type 0 where
@@ -20,8 +17,3 @@ pub record Rings (mem heads lengths : List ℕ) (count : ℕ) : Type 0 where
   pub within : count * room ≤ length mem
   pub placed : (q : ℕ) → getD heads q 0 < room
   pub held : (q : ℕ) → getD lengths q 0 ≤ room
-
--- the number r stands for where a word leads from t
-pub record FollowsTo (arcs : List ℕ) (t : ℕ) (u : List ℕ) (r : ℕ) : Type 0 where
-  pub is : reachedOf r ≡ followArcs arcs (reachedOf t) u
-  pub most : r ≤ mostPool

@@ -4,7 +4,6 @@ use mathlib.Core.Bool.{Bool, true, false}
 use mathlib.Core.Option.{Option, none, some}
 use mathlib.Core.List.{List, [], _∷_}
 use lib.ListN.{getD, set}
-use Rattle.tables.specs.Lookup.{alongArc}
 use Rattle.trace.specs.Rules.{room}
 
 -- the n messages that wait in the ring at base, from place i on: places are taken round the ring
@@ -34,8 +33,3 @@ putRound mem base i (m ∷ w) = putRound (set mem (base + i % room) m) base (i +
 abbrev pub began : Option (List ℕ) → Bool
 began none = false
 began (some r) = true
-
--- where a word leads by the table of arcs
-unfoldable pub followArcs : List ℕ → Option ℕ → List ℕ → Option ℕ
-followArcs arcs x [] = x
-followArcs arcs x (m ∷ u) = followArcs arcs (alongArc arcs x m) u

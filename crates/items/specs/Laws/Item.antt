@@ -26,7 +26,7 @@ use Rattle.tables.specs.declared.kinds.Reached.{Reached}
 use Rattle.meaning.specs.Laws.Sessions.{well-formed}
 use Rattle.meaning.specs.Laws.Order.{messages-are}
 use Rattle.pairs.specs.Pairs.{mostCodes, afterSide, pairOf}
-use Rattle.pairs.specs.Over.{Over, walkOver, wordOver}
+use Rattle.pairs.specs.Over.{Over, walkOver}
 use Rattle.walk.specs.Judged.{judgedOver, ShownFits}
 use Rattle.walk.specs.Laws.Judged.{judged-is}
 use Rattle.walk.specs.Laws.Items.{item-fits}

@@ -23,7 +23,8 @@ use Rattle.meaning.specs.Tables.{sessionOf, transitionAt}
 use Rattle.meaning.specs.Laws.Sessions.{well-formed}
 use Rattle.pairs.specs.Pairs.{mostCodes, pairOf, NodeFits, afterSide}
 use Rattle.pairs.specs.Marks.{Blank}
-use Rattle.pairs.specs.Over.{Lent, WordWithin}
+use Rattle.following.specs.Follow.{WordWithin}
+use Rattle.pairs.specs.Over.{Lent}
 use Rattle.walk.specs.Judged.{judgedOver, ShownFits, WalkJudged, shownOf, saidJudged, shownBy}
 use Rattle.tables.specs.Limits.{mostPool, mostWord}
 use Rattle.tables.specs.Lookup.{RootAt}

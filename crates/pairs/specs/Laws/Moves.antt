@@ -2,30 +2,27 @@
 use mathlib.Core.Path.{_≡_, refl, sym, ap, ap₂, _∙_}
 use mathlib.Core.Bool.{Bool, true, false}
 use mathlib.Core.Option.{Option, none, some}
-use mathlib.Core.List.{List, [], _∷_}
-use Prim.Native.Nat.{ℕ, suc, _+_, _-_, _*_, _≤_, _<_}
-use native.Mathlib.Omega.{arith}
-use native.Mathlib.Nat.{sub-zero, add-zero, sub-eq-zero-of-le}
-use lib.ListN.{length, getD, take, drop}
-use lib.Seq.{drop-cons}
+use mathlib.Core.List.{List}
+use Prim.Native.Nat.{ℕ, _<_}
 use borrow.Author.Tests.{lt-ltb}
 use Rattle.tables.specs.Pool.{arcAt}
-use Rattle.numbers.specs.Laws.Parts.{one-more}
 use Rattle.tables.specs.Limits.{mostPool, mostMessages}
-use Rattle.tables.specs.Lookup.{alongArc, ArcsSmall, AlongTo}
+use Rattle.tables.specs.Lookup.{alongArc, AlongTo}
 use Rattle.meaning.specs.Tables.{arcOf}
 use Rattle.model.specs.Diagram.{along, follow}
 use Rattle.model.specs.Verdict.{Pair, after}
 use Rattle.model.specs.Judge.{pair}
-use Rattle.model.specs.Laws.Walks.{follow-none}
+use Rattle.following.specs.Follow.{wordOver, WordWithin, FollowsTo}
+use Rattle.following.specs.Laws.Follow.{follow-is}
+use Rattle.following.specs.Laws.Words.{word-small}
 use Rattle.pairs.specs.declared.pairs.Node.{Node}
 use Rattle.pairs.specs.declared.pairs.Walk.{Walk}
 use Rattle.pairs.specs.declared.moves.Next.{Next}
 use Rattle.pairs.specs.declared.moves.Next.the-variants as Answer
 use Rattle.tables.specs.Kinds.{reachedOf}
 use Rattle.pairs.specs.Pairs.{nowhere, afterSide, sideOf, pairOf, Coded}
-use Rattle.tables.specs.Laws.Lookup.{reached-nowhere, reached-state, reached-small, along-missing, along-arc}
-use Rattle.pairs.specs.Over.{poolOver, wordOver, readOver, jumpOver, WordWithin, MessageRead, Follows}
+use Rattle.tables.specs.Laws.Lookup.{reached-nowhere, reached-state, reached-small}
+use Rattle.pairs.specs.Over.{poolOver, readOver, jumpOver, Lent, MessageRead}
 use Rattle.pairs.specs.Leads.{LeadsTo}
 
 pub arc-is : (arcs : List ℕ) (s m : ℕ) → m < mostMessages → arcOf arcs s m ≡ arcAt arcs s m
@@ -40,69 +37,11 @@ pub reads-along : {arcs : List ℕ} {t m k r : ℕ} → m ≡ k → k < mostMess
 reads-along {arcs} {t} e h a =
     record { is = a .is ∙ ap (alongArc arcs (reachedOf t)) e ∙ sym (along-is arcs (reachedOf t) h); most = a .most }
 
--- of a state, with an arc and without
-some-state : {s : ℕ} → s < mostPool → s ≡ mostPool → ⊥
-some-state h e = omega arith
-
-module _ {arcs : List ℕ} {s m k : ℕ} (e : m ≡ k) (h : k < mostMessages) (state : s < mostPool) where
-  pub reads-missing : arcAt arcs s m ≡ none → MessageRead arcs s k mostPool
-  reads-missing z = reads-along e h (along-missing (some-state state) refl z refl)
-
-  pub reads-arc : {t : ℕ} → ArcsSmall arcs → arcAt arcs s m ≡ some t → MessageRead arcs s k t
-  reads-arc small z = reads-along e h (along-arc (some-state state) refl small z refl)
-
--- A WORD
-word-none : (rows : List ℕ) (at i n : ℕ) → n ≤ i → wordOver rows (at + i) (n - i) ≡ []
-word-none rows at i n h = rw (sub-eq-zero-of-le h)
-
-word-next : (rows : List ℕ) (at i n : ℕ) → i < n → at + n ≤ length rows
-    → wordOver rows (at + i) (n - i) ≡ getD rows (at + i) 0 ∷ wordOver rows (at + (i + 1)) (n - (i + 1))
-word-next rows at i n h g =
-    ap₂ (λ k l. take k l) (one-more h) (drop-cons rows (at + i) 0 (omega arith))
-    ∙ ap (λ j. getD rows (at + i) 0 ∷ take (n - (i + 1)) (drop j rows)) (let z : suc (at + i) ≡ at + (i + 1) = omega arith in z)
-
--- on the way through a word: the place s after the messages before i
-pub record Following (arcs rows : List ℕ) (at n t i s : ℕ) : Type 0 where
-  pub is : follow (poolOver arcs) (reachedOf s) (wordOver rows (at + i) (n - i)) ≡ follow (poolOver arcs) (reachedOf t) (wordOver rows at n)
-  pub most : s ≤ mostPool
-
-pub follow-begin : {arcs rows : List ℕ} {at n t : ℕ} → t ≤ mostPool → Following arcs rows at n t 0 t
-follow-begin h = record { is = rw (add-zero, sub-zero); most = h }
-
-pub follow-next : {arcs rows : List ℕ} {at n t i s r : ℕ} → Following arcs rows at n t i s → i < n → WordWithin rows at n
-    → MessageRead arcs s (getD rows (at + i) 0) r → Following arcs rows at n t (i + 1) r
-follow-next {arcs} {rows} {at} {n} {t} {i} {s} f h g z =
-    record {
-      is =
-          ap (λ o. follow (poolOver arcs) o (wordOver rows (at + (i + 1)) (n - (i + 1)))) (z .is)
-          ∙ sym (ap (follow (poolOver arcs) (reachedOf s)) (word-next rows at i n h (g .within)))
-          ∙ f .is;
-      most = z .most;
-    }
-
-pub follow-end : {arcs rows : List ℕ} {at n t i s : ℕ} → Following arcs rows at n t i s → n ≤ i → Follows arcs rows at n t s
-follow-end {arcs} {rows} {at} {n} {t} {i} {s} f h =
-    record { is = sym (ap (follow (poolOver arcs) (reachedOf s)) (word-none rows at i n h)) ∙ f .is; most = f .most }
-
--- from nowhere the rest of the word leads nowhere
-pub follow-lost : {arcs rows : List ℕ} {at n t i s r : ℕ} → Following arcs rows at n t i s → s ≡ mostPool → r ≡ mostPool → Follows arcs rows at n t r
-follow-lost {arcs} {rows} {at} {n} {t} {i} {s} f e h =
-    record {
-      is =
-          reached-nowhere h
-          ∙ sym (follow-none (poolOver arcs) (wordOver rows (at + i) (n - i)))
-          ∙ sym (ap (λ o. follow (poolOver arcs) o (wordOver rows (at + i) (n - i))) (reached-nowhere e))
-          ∙ f .is;
-      most = omega arith;
-    }
-
--- the same of equal places
-pub follows-as : {arcs rows : List ℕ} {at n t t′ s r : ℕ} → Follows arcs rows at n t s → t ≡ t′ → r ≡ s → Follows arcs rows at n t′ r
-follows-as {arcs} {rows} {at} {n} f e h =
-    record {
-      is = ap reachedOf h ∙ f .is ∙ ap (λ k. follow (poolOver arcs) (reachedOf k) (wordOver rows at n)) e;
-      most = omega (arith, f .most);
-    }
+-- A WORD: what is found in the tables is the model's
+found-is : {arcs rows : List ℕ} {at n t r : ℕ} → WordWithin rows at n → FollowsTo arcs t (wordOver rows at n) r
+    → reachedOf r ≡ follow (poolOver arcs) (reachedOf t) (wordOver rows at n)
+found-is {arcs} {rows} {at} {n} {t} w f =
+    f .is ∙ follow-is (poolOver arcs) arcs (arc-is arcs) (reachedOf t) (wordOver rows at n) (word-small rows at n w)
 
 -- A PAIR
 pub pair-dropped : {entry : Bool} (y : Node) → entry ≡ true → y .target .0 ≡ nowhere
@@ -142,16 +81,17 @@ pub read-is : {arcs : List ℕ} (entry : Bool) (k s m : ℕ) {t s′ t′ : ℕ}
 read-is {arcs} entry k s m h e z = ap₂ (pair entry (sideOf k)) (sym (arc-is arcs s m h ∙ e)) (z .is)
 
 -- where both make the step
-source-follows : {arcs rows : List ℕ} {at n s s′ : ℕ} → s < mostPool → Follows arcs rows at n s s′
-    → reachedOf s′ ≡ follow (poolOver arcs) (some s) (wordOver rows at n)
-source-follows {arcs} {rows} {at} {n} small f = f .is ∙ ap (λ o. follow (poolOver arcs) o (wordOver rows at n)) (reached-small small)
+module _ {arcs rows : List ℕ} (w : Walk) (lent : Lent arcs rows w) {s k s′ : ℕ} (small : s < mostPool) (e : k ≡ s)
+    (f : FollowsTo arcs k (wordOver rows (w .word) (w .out)) s′) where
+  source-is : reachedOf s′ ≡ follow (poolOver arcs) (some s) (wordOver rows (w .word) (w .out))
+  source-is =
+      found-is (lent .out) f
+      ∙ ap (λ o. follow (poolOver arcs) o (wordOver rows (w .word) (w .out))) (ap reachedOf e ∙ reached-small small)
 
-module _ {arcs rows : List ℕ} (w : Walk) {s s′ : ℕ} (small : s < mostPool) (f : Follows arcs rows (w .word) (w .out) s s′) where
   pub jump-missing : (t : Option ℕ) → s′ ≡ nowhere → jumpOver arcs rows w s t ≡ none
-  jump-missing t e =
-      ap (λ o. pair (w .entry) after o (follow (poolOver arcs) t (wordOver rows (w .word) (w .into))))
-      (sym (source-follows small f) ∙ reached-nowhere e)
+  jump-missing t z =
+      ap (λ o. pair (w .entry) after o (follow (poolOver arcs) t (wordOver rows (w .word) (w .into)))) (sym source-is ∙ reached-nowhere z)
 
-  pub jump-is : {k t t′ : ℕ} → (s′ ≡ nowhere → ⊥) → k ≡ s′ → Follows arcs rows (w .word) (w .into) t t′
-      → pair (w .entry) (sideOf afterSide) (some k) (reachedOf t′) ≡ jumpOver arcs rows w s (reachedOf t)
-  jump-is n e g = ap₂ (pair (w .entry) after) (ap some e ∙ sym (reached-state n) ∙ source-follows small f) (g .is)
+  pub jump-is : {l t t′ : ℕ} → (s′ ≡ nowhere → ⊥) → l ≡ s′ → FollowsTo arcs t (wordOver rows (w .word) (w .into)) t′
+      → pair (w .entry) (sideOf afterSide) (some l) (reachedOf t′) ≡ jumpOver arcs rows w s (reachedOf t)
+  jump-is n z g = ap₂ (pair (w .entry) after) (ap some z ∙ sym (reached-state n) ∙ source-is) (found-is (lent .into) g)

@@ -1,4 +1,4 @@
--- The loops over a ring and over a word of the table, turn by turn.
+-- The loops over a ring, turn by turn: a word is put, and asked for.
 use Prim.Native.Nat.{ℕ, suc, _+_, _-_, _%_, _≤_, _<_}
 use mathlib.Core.Path.{_≡_, refl, sym, ap, ap₂, _∙_}
 use mathlib.Core.Bool.{Bool, true, false, true≢false}
@@ -8,21 +8,18 @@ use native.Mathlib.Omega.{arith}
 use native.Mathlib.Nat.{sub-zero, add-zero, sub-eq-zero-of-le}
 use lib.Dec.{eqb}
 use lib.ListN.{length, getD, set, take, drop, length-set, length-drop}
-use lib.Seq.{drop-cons, length-take-le}
+use lib.Seq.{length-take-le}
 use borrow.Author.Tests.{eq-eqb, ne-eqb}
 use Rattle.numbers.specs.Laws.Parts.{one-more}
 use Rattle.trace.specs.Rules.{room}
 use Rattle.model.specs.Model.{strip}
 use Rattle.model.specs.Laws.Basics.{byTest}
 use Rattle.rings.specs.Ring.{waiting, putRound, began}
-use Rattle.rings.specs.Laws.Waiting.{waiting-length, waiting-round}
+use Rattle.rings.specs.Laws.Waiting.{waiting-length}
 
--- WHAT IS LEFT of the messages that wait, of a word of the table
+-- WHAT IS LEFT of the messages that wait
 abbrev pub waitingFrom : List ℕ → ℕ → ℕ → ℕ → ℕ → List ℕ
 waitingFrom mem base head n i = waiting mem base (head + i) (n - i)
-
-abbrev pub wordFrom : List ℕ → ℕ → ℕ → ℕ → List ℕ
-wordFrom rows at n i = take (n - i) (drop (at + i) rows)
 
 module _ (mem : List ℕ) (base head n : ℕ) where
   pub waiting-begin : waiting mem base head n ≡ waitingFrom mem base head n 0
@@ -39,36 +36,12 @@ module _ (mem : List ℕ) (base head n : ℕ) where
   unfolding waiting
   waiting-end h = rw (sub-eq-zero-of-le h)
 
--- the first message that waits, and those after it from the next place round the ring on
-module _ (mem : List ℕ) (base i n : ℕ) where
-  pub waiting-first : i < room → 0 < n → waiting mem base i n ≡ getD mem (base + i) 0 ∷ waiting mem base ((i + 1) % room) (n - 1)
-  unfolding waiting
-  waiting-first placed waits =
-      ap (waiting mem base i) (let z : n ≡ suc (n - 1) = omega arith in z)
-      ∙ ap (λ k. getD mem (base + k) 0 ∷ waiting mem base (i + 1) (n - 1)) (let z : i % room ≡ i = omega arith in z)
-      ∙ ap (λ l. getD mem (base + i) 0 ∷ l) (waiting-round mem base (i + 1) ((i + 1) % room) (n - 1) (omega arith))
-
-  pub waiting-none : n ≤ 0 → waiting mem base i n ≡ []
-  unfolding waiting
-  waiting-none h = ap (waiting mem base i) (let z : n ≡ 0 = omega arith in z)
-
-module _ (rows : List ℕ) (at n : ℕ) where
-  pub word-begin : take n (drop at rows) ≡ wordFrom rows at n 0
-  word-begin = rw (add-zero, sub-zero)
-
-  pub word-next : {i : ℕ} → i < n → at + n ≤ length rows → wordFrom rows at n i ≡ getD rows (at + i) 0 ∷ wordFrom rows at n (i + 1)
-  word-next {i} h g =
-      ap₂ (λ k l. take k l) (one-more h) (drop-cons rows (at + i) 0 (omega arith))
-      ∙ ap (λ j. getD rows (at + i) 0 ∷ take (n - (i + 1)) (drop j rows)) (let z : suc (at + i) ≡ at + (i + 1) = omega arith in z)
-
-  pub word-end : {i : ℕ} → n ≤ i → wordFrom rows at n i ≡ []
-  word-end h = rw (sub-eq-zero-of-le h)
-
-  -- a word of one message
-  pub word-one : n ≡ 1 → at + n ≤ length rows → take n (drop at rows) ≡ getD rows at 0 ∷ []
-  word-one e g =
-      word-begin ∙ word-next (omega arith) g ∙ ap (λ w. getD rows (at + 0) 0 ∷ w) (word-end (omega arith))
-      ∙ ap (λ k. getD rows k 0 ∷ []) (add-zero at)
+-- the first message that waits, and those after it
+pub waiting-first : (mem : List ℕ) (base i n : ℕ) → i < room → 0 < n → waiting mem base i n ≡ getD mem (base + i) 0 ∷ waiting mem base (i + 1) (n - 1)
+unfolding waiting
+waiting-first mem base i n placed waits =
+    ap (waiting mem base i) (let z : n ≡ suc (n - 1) = omega arith in z)
+    ∙ ap (λ k. getD mem (base + k) 0 ∷ waiting mem base (i + 1) (n - 1)) (let z : i % room ≡ i = omega arith in z)
 
 -- A WORD IS PUT
 pub record Putting (mem₀ : List ℕ) (base from : ℕ) (w mem : List ℕ) (p : ℕ) (rest : List ℕ) : Type 0 where

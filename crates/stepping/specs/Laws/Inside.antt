@@ -1,38 +1,31 @@
 -- Whether the configuration of a record is inside, by what the code finds in the tables.
-use Prim.Native.Nat.{ℕ, _+_, _*_, _≤_, _<_}
-use mathlib.Core.Path.{_≡_, refl, sym, ap, ap₂, subst, _∙_}
+use Prim.Native.Nat.{ℕ, _≤_}
+use mathlib.Core.Path.{_≡_, sym, ap, _∙_}
 use mathlib.Core.Bool.{Bool}
-use mathlib.Core.Option.{Option}
-use mathlib.Core.List.{List, [], _∷_}
+use mathlib.Core.Option.{Option, some}
+use mathlib.Core.List.{List}
 use native.Mathlib.Omega.{arith}
 use lib.ListN.{length, getD, take}
 use Rattle.tables.specs.Limits.{mostMessages, mostPool}
 use Rattle.tables.specs.Kinds.{reachedOf}
-use Rattle.tables.specs.Lookup.{rootOf, alongArc, finalAt, RootAt, ArcsSmall}
+use Rattle.tables.specs.Lookup.{rootOf, finalAt, RootAt, ArcsSmall}
 use Rattle.tables.specs.Laws.Lookup.{arcs-small}
-use Rattle.tables.specs.declared.tables.Pool as Declared
-use Rattle.model.specs.Model.{Between, nothing, message, number}
+use Rattle.model.specs.Model.{Between, number}
 use Rattle.model.specs.Diagram.{follow, word}
 use Rattle.meaning.specs.Tables.{poolOf}
 use Rattle.meaning.specs.Laws.Lookup.{along-is, final-is}
 use Rattle.meaning.specs.Laws.Order.{messages-are}
 use Rattle.controls.specs.Controls.{sizesOf}
-use Rattle.rings.specs.Ring.{rings, followArcs}
-use Rattle.rings.specs.Lent.{Rings, FollowsTo}
-use Rattle.rings.specs.Laws.Follow.{own-small}
+use Rattle.following.specs.Follow.{followArcs, FollowsTo}
+use Rattle.following.specs.Laws.Follow.{follow-is, own-small}
+use Rattle.rings.specs.Ring.{rings}
+use Rattle.rings.specs.Lent.{Rings}
 use Rattle.stepping.specs.Frame.{poolIn, insideOf}
 use Rattle.stepping.specs.Configurations.{configOf}
 use Rattle.stepping.specs.Inside.{Mapped}
 use Rattle.stepping.specs.Laws.Shifting.{ringed-rings}
 use Rattle.stepping.specs.declared.frame.Frame.{Frame}
 use Rattle.stepping.specs.declared.runs.RunRecord.{RunRecord}
-
--- the table's arcs lead where the diagram's do
-follow-is : (P : Declared.Pool) (x : Option ℕ) (u : List ℕ) → Between 0 mostMessages u → followArcs (P .arcs) x u ≡ follow (poolOf P) x u
-unfolding followArcs
-follow-is P x [] b = refl
-follow-is P x (m ∷ u) (message l h b) =
-    ap (λ y. followArcs (P .arcs) y u) (sym (along-is P x m h)) ∙ follow-is P _ u b
 
 module _ {f : Frame} {finals arcs roots : List ℕ} {r : RunRecord} {mem : List ℕ} (A : Mapped f finals arcs roots r mem) where
   pub root-small : (c : ℕ) → getD roots c 0 ≤ mostPool
@@ -55,7 +48,7 @@ module _ {f : Frame} {finals arcs roots : List ℕ} {r : RunRecord} {mem : List 
       ∙ ap (finalAt finals)
       (leads .is
       ∙ ap (λ x. followArcs arcs x waiting) (root .is ∙ ap (rootOf roots) e)
-      ∙ follow-is (poolIn f finals arcs) start waiting messages-small)
+      ∙ follow-is (poolOf (poolIn f finals arcs)) arcs (λ s. along-is (poolIn f finals arcs) (some s)) start waiting messages-small)
       ∙ sym (final-is (poolIn f finals arcs) (follow (poolOf (poolIn f finals arcs)) start waiting))
     where
       start : Option ℕ

@@ -10,7 +10,7 @@ use borrow.Author.Tests.{eq-eqb, ne-eqb}
 use Rattle.numbers.specs.Laws.Lists.{sets-append}
 use Rattle.pairs.specs.declared.pairs.Walk.{Walk}
 use Rattle.walk.specs.declared.edges.Edge.{Edge}
-use Rattle.pairs.specs.Over.{wordOver, WordWithin}
+use Rattle.following.specs.Follow.{wordOver, WordWithin}
 use Rattle.walk.specs.Shown.{parentOf, partOver, edgeLetter, shownFrom, shownOver, Placed, EdgeOf, Laid, Shown}
 use Rattle.walk.specs.Laws.Edges.{parent-earlier, placed-before}
 

@@ -1,9 +1,9 @@
 -- The tables of a file that was read can be walked over: what a walk asks of them holds.
 use mathlib.Core.Path.{_≡_, refl}
 use mathlib.Core.List.{List}
-use Prim.Native.Nat.{ℕ, _+_, _*_, _≤_, _<_}
+use Prim.Native.Nat.{ℕ, _*_, _≤_, _<_}
 use native.Mathlib.Omega.{arith}
-use lib.ListN.{length, getD}
+use lib.ListN.{length}
 use Rattle.tables.specs.Valid.{QueuesValid, TransitionsValid, Valid}
 use Rattle.tables.specs.Laws.Lookup.{arcs-small}
 use Rattle.tables.specs.declared.tables.Machines.{Machines}
@@ -14,7 +14,8 @@ use Rattle.model.specs.Model.{messages}
 use Rattle.meaning.specs.Tables.{sessionOf}
 use Rattle.tables.specs.Rows.{rowLength, wordEntry, lengthAt}
 use Rattle.pairs.specs.declared.pairs.Walk.{Walk}
-use Rattle.pairs.specs.Over.{WordWithin, Lent, Over}
+use Rattle.following.specs.Follow.{WordWithin}
+use Rattle.pairs.specs.Over.{Lent, Over}
 
 -- the word of a transition, or a front of it; and no word
 pub word-within : {m : Machines} {q : Queues} {τ : Transitions} → TransitionsValid m q τ → QueuesValid q → (t n : ℕ) → t < τ .count

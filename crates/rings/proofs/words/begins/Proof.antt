@@ -5,7 +5,8 @@ use native.Mathlib.Omega.{arith}
 use lib.ListN.{take, drop}
 use denote.Ref.{now}
 use Rattle.rings.specs.Ring.{waiting}
-use Rattle.rings.specs.Laws.Words.{waitingFrom, waiting-begin, waiting-next, wordFrom, waiting-first, word-begin, word-next, word-end, word-one, Asked, asked-begin, asked-same, asked-other, asked-end, ask-one, ask-short}
+use Rattle.following.specs.Laws.Words.{wordFrom, word-begin, word-next, word-end, word-one}
+use Rattle.rings.specs.Laws.Words.{waitingFrom, waiting-begin, waiting-next, waiting-first, Asked, asked-begin, asked-same, asked-other, asked-end, ask-one, ask-short}
 use Rattle.rings.proofs.words.begins.Statement.{statement}
 use Rattle.rings.proofs.words.begins.Tie as tie
 use Rattle.rings.proofs.words.begins.Reads as reads

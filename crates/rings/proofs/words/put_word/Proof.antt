@@ -3,7 +3,8 @@ use Prim.Native.Nat.{_+_, _-_, _≤_}
 use native.Mathlib.Omega.{arith}
 use lib.ListN.{take, drop}
 use denote.Ref.{now}
-use Rattle.rings.specs.Laws.Words.{wordFrom, word-begin, word-next, word-end, word-one, Putting, put-begin, put-one, put-next, put-end}
+use Rattle.following.specs.Laws.Words.{wordFrom, word-begin, word-next, word-end, word-one}
+use Rattle.rings.specs.Laws.Words.{Putting, put-begin, put-one, put-next, put-end}
 use Rattle.rings.proofs.words.put_word.Statement.{statement}
 use Rattle.rings.proofs.words.put_word.Tie as tie
 use Rattle.rings.proofs.words.put_word.Reads as reads

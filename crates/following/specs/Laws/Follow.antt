@@ -1,19 +1,18 @@
 -- Where the messages of a word lead, one after the other and queue after queue.
 use Prim.Native.Nat.{ℕ, _≤_, _<_}
 use mathlib.Core.Path.{_≡_, refl, sym, ap, subst, _∙_}
-use mathlib.Core.Option.{Option, none}
+use mathlib.Core.Option.{Option, none, some}
 use mathlib.Core.List.{List, [], _∷_, _++_}
 use native.Mathlib.Omega.{arith}
 use Rattle.tables.specs.Limits.{mostPool, mostMessages}
-use borrow.Author.Tests.{lt-ltb}
-use Rattle.tables.specs.Kinds.{reachedOf, limited}
+use Rattle.tables.specs.Kinds.{reachedOf}
+use Rattle.tables.specs.Pool.{arcAt}
 use Rattle.tables.specs.Lookup.{alongArc, AlongTo}
 use Rattle.tables.specs.Laws.Lookup.{reached-nowhere}
 use Rattle.model.specs.Model.{total, Between, message, Own}
-use Rattle.model.specs.Diagram.{word}
+use Rattle.model.specs.Diagram.{Pool, follow, word}
 use Rattle.model.specs.Laws.Queues.{between-wide, between-front, between-back, word-between}
-use Rattle.rings.specs.Ring.{followArcs}
-use Rattle.rings.specs.Lent.{FollowsTo}
+use Rattle.following.specs.Follow.{followArcs, FollowsTo}
 
 pub follow-none : (arcs u : List ℕ) → followArcs arcs none u ≡ none
 unfolding followArcs
@@ -24,6 +23,15 @@ pub follow-append : (arcs : List ℕ) (x : Option ℕ) (u v : List ℕ) → foll
 unfolding followArcs
 follow-append arcs x [] v = refl
 follow-append arcs x (m ∷ u) v = follow-append arcs (alongArc arcs x m) u v
+
+-- a diagram with the table's arcs leads where the table does
+pub follow-is : (P : Pool) (arcs : List ℕ) → ((s m : ℕ) → m < mostMessages → P .arc s m ≡ arcAt arcs s m) → (x : Option ℕ) (u : List ℕ)
+    → Between 0 mostMessages u → followArcs arcs x u ≡ follow P x u
+unfolding followArcs
+follow-is P arcs same x [] b = refl
+follow-is P arcs same none (m ∷ u) (message l h b) = follow-is P arcs same none u b
+follow-is P arcs same (some s) (m ∷ u) (message l h b) =
+    ap (λ y. followArcs arcs y u) (sym (same s m h)) ∙ follow-is P arcs same (P .arc s m) u b
 
 -- the messages of queues that have messages of their own
 pub own-small : {ns : List ℕ} {qs : List (List ℕ)} → total ns ≤ mostMessages → Own 0 ns qs → Between 0 mostMessages (word qs)
@@ -42,7 +50,7 @@ follow-begin {arcs} {u} {v} {t} h b e = record { is = ap (followArcs arcs (reach
 pub state-some : {s : ℕ} → s < mostPool → s ≡ mostPool → ⊥
 state-some h e = omega arith
 
-between-first : {lo hi m : ℕ} {u : List ℕ} → Between lo hi (m ∷ u) → m < hi
+pub between-first : {lo hi m : ℕ} {u : List ℕ} → Between lo hi (m ∷ u) → m < hi
 between-first (message a b c) = b
 
 module _ {arcs u : List ℕ} {t s : ℕ} {v : List ℕ} (f : Following arcs t u s v) where
@@ -89,9 +97,15 @@ module _ {arcs u : List ℕ} {t s : ℕ} {v : List ℕ} (f : Following arcs t u 
         most = omega arith;
       }
 
-pub follows-as : {arcs u : List ℕ} {t t′ r : ℕ} → t ≡ t′ → FollowsTo arcs t u r → FollowsTo arcs t′ u r
-follows-as {arcs} {u} e l = record { is = l .is ∙ ap (λ k. followArcs arcs (reachedOf k) u) e; most = l .most }
+-- the same numbers by other names
+pub follows-as : {arcs u : List ℕ} {t t′ r r′ : ℕ} → t ≡ t′ → r′ ≡ r → FollowsTo arcs t u r → FollowsTo arcs t′ u r′
+follows-as {arcs} {u} e h l = record { is = ap reachedOf h ∙ l .is ∙ ap (λ k. followArcs arcs (reachedOf k) u) e; most = omega (arith, l .most) }
 
--- a state that is made of its number
-pub made-state : {x raw : ℕ} → x ≡ limited mostPool raw → raw < mostPool → x ≡ raw
-made-state {x} {raw} e h = e ∙ rw (lt-ltb raw mostPool h)
+-- one word after another
+pub follows-both : {arcs u v : List ℕ} {t s r : ℕ} → FollowsTo arcs t u s → FollowsTo arcs s v r → FollowsTo arcs t (u ++ v) r
+follows-both {arcs} {u} {v} {t} f g =
+    record { is = g .is ∙ ap (λ x. followArcs arcs x v) (f .is) ∙ sym (follow-append arcs (reachedOf t) u v); most = g .most }
+
+pub follows-lost : {arcs u : List ℕ} (v : List ℕ) {t : ℕ} → FollowsTo arcs t u mostPool → FollowsTo arcs t (u ++ v) mostPool
+follows-lost {arcs} v f =
+    follows-both f (record { is = reached-nowhere refl ∙ sym (follow-none arcs v) ∙ sym (ap (λ x. followArcs arcs x v) (reached-nowhere refl)); most = f .most })

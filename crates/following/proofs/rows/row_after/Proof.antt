@@ -1,11 +1,11 @@
 use mathlib.Core.Path.{_∙_}
 use denote.Ref.{now}
-use Rattle.rings.specs.Laws.Rows.{entry-in-part, row-none, row-some}
+use Rattle.following.specs.Laws.Rows.{entry-in-part, row-none, row-some}
 use borrow.Author.Needs.{needs}
-use Rattle.rings.proofs.follow.row_after.Statement.{statement}
-use Rattle.rings.proofs.follow.row_after.Tie as tie
-use Rattle.rings.proofs.follow.row_after.Reads as reads
-use Rattle.rings.proofs.follow.row_after.Lts as lts
+use Rattle.following.proofs.rows.row_after.Statement.{statement}
+use Rattle.following.proofs.rows.row_after.Tie as tie
+use Rattle.following.proofs.rows.row_after.Reads as reads
+use Rattle.following.proofs.rows.row_after.Lts as lts
 use Rattle.numbers.proofs.number.wide.Reads as wide-reads
 
 -- src/follow.rt:31:22

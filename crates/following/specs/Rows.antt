@@ -7,9 +7,9 @@ use mathlib.Core.List.{List}
 use lib.Dec.{eqb}
 use lib.ListN.{getD}
 use Rattle.tables.specs.Limits.{mostMessages, mostPool}
-use Rattle.rings.specs.Lent.{FollowsTo}
-use Rattle.rings.specs.declared.follow.Row.{Row}
-use Rattle.rings.specs.declared.follow.Row.the-variants.{At, Nowhere}
+use Rattle.following.specs.Follow.{FollowsTo}
+use Rattle.following.specs.declared.rows.Row.{Row}
+use Rattle.following.specs.declared.rows.Row.the-variants.{At, Nowhere}
 
 -- an entry of the table is 0 for none, or 1 plus the target
 abbrev pub rowOf : ℕ → Option ℕ
@@ -30,6 +30,11 @@ stateAt row = row / mostMessages
 pub record StateRow (row : ℕ) : Type 0 where
   pub is : row ≡ stateAt row * mostMessages
   pub below : stateAt row < mostPool
+
+-- the row of this state
+pub record RowOf (s row : ℕ) : Type 0 where
+  pub begins : StateRow row
+  pub state : stateAt row ≡ s
 
 -- what a word says from a row on: the row of the state that it leads to
 abbrev pub followedTo : List ℕ → ℕ → List ℕ → Row → Type 0

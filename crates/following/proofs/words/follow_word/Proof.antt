@@ -1,0 +1,86 @@
+use mathlib.Core.Path.{refl, _∙_}
+use native.Mathlib.Omega.{arith}
+use denote.Ref.{now}
+use Rattle.following.specs.Laws.Words.{word-small}
+use Rattle.tables.specs.Laws.Lookup.{nowhere-true, nowhere-false, state-below}
+use Rattle.following.specs.Laws.Rows.{followed-at, followed-nowhere}
+use Rattle.following.specs.Laws.Follow.{follow-begin, follow-lost, follows-as}
+use borrow.Author.Needs.{needs}
+use Rattle.following.proofs.words.follow_word.Statement.{statement}
+use Rattle.following.proofs.words.follow_word.Tie as tie
+use Rattle.following.proofs.words.follow_word.Reads as reads
+use Rattle.following.proofs.words.follow_word.Lts as lts
+use Rattle.following.proofs.rows.row_of.Reads as row-of-reads
+use Rattle.following.proofs.rows.state_of.Reads as state-of-reads
+use Rattle.following.proofs.words.follow.Reads as follow-reads
+use Rattle.tables.proofs.kinds.Reached.at.Reads as at-reads
+use Rattle.tables.proofs.kinds.Reached.is_nowhere.Reads as is-nowhere-reads
+use Rattle.tables.proofs.kinds.Reached.nowhere.Reads as nowhere-reads
+use Rattle.tables.proofs.kinds.Reached.state.Reads as state-reads
+
+-- src/words.rt:42:8
+is-nowhere-requires : tie.Need-is-nowhere-requires
+is-nowhere-requires c κs = search needs
+
+-- src/words.rt:43:9
+returns : tie.Need-returns
+returns c =
+    let a = c .before .before .before .before .args in
+    let e = nowhere-true _ (c .before .is-nowhere .ensures) (c .if1 .taken) in follow-lost (follow-begin (c .before .before .before .before .pre .1 .0) (word-small (now (a .table)) (a .at) (a .n) (c .before .before .before .before .pre .1 .1)) refl) e e
+
+-- src/words.rt:45:44
+state-requires : tie.Need-state-requires
+state-requires c κs = state-below (c .before .before .before .before .pre .1 .0) (nowhere-false _ (c .before .is-nowhere .ensures) (c .if1 .left))
+
+-- src/words.rt:45:37
+row-of-requires : tie.Need-row-of-requires
+row-of-requires c κs = omega (arith, c .state .ensures, state-below (c .before .before .before .before .before .pre .1 .0) (nowhere-false _ (c .before .before .is-nowhere .ensures) (c .before .if1 .left)))
+
+-- src/words.rt:45:24
+follow-requires : tie.Need-follow-requires
+follow-requires c κs = search needs
+
+-- src/words.rt:45:17
+enum-known-row : tie.Need-enum-known-row
+enum-known-row c = search needs
+
+-- src/words.rt:46:9
+enum-told : tie.Need-enum-told
+enum-told c = search needs
+
+-- src/words.rt:46:9
+nowhere-requires : tie.Need-nowhere-requires
+nowhere-requires c κs = search needs
+
+-- src/words.rt:46:9
+returns-2 : tie.Need-returns-2
+returns-2 c = follows-as (c .before .before .before .before .row-of .ensures .state ∙ c .before .before .before .before .before .state .ensures) (c .nowhere .ensures) (followed-nowhere (c .before .before .before .follow .ensures) (c .before .enum-told .given .1))
+
+-- src/words.rt:48:17
+state-of-requires : tie.Need-state-of-requires
+state-of-requires c κs = followed-at (c .before .before .before .follow .ensures) (c .before .row .given .1) .0
+
+-- src/words.rt:48:5
+at-requires : tie.Need-at-requires
+at-requires c κs = search needs
+
+-- src/words.rt:36:1
+returns-3 : tie.Need-returns-3
+returns-3 c = follows-as (c .before .before .before .before .before .before .row-of .ensures .state ∙ c .before .before .before .before .before .before .before .state .ensures) (c .at .ensures ∙ c .before .state-of .ensures) (followed-at (c .before .before .before .before .before .follow .ensures) (c .before .before .before .row .given .1) .1)
+
+pub follow-word-spec : {M : Type 1} → statement M
+follow-word-spec =
+    tie.close
+    (tie.spec
+    is-nowhere-requires
+    returns
+    state-requires
+    row-of-requires
+    follow-requires
+    enum-known-row
+    enum-told
+    nowhere-requires
+    returns-2
+    state-of-requires
+    at-requires
+    returns-3)

@@ -1,0 +1,4 @@
+-- What the proofs of following rest on.
+pub mod Follow
+pub mod Rows
+pub mod Words
