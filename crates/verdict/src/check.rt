@@ -7,12 +7,15 @@ use numbers::refusal::MOST_BYTES;
 use numbers::refusal::Refusal;
 use pairs::pairs::CODES;
 use session::reading::Answer;
-use session::reading::read;
+use session::reading::HeadRead;
+use session::reading::read_into;
 use tables::kinds::ControlState;
+use tables::kinds::DiagramState;
 use tables::tables::MOST_WORD;
 use tables::tables::Machines;
+use tables::tables::POOL_ARCS;
 use tables::tables::Queues;
-use tables::tables::Tables;
+use tables::tables::ROWS;
 ghost use mathlib.Core.Path.{_≡_};
 ghost use mathlib.Core.List.{List};
 ghost use Prim.Native.Nat.{ℕ};
@@ -21,6 +24,8 @@ ghost use Rattle.meaning.specs.Checking.{Checks, CheckMeans, CheckTwoRuns};
 ghost use Rattle.items.specs.Judging.{AllAsked};
 ghost use Rattle.verdict.specs.Check.{saidVerdict, Shows, concluded, Concludes, Room, VerdictFound};
 ghost use Rattle.tables.specs.Valid.{Valid};
+ghost use Rattle.session.specs.Lent.{lentReading};
+ghost use Rattle.pairs.specs.Pairs.{mostCodes};
 ghost use Rattle.items.specs.Promises.{diagrams, memory};
 
 // Entries that a scratch table needs, and bytes that a contents buffer needs.
@@ -107,40 +112,38 @@ fn judge_lent(
     verdict_of(p)
 }
 
-// The verdict on tables that were read, over the first n entries of scratch tables that are all 0.
-fn judge_tables(
-    t: Tables,
-    n: usize,
+// The verdict on tables that were read, over scratch tables that are all 0. The large ones are lent where reading filled them: by
+// value they would be copied.
+fn judge_read(
+    head: HeadRead,
+    rows: &[u8],
+    finals: &[u8],
+    arcs: &[u8],
     seen: &mut [u16],
     queue: &mut [u16],
     contents: &mut [u8],
 ) -> Verdict
-    requires { ⌜ Valid t ⌝ }
-    requires { ⌜ Room n (now seen) (now queue) (now contents) ⌝ }
-    ensures { λ r. ⌜ Concludes (λ T. T ≡ t) (now (seen .entry)) (now (queue .entry)) (now (contents .entry)) r (now (seen .exit)) (now (queue .exit)) (now (contents .exit)) ⌝ }
+    requires { ⌜ Valid (lentReading head (now rows) (now finals) (now arcs) .tables) ⌝ }
+    requires { ⌜ Room mostCodes (now seen) (now queue) (now contents) ⌝ }
+    ensures { λ r. ⌜ Concludes (λ T. T ≡ lentReading head (now (rows .entry)) (now (finals .entry)) (now (arcs .entry)) .tables) (now (seen .entry)) (now (queue .entry)) (now (contents .entry)) r (now (seen .exit)) (now (queue .exit)) (now (contents .exit)) ⌝ }
 {
-    let m = t.machines;
-    let q = t.queues;
-    let transitions = t.transitions;
-    let rows = transitions.rows;
-    let pool = t.pool;
-    let arcs = pool.arcs;
-    let finals = pool.finals;
-    let map = t.map;
+    let m = head.machines;
+    let q = head.queues;
+    let map = head.map;
     let roots = map.roots;
-    let bad = t.bad;
+    let bad = head.bad;
     let entries = bad.rows;
     judge_lent(
         m,
         q,
-        &rows,
-        &arcs,
-        &finals,
+        rows,
+        arcs,
+        finals,
         &roots,
         &entries,
-        wide(transitions.count),
+        wide(head.transitions),
         wide(bad.count),
-        n,
+        TABLE_LEAST,
         seen,
         queue,
         contents,
@@ -167,15 +170,17 @@ pub fn check(file: &[u8], seen: &mut [u16], queue: &mut [u16], contents: &mut [u
     if contents.len() < CONTENTS_LEAST {
         return Verdict::ShortMemory;
     }
-    let reading = read(file);
-    let answer = reading.answer;
+    let mut rows = [0u8; ROWS];
+    let mut finals = [0u8; DiagramState::LIMIT];
+    let mut arcs = [0u8; POOL_ARCS];
+    let head = read_into(file, &mut rows, &mut finals, &mut arcs);
+    let answer = head.answer;
     match answer {
         Answer::Refused(why) => Verdict::Refused(why),
         Answer::Read => {
             blank(seen);
             blank(queue);
-            let t = reading.tables;
-            judge_tables(t, TABLE_LEAST, seen, queue, contents)
+            judge_read(head, &rows, &finals, &arcs, seen, queue, contents)
         }
     }
 }

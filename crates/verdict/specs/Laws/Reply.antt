@@ -57,6 +57,10 @@ contents-after r contents contents₁ k =
     ∙ ap (λ n. take (shownIn r) contents₁ ++ drop n contents) (sym (length-take-le (shownIn r) contents₁ (omega (arith, k .long, k .within))))
     ∙ ap (λ u. u ++ drop (length u) contents) (sym (shown-front r contents₁))
 
+-- tables that were read are valid
+pub read-valid : (file : List ℕ) {reading : Reading} → Reads (readFile file) reading → reading .answer ≡ Read → Valid (reading .tables)
+read-valid file {reading} read e = answer-valid file reading read (ap saidAnswer e)
+
 module _ (file seen queue contents : List ℕ) where
   pub too-long : 16384 < length file → Promised file seen queue contents (Refused TooLong) seen queue contents
   too-long h = promised file seen queue contents (Refused TooLong) (checks-refused file seen queue contents 1 16384 (lent-long file seen queue contents h) refl)
@@ -75,9 +79,6 @@ module _ (file seen queue contents : List ℕ) where
         promised file seen queue contents (Refused why)
         (checks-refused file seen queue contents (numberOf why) (placeOf why)
         (given ∙ answer-refused (readFile file) reading read (numberOf why) (placeOf why) (ap saidAnswer e)) refl)
-
-    pub read-valid : reading .answer ≡ Read → Valid (reading .tables)
-    read-valid e = answer-valid file reading read (ap saidAnswer e)
 
     pub judged : reading .answer ≡ Read → (r : Verdict) (seen′ queue′ seen₁ queue₁ contents₁ : List ℕ)
         → seen′ ≡ replicate (length seen) 0 → queue′ ≡ replicate (length queue) 0
