@@ -5,17 +5,18 @@ use mathlib.Core.Path.{_≡_}
 use mathlib.Core.List.{List}
 use lib.ListN.{getD}
 use lib.Dec.{ltb}
+use Rattle.tables.specs.Limits.{mostPool}
 use Rattle.tables.specs.declared.tables.Tables.{Tables}
 use Rattle.meaning.specs.Checking.{Checks}
 use Rattle.verdict.specs.Check.{saidVerdict}
 use Rattle.verdict.specs.declared.check.Verdict.{Verdict}
 use Rattle.verdict.specs.declared.check.Verdict.the-variants.{Closed, Outside, Leaves, Bad, Refused, ShortMemory}
 
-abbrev pub together : List ℕ → List ℕ → ℕ → ℕ
-together finals roots i = cond (ltb i 127) (getD finals i 0 + getD roots i 0) 0
+abbrev pub together : List ℕ → List ℕ → List ℕ → List ℕ → ℕ → ℕ
+together rows finals arcs roots i = cond (ltb i mostPool) (getD rows i 0 + getD finals i 0 + getD arcs i 0 + getD roots i 0) 0
 
 abbrev pub sampled : Tables → ℕ → ℕ
-sampled T i = together (T .pool .finals) (T .map .roots) i
+sampled T i = together (T .transitions .rows) (T .pool .finals) (T .pool .arcs) (T .map .roots) i
 
 abbrev pub toldOf : Verdict → ℕ
 toldOf (Closed pairs) = pairs

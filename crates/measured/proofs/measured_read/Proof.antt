@@ -7,19 +7,19 @@ use Rattle.measured.proofs.measured_read.Tie as tie
 use Rattle.measured.proofs.measured_read.Reads as reads
 use Rattle.measured.proofs.measured_read.Lts as lts
 use Rattle.measured.proofs.sample.Reads as sample-reads
-use Rattle.session.proofs.reading.read.Reads as read-reads
+use Rattle.session.proofs.reading.read_into.Reads as read-into-reads
 
--- src/lib.rt:25:9
-read-requires : tie.Need-read-requires
-read-requires c κs = search needs
+-- src/lib.rt:38:9
+read-into-requires : tie.Need-read-into-requires
+read-into-requires c κs = search needs
 
--- src/lib.rt:31:5
+-- src/lib.rt:41:5
 sample-requires : tie.Need-sample-requires
 sample-requires c κs = search needs
 
--- src/lib.rt:21:1
+-- src/lib.rt:31:1
 returns : tie.Need-returns
-returns c = c .sample .ensures ∙ ap (λ (T : Tables). sampled T (c .before .before .before .before .before .before .before .before .args .i)) (c .before .before .before .before .before .before .read .ensures .tables)
+returns c = c .sample .ensures ∙ ap (λ (T : Tables). sampled T (c .before .before .before .before .before .before .before .before .before .before .before .args .i)) (c .before .before .before .before .before .before .read-into .ensures .tables)
 
 pub measured-read-spec : {M : Type 1} → statement M
-measured-read-spec = tie.close (tie.spec read-requires sample-requires returns)
+measured-read-spec = tie.close (tie.spec read-into-requires sample-requires returns)
