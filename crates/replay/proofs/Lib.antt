@@ -3,4 +3,5 @@ pub mod Again
 pub mod Calls
 pub mod Fields
 pub mod Lent
-pub mod Shared
+pub mod Local
+pub mod Read

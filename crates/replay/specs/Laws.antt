@@ -1,5 +1,5 @@
 -- What the proofs of a replay rest on, and what is proved of its replies.
-pub mod Flat
+pub mod Tables
 pub mod Loop
 pub mod Begin
 pub mod Turn

@@ -1,4 +1,4 @@
-pub mod Flat
+pub mod Tables
 pub mod Reply
 pub mod Run
 pub mod Laws

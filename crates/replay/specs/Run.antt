@@ -9,22 +9,22 @@ use Rattle.numbers.specs.declared.refusal.Refusal.{Refusal}
 use Rattle.tables.specs.Limits.{mostQueues}
 use Rattle.tables.specs.Valid.{Valid}
 use Rattle.tables.specs.declared.tables.Machines.{Machines}
+use Rattle.tables.specs.declared.tables.Tables.{Tables}
 use Rattle.session.specs.declared.reading.Answer.{Answer}
 use Rattle.session.specs.declared.reading.Answer.the-variants.{Read, Refused}
 use Rattle.model.specs.Model.{Configuration, take?}
-use Rattle.model.specs.Session.{Session}
 use Rattle.meaning.specs.Tables.{sessionOf}
 use Rattle.trace.specs.Rules.{room, Why, Ended, ended}
 use Rattle.trace.specs.Replay.{Turn, stops, goes, moved, turn, replayFrom}
 use Rattle.rings.specs.Laid.{memoryAfter}
-use Rattle.stepping.specs.Frame.{modelIn}
+use Rattle.stepping.specs.Frame.{modelIn, tablesOf}
 use Rattle.stepping.specs.Configurations.{runOf, configOf, Holds, Settles}
 use Rattle.stepping.specs.After.{recordAfter}
 use Rattle.stepping.specs.Taking.{Takeable}
 use Rattle.stepping.specs.declared.runs.RunRecord.{RunRecord}
 use Rattle.stepping.specs.declared.frame.Frame.{Frame}
-use Rattle.replay.specs.Flat.{flatLong, view, refusedBy}
-use Rattle.replay.specs.Reply.{ran, Outcome, turnedAway, ranTo, saidStop, replayOf}
+use Rattle.replay.specs.Tables.{frameOf}
+use Rattle.replay.specs.Reply.{ran, turnedAway, ranTo, saidStop, replayOf}
 use Rattle.replay.specs.declared.progress.Stop.{Stop}
 use Rattle.replay.specs.declared.progress.Stop.the-variants.{End, FileRefused, TraceTooLong, MemoryShort}
 use Rattle.replay.specs.declared.progress.Progress.{Progress}
@@ -47,18 +47,14 @@ parts states heads lengths mem p = state (runOf states heads lengths) mem p
 abbrev pub endedOf : Progress → Code.Ended
 endedOf p = record { why = p .why; steps = p .steps }
 
--- the session that is replayed, less its bad entries; and the configuration that record and memory stand for
-abbrev pub sessionIn : Frame → List ℕ → Session
-sessionIn f flat = sessionOf (view f flat)
-
+-- the configuration that record and memory stand for
 abbrev pub stands : Frame → State → Configuration
 stands f x = configOf (f .machines) (f .queues) (x .lent) (x .memory)
 
 -- WHAT A STEP ASKS of tables, trace and state
-pub record Ready (f : Frame) (flat s : List ℕ) (x : State) : Type 0 where
-  pub valid : Valid (view f flat)
-  pub flatLong : length flat ≡ flatLong
-  pub holds : Holds (f .machines) (f .queues) (x .lent) (x .memory)
+pub record Ready (T : Tables) (s : List ℕ) (x : State) : Type 0 where
+  pub valid : Valid T
+  pub holds : Holds (T .machines) (T .queues) (x .lent) (x .memory)
   pub most : length s ≤ mostBytes
   pub within : x .progress .at ≤ length s
   pub counted : x .progress .steps ≤ x .progress .at
@@ -88,8 +84,8 @@ pub data Turned (f : Frame) (t : Turn) (x y : State) : Type 0 where
   on : (next : ℕ) → t ≡ goes (stands f y) next → Gone f x y next → Turned f t x y
   off : (w : Why) → t ≡ stops w → Final f (ended w (x .progress .steps) (stands f x)) (x .memory) y → Turned f t x y
 
-pub record Stepped (f : Frame) (flat s : List ℕ) (x y : State) : Type 0 where
-  pub turned : Turned f (turn (sessionIn f flat) s (x .progress .at) (stands f x)) x y
+pub record Stepped (T : Tables) (s : List ℕ) (x y : State) : Type 0 where
+  pub turned : Turned (frameOf T) (turn (sessionOf T) s (x .progress .at) (stands (frameOf T) x)) x y
 
 -- the number of transition i was read, and ends before the place next
 abbrev pub TurnedBy : Frame → List ℕ → ℕ → ℕ → State → State → Type 0
@@ -112,20 +108,24 @@ pub record TurnAsked (f : Frame) (rows : List ℕ) (x : State) (i : ℕ) : Type 
   pub few : x .progress .steps ≤ mostBytes
 
 -- THE LOOP: all that is left of the trace
-abbrev pub rest : Frame → List ℕ → List ℕ → State → Ended
-rest f flat s x =
-    replayFrom (sessionIn f flat) s (length s - x .progress .steps) (x .progress .steps) (x .progress .at) (stands f x)
+abbrev pub rest : Tables → List ℕ → State → Ended
+rest T s x =
+    replayFrom (sessionOf T) s (length s - x .progress .steps) (x .progress .steps) (x .progress .at) (stands (frameOf T) x)
 
-pub record Ran (f : Frame) (flat s : List ℕ) (x y : State) : Type 0 where
+pub record Ran (T : Tables) (s : List ℕ) (x y : State) : Type 0 where
   pub idle : x .progress .going ≡ false → y ≡ x
-  pub ends : x .progress .going ≡ true → Final f (rest f flat s x) (x .memory) y
+  pub ends : x .progress .going ≡ true → Final (frameOf T) (rest T s x) (x .memory) y
 
 -- and underway from x to y
-pub record Reached (f : Frame) (flat s : List ℕ) (x y : State) : Type 0 where
+pub record Reached (T : Tables) (s : List ℕ) (x y : State) : Type 0 where
   pub idle : x .progress .going ≡ false → y ≡ x
   pub on : x .progress .going ≡ true → y .progress .going ≡ true
-      → (Ready f flat s x → Ready f flat s y) × (rest f flat s y ≡ rest f flat s x) × Kept f (x .memory) (y .memory)
-  pub off : x .progress .going ≡ true → y .progress .going ≡ false → Final f (rest f flat s x) (x .memory) y
+      → (Ready T s x → Ready T s y) × (rest T s y ≡ rest T s x) × Kept (frameOf T) (x .memory) (y .memory)
+  pub off : x .progress .going ≡ true → y .progress .going ≡ false → Final (frameOf T) (rest T s x) (x .memory) y
+
+-- how far a refused replay has come
+abbrev pub refusedBy : Stop → Progress
+refusedBy why = record { going = false; why = why; at = 0; steps = 0 }
 
 -- HOW A REPLAY OPENS, after this answer of reading, with so many queues, bytes of the trace and bytes of memory
 pub data Opens (a : Answer) (queues long bytes : ℕ) (p : Progress) : Type 0 where
@@ -143,13 +143,21 @@ abbrev pub recordFor : RunRecord → Machines → Bool → RunRecord
 recordFor r m true = startsWith m
 recordFor r m false = r
 
--- THE BEGINNING, with n bytes of memory lent, whatever they hold: a refusal with the record as it was, or the first state
-pub data Begins (bytes s : List ℕ) (n : ℕ) (r : RunRecord) (b : Begun) : Type 0 where
+-- what the code makes of the file's tables at the beginning
+abbrev pub begunOf : RunRecord → Tables → Progress → Begun
+begunOf r T p = record { «record» = r; progress = p; frame = frameOf T; roots = T .map .roots }
+
+-- the tables that it stands for beside these arrays
+abbrev pub tablesIn : Begun → List ℕ → List ℕ → List ℕ → Tables
+tablesIn b rows finals arcs = tablesOf (b .frame) rows finals arcs (b .roots)
+
+-- THE BEGINNING, with n bytes of memory lent, whatever they hold: a refusal with the record as it was, or the first state, in tables T
+pub data Begins (bytes s : List ℕ) (n : ℕ) (r : RunRecord) (b : Begun) (T : Tables) : Type 0 where
   refuses : b .progress .going ≡ false → b .record ≡ r → b .progress .steps ≡ 0
       → ((mem : List ℕ) → length mem ≡ n → replayOf bytes s mem r ≡ turnedAway (saidStop (b .progress .why)) r mem)
-      → Begins bytes s n r b
+      → Begins bytes s n r b T
   starts : b .progress .going ≡ true
       → ((mem : List ℕ) → length mem ≡ n
-      → Ready (b .frame) (b .flat) s (state (b .record) mem (b .progress))
-      × (replayOf bytes s mem r ≡ ranTo (view (b .frame) (b .flat)) mem (rest (b .frame) (b .flat) s (state (b .record) mem (b .progress)))))
-      → Begins bytes s n r b
+      → Ready T s (state (b .record) mem (b .progress))
+      × (replayOf bytes s mem r ≡ ranTo T mem (rest T s (state (b .record) mem (b .progress)))))
+      → Begins bytes s n r b T

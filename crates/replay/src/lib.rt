@@ -1,5 +1,4 @@
 // A trace replayed against a session file: step by step on the run's record and the queue memory that the caller lends.
-mod flat;
 pub mod progress;
 pub mod run;
 mod start;

@@ -1,8 +1,8 @@
 // How far a replay has come, and how it ended.
-use crate::flat::FLAT;
 use numbers::refusal::Refusal;
 use stepping::frame::Frame;
 use stepping::runs::RunRecord;
+use tables::tables::MOST_CONTROLS;
 
 // Why a replay ended. Places of a step are in the trace.
 pub enum Stop {
@@ -43,10 +43,10 @@ pub struct Replayed {
     pub ended: Ended,
 }
 
-// Before the first step: the tables that are replayed too.
+// Before the first step, with the small tables of the file; the large ones lie in the arrays that they were read into.
 pub struct Begun {
     pub record: RunRecord,
     pub progress: Progress,
     pub frame: Frame,
-    pub flat: [u8; FLAT],
+    pub roots: [u8; MOST_CONTROLS],
 }

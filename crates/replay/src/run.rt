@@ -8,8 +8,12 @@ use crate::turn::ended;
 use crate::turn::turn;
 use stepping::frame::Frame;
 use stepping::runs::RunRecord;
+use tables::kinds::DiagramState;
+use tables::tables::POOL_ARCS;
+use tables::tables::ROWS;
 ghost use mathlib.Core.Path.{_≡_};
 ghost use mathlib.Core.Bool.{true};
+ghost use Rattle.stepping.specs.Frame.{tablesOf};
 ghost use Rattle.replay.specs.Reply.{Replays};
 ghost use Rattle.replay.specs.Run.{state, Ready, Stepped, Ran};
 
@@ -17,20 +21,26 @@ ghost use Rattle.replay.specs.Run.{state, Ready, Stepped, Ran};
 pub(crate) fn step(
     r: &mut RunRecord,
     f: Frame,
-    flat: &[u8],
+    rows: &[u8],
+    finals: &[u8],
+    arcs: &[u8],
+    roots: &[u8],
     trace: &[u8],
     memory: &mut [u8],
     p: Progress,
 ) -> Progress
-    requires { ⌜ Ready f (now flat) (now trace) (state (now r) (now memory) p) ⌝ }
-    ensures { λ a. ⌜ Stepped f (now (flat .entry)) (now (trace .entry)) (state (now (r .entry)) (now (memory .entry)) p) (state (now (r .exit)) (now (memory .exit)) a) ⌝ }
+    requires { ⌜ Ready (tablesOf f (now rows) (now finals) (now arcs) (now roots)) (now trace) (state (now r) (now memory) p) ⌝ }
+    ensures { λ a. ⌜ Stepped (tablesOf f (now (rows .entry)) (now (finals .entry)) (now (arcs .entry)) (now (roots .entry))) (now (trace .entry)) (state (now (r .entry)) (now (memory .entry)) p) (state (now (r .exit)) (now (memory .exit)) a) ⌝ }
 {
     turn(
         &mut r.states,
         &mut r.heads,
         &mut r.lengths,
         f,
-        flat,
+        rows,
+        finals,
+        arcs,
+        roots,
         trace,
         memory,
         p,
@@ -41,31 +51,46 @@ pub(crate) fn step(
 pub(crate) fn run(
     r: &mut RunRecord,
     f: Frame,
-    flat: &[u8],
+    rows: &[u8],
+    finals: &[u8],
+    arcs: &[u8],
+    roots: &[u8],
     trace: &[u8],
     memory: &mut [u8],
     begun: Progress,
 ) -> Progress
-    requires { ⌜ (begun .going ≡ true → Ready f (now flat) (now trace) (state (now r) (now memory) begun)) ⌝ }
-    ensures { λ a. ⌜ Ran f (now (flat .entry)) (now (trace .entry)) (state (now (r .entry)) (now (memory .entry)) begun) (state (now (r .exit)) (now (memory .exit)) a) ⌝ }
+    requires { ⌜ (begun .going ≡ true → Ready (tablesOf f (now rows) (now finals) (now arcs) (now roots)) (now trace) (state (now r) (now memory) begun)) ⌝ }
+    ensures { λ a. ⌜ Ran (tablesOf f (now (rows .entry)) (now (finals .entry)) (now (arcs .entry)) (now (roots .entry))) (now (trace .entry)) (state (now (r .entry)) (now (memory .entry)) begun) (state (now (r .exit)) (now (memory .exit)) a) ⌝ }
 {
     let mut p = begun;
     while p.going {
-        p = step(r, f, flat, trace, memory, p);
+        p = step(r, f, rows, finals, arcs, roots, trace, memory, p);
     }
     p
 }
 
-// The service: a trace replayed against a file, in the record and the queue memory that the caller lends.
+// The service: a trace replayed against a file, in the record and the queue memory that the caller lends. The tables that the file is read
+// into are those that every step reads.
 pub fn replay(r: &mut RunRecord, file: &[u8], trace: &[u8], memory: &mut [u8]) -> Ended
     ensures { λ e. ⌜ Replays (now (file .entry)) (now (trace .entry)) (now (memory .entry)) (now (r .entry)) e (now (r .exit)) (now (memory .exit)) ⌝ }
 {
-    let b = start(*r, file, trace, memory.len());
+    let mut rows = [0u8; ROWS];
+    let mut finals = [0u8; DiagramState::LIMIT];
+    let mut arcs = [0u8; POOL_ARCS];
+    let b = start(
+        *r,
+        file,
+        trace,
+        memory.len(),
+        &mut rows,
+        &mut finals,
+        &mut arcs,
+    );
     *r = b.record;
     let f = b.frame;
-    let flat = b.flat;
+    let roots = b.roots;
     let begun = b.progress;
-    let p = run(r, f, &flat, trace, memory, begun);
+    let p = run(r, f, &rows, &finals, &arcs, &roots, trace, memory, begun);
     ended(p)
 }
 

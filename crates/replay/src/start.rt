@@ -1,5 +1,4 @@
 // How a replay begins: as the file says, or with a refusal of file, trace or memory.
-use crate::flat::begun;
 use crate::progress::Begun;
 use crate::progress::Progress;
 use crate::progress::Stop;
@@ -8,6 +7,7 @@ use numbers::refusal::MOST_BYTES;
 use rings::ROOM;
 use session::reading::Answer;
 use session::reading::read_into;
+use stepping::frame::Frame;
 use stepping::runs::RunRecord;
 use tables::kinds::DiagramState;
 use tables::tables::MOST_QUEUES;
@@ -15,8 +15,8 @@ use tables::tables::Machines;
 use tables::tables::POOL_ARCS;
 use tables::tables::ROWS;
 ghost use mathlib.Core.Path.{_≡_};
-ghost use Rattle.replay.specs.Flat.{refusedBy};
-ghost use Rattle.replay.specs.Run.{Opens, recordFor, Begins};
+ghost use Rattle.session.specs.Lent.{Blank};
+ghost use Rattle.replay.specs.Run.{refusedBy, Opens, recordFor, tablesIn, Begins};
 
 fn refused(why: Stop) -> Progress
     ensures { λ p. ⌜ p ≡ refusedBy why ⌝ }
@@ -67,18 +67,37 @@ fn record_for(r: RunRecord, machines: Machines, going: bool) -> RunRecord
     }
 }
 
-// The first state.
-pub(crate) fn start(r: RunRecord, file: &[u8], trace: &[u8], bytes: usize) -> Begun
-    ensures { λ b. ⌜ Begins (now (file .entry)) (now (trace .entry)) bytes r b ⌝ }
+// The first state; the large tables of the file are read into the arrays that are lent.
+pub(crate) fn start(
+    r: RunRecord,
+    file: &[u8],
+    trace: &[u8],
+    bytes: usize,
+    rows: &mut [u8; ROWS],
+    finals: &mut [u8; DiagramState::LIMIT],
+    arcs: &mut [u8; POOL_ARCS],
+) -> Begun
+    requires { ⌜ Blank (now rows) (now finals) (now arcs) ⌝ }
+    ensures { λ b. ⌜ Begins (now (file .entry)) (now (trace .entry)) bytes r b (tablesIn b (now (rows .exit)) (now (finals .exit)) (now (arcs .exit))) ⌝ }
 {
-    let mut rows = [0u8; ROWS];
-    let mut finals = [0u8; DiagramState::LIMIT];
-    let mut arcs = [0u8; POOL_ARCS];
-    let head = read_into(file, &mut rows, &mut finals, &mut arcs);
+    let head = read_into(file, rows, finals, arcs);
     let answer = head.answer;
-    let queues = head.queues;
     let machines = head.machines;
-    let p = opening(answer, queues.count, trace.len(), bytes);
-    let first = record_for(r, machines, p.going);
-    begun(first, head, &rows, &finals, &arcs, p)
+    let queues = head.queues;
+    let map = head.map;
+    let roots = map.roots;
+    let progress = opening(answer, queues.count, trace.len(), bytes);
+    let record = record_for(r, machines, progress.going);
+    let frame = Frame {
+        machines,
+        queues,
+        transitions: head.transitions,
+        pool: head.states,
+    };
+    Begun {
+        record,
+        progress,
+        frame,
+        roots,
+    }
 }

@@ -1,8 +1,4 @@
 // One step in the parts of the run's record: the configuration is asked first, then the end of the trace, then the next number.
-use crate::flat::ARCS_AT;
-use crate::flat::FINALS_AT;
-use crate::flat::FLAT;
-use crate::flat::ROOTS_AT;
 use crate::progress::Ended;
 use crate::progress::Progress;
 use crate::progress::Stop;
@@ -18,6 +14,7 @@ use tables::tables::MOST_MACHINES;
 use tables::tables::MOST_QUEUES;
 ghost use mathlib.Core.Path.{_≡_};
 ghost use Rattle.stepping.specs.Configurations.{Settleable};
+ghost use Rattle.stepping.specs.Frame.{tablesOf};
 ghost use Rattle.replay.specs.Run.{parts, endedOf, Ready, TurnedBy, Stepped, Ends, TurnAsked};
 
 // The replay ends here: record and memory are brought into the form of the end.
@@ -74,17 +71,17 @@ pub(crate) fn turn(
     heads: &mut [usize; MOST_QUEUES as usize],
     lengths: &mut [usize; MOST_QUEUES as usize],
     f: Frame,
-    flat: &[u8],
+    rows: &[u8],
+    finals: &[u8],
+    arcs: &[u8],
+    roots: &[u8],
     trace: &[u8],
     memory: &mut [u8],
     p: Progress,
 ) -> Progress
-    requires { ⌜ Ready f (now flat) (now trace) (parts (now states) (now heads) (now lengths) (now memory) p) ⌝ }
-    ensures { λ a. ⌜ Stepped f (now (flat .entry)) (now (trace .entry)) (parts (now (states .entry)) (now (heads .entry)) (now (lengths .entry)) (now (memory .entry)) p) (parts (now (states .exit)) (now (heads .exit)) (now (lengths .exit)) (now (memory .exit)) a) ⌝ }
+    requires { ⌜ Ready (tablesOf f (now rows) (now finals) (now arcs) (now roots)) (now trace) (parts (now states) (now heads) (now lengths) (now memory) p) ⌝ }
+    ensures { λ a. ⌜ Stepped (tablesOf f (now (rows .entry)) (now (finals .entry)) (now (arcs .entry)) (now (roots .entry))) (now (trace .entry)) (parts (now (states .entry)) (now (heads .entry)) (now (lengths .entry)) (now (memory .entry)) p) (parts (now (states .exit)) (now (heads .exit)) (now (lengths .exit)) (now (memory .exit)) a) ⌝ }
 {
-    let finals = &flat[FINALS_AT..ARCS_AT];
-    let arcs = &flat[ARCS_AT..ROOTS_AT];
-    let roots = &flat[ROOTS_AT..FLAT];
     if !is_inside(f, finals, arcs, roots, states, heads, lengths, memory) {
         return stopped(heads, lengths, f, memory, p, Stop::Outside);
     }
@@ -94,17 +91,7 @@ pub(crate) fn turn(
     }
     match read_below(trace, at, wide(f.transitions)) {
         Field::Refused(why) => stopped(heads, lengths, f, memory, p, Stop::Unread(why)),
-        Field::Value(i, next) => taken(
-            states,
-            heads,
-            lengths,
-            f,
-            &flat[..FINALS_AT],
-            memory,
-            p,
-            wide(i),
-            next,
-        ),
+        Field::Value(i, next) => taken(states, heads, lengths, f, rows, memory, p, wide(i), next),
     }
 }
 

@@ -1,20 +1,19 @@
 -- The beginning of a replay: a refusal, or the state in which the session starts.
-use Prim.Native.Nat.{ℕ, _+_, _-_, _*_, _≤_, _<_}
+use Prim.Native.Nat.{ℕ, _-_, _*_, _≤_, _<_}
 use mathlib.Core.Path.{_≡_, refl, sym, ap, ap₂, subst, _∙_}
-use mathlib.Core.Bool.{true, false}
+use mathlib.Core.Bool.{true}
 use mathlib.Core.List.{List, [], map}
 use native.Mathlib.Omega.{arith}
 use native.Mathlib.Nat.{sub-zero}
-use lib.ListN.{length, getD, take, replicate, length-replicate}
+use lib.ListN.{length, getD, length-replicate}
 use lib.Seq.{length-take-le}
 use lib.Dec.{leb}
 use borrow.Author.Tests.{le-leb, lt-leb}
 use Rattle.numbers.specs.Limits.{mostBytes}
-use Rattle.numbers.specs.Part.{Part, got, refused}
+use Rattle.numbers.specs.Part.{got, refused}
 use Rattle.numbers.specs.Said.{numberOf, placeOf}
 use Rattle.numbers.specs.Laws.Written.{zeros-hold}
-use Rattle.numbers.specs.declared.refusal.Refusal.{Refusal}
-use Rattle.tables.specs.Limits.{mostMachines, mostQueues}
+use Rattle.tables.specs.Limits.{mostQueues}
 use Rattle.tables.specs.Valid.{Valid}
 use Rattle.tables.specs.declared.tables.Tables.{Tables}
 use Rattle.session.specs.File.{readFile, Reads}
@@ -23,25 +22,23 @@ use Rattle.session.specs.Laws.Reading.{answer-refused, answer-read}
 use Rattle.session.specs.declared.reading.Reading.{Reading}
 use Rattle.session.specs.declared.reading.Answer.the-variants.{Read}
 use Rattle.session.specs.Laws.Valid.{valid}
-use Rattle.model.specs.Model.{Configuration, Own, begin, number}
+use Rattle.model.specs.Model.{Own, begin, number}
 use Rattle.model.specs.Laws.Basics.{false-not-true}
 use Rattle.model.specs.Laws.Queues.{all-empty}
 use Rattle.meaning.specs.Tables.{sessionOf}
 use Rattle.controls.specs.Laws.Begin.{starts-are-states}
 use Rattle.controls.specs.Controls.{sizesOf, startsOf}
-use Rattle.trace.specs.Rules.{room, Ended}
+use Rattle.trace.specs.Rules.{room}
 use Rattle.trace.specs.Replay.{replayed, replayFrom}
-use Rattle.trace.specs.Laws.Turns.{replayed-without-bad}
 use Rattle.rings.specs.Ring.{each, rings}
 use Rattle.rings.specs.Laws.Rings.{rings-empty}
 use Rattle.rings.specs.Laws.Each.{each-empty}
-use Rattle.stepping.specs.Configurations.{configOf, countsOf, InRings, Holds}
-use Rattle.stepping.specs.Frame.{noBad}
+use Rattle.stepping.specs.Configurations.{configOf, countsOf, Holds}
 use Rattle.stepping.specs.declared.runs.RunRecord.{RunRecord}
-use Rattle.replay.specs.Flat.{flatOf, Sized, frameOf, view, begunOf, refusedBy}
-use Rattle.replay.specs.Reply.{Reply, file, trace, memory, turnedAway, ranTo, lentTo, replayTo, replayOf, saidStop, Replays}
-use Rattle.replay.specs.Run.{state, stands, endedOf, sessionIn, Ready, rest, Ran, Opens, unread, tooLong, tooShort, opened, startsWith, recordFor, Begins, refuses, starts}
-use Rattle.replay.specs.Laws.Flat.{valid-sized, empty-sized, flat-long, view-is, view-valid, goodTables}
+use Rattle.replay.specs.Tables.{withoutBad}
+use Rattle.replay.specs.Reply.{file, trace, memory, turnedAway, ranTo, lentTo, replayTo, replayOf, saidStop, Replays}
+use Rattle.replay.specs.Run.{state, endedOf, Ready, rest, Ran, refusedBy, Opens, unread, tooLong, tooShort, opened, startsWith, recordFor, begunOf, Begins, refuses, starts}
+use Rattle.replay.specs.Laws.Tables.{without-bad-valid, without-bad-replayed}
 use Rattle.replay.specs.declared.progress.Stop.{Stop}
 use Rattle.replay.specs.declared.progress.Stop.the-variants.{End, FileRefused, TraceTooLong, MemoryShort}
 use Rattle.replay.specs.declared.progress.Progress.{Progress}
@@ -51,9 +48,9 @@ abbrev startOf : Tables → RunRecord
 startOf T = startsWith (T .machines)
 
 -- A REFUSAL, and what is replied to it
-module _ (bytes s : List ℕ) (n : ℕ) (r : RunRecord) (why : Stop) (T : Tables) {p : Progress} {b : Begun} (refusing : p ≡ refusedBy why)
+module _ (bytes s : List ℕ) (n : ℕ) (r : RunRecord) (why : Stop) (T : Tables) {p : Progress} {b : Begun} {U : Tables} (refusing : p ≡ refusedBy why)
     (made : b ≡ begunOf r T p) where
-  begins-refused : ((mem : List ℕ) → length mem ≡ n → replayOf bytes s mem r ≡ turnedAway (saidStop why) r mem) → Begins bytes s n r b
+  begins-refused : ((mem : List ℕ) → length mem ≡ n → replayOf bytes s mem r ≡ turnedAway (saidStop why) r mem) → Begins bytes s n r b U
   begins-refused e =
       refuses (ap (λ x. x .progress .going) is) (ap (λ x. x .«record») is) (ap (λ x. x .progress .steps) is)
       (λ mem l. e mem l ∙ ap (λ x. turnedAway (saidStop (x .progress .why)) r mem) (sym is))
@@ -61,27 +58,27 @@ module _ (bytes s : List ℕ) (n : ℕ) (r : RunRecord) (why : Stop) (T : Tables
       is : b ≡ begunOf r T (refusedBy why)
       is = made ∙ ap (begunOf r T) refusing
 
-  begin-unread : (k q : ℕ) → readFile bytes ≡ refused k q → saidStop why ≡ file k q → Begins bytes s n r b
+  begin-unread : (k q : ℕ) → readFile bytes ≡ refused k q → saidStop why ≡ file k q → Begins bytes s n r b U
   unfolding replayOf
   begin-unread k q e w = begins-refused (λ mem _. ap (λ x. replayTo x s mem r) e ∙ ap (λ x. turnedAway x r mem) (sym w))
 
-  module _ {U : Tables} {next : ℕ} (e : readFile bytes ≡ got U next) where
-    begin-long : mostBytes < length s → saidStop why ≡ trace 1 mostBytes → Begins bytes s n r b
+  module _ {T₀ : Tables} {next : ℕ} (e : readFile bytes ≡ got T₀ next) where
+    begin-long : mostBytes < length s → saidStop why ≡ trace 1 mostBytes → Begins bytes s n r b U
     unfolding replayOf
     begin-long h w =
         begins-refused
         (λ mem _.
         ap (λ x. replayTo x s mem r) e
-        ∙ ap (λ x. lentTo x (leb (U .queues .count * room) (length mem)) U s mem r) (lt-leb (length s) mostBytes h)
+        ∙ ap (λ x. lentTo x (leb (T₀ .queues .count * room) (length mem)) T₀ s mem r) (lt-leb (length s) mostBytes h)
         ∙ ap (λ x. turnedAway x r mem) (sym w))
 
-    begin-short : length s ≤ mostBytes → n < U .queues .count * room → saidStop why ≡ memory 2 0 → Begins bytes s n r b
+    begin-short : length s ≤ mostBytes → n < T₀ .queues .count * room → saidStop why ≡ memory 2 0 → Begins bytes s n r b U
     unfolding replayOf
     begin-short h l w =
         begins-refused
         (λ mem long.
         ap (λ x. replayTo x s mem r) e
-        ∙ ap₂ (λ x y. lentTo x y U s mem r) (le-leb (length s) mostBytes h) (lt-leb (U .queues .count * room) (length mem) (omega arith))
+        ∙ ap₂ (λ x y. lentTo x y T₀ s mem r) (le-leb (length s) mostBytes h) (lt-leb (T₀ .queues .count * room) (length mem) (omega arith))
         ∙ ap (λ x. turnedAway x r mem) (sym w))
 
 -- THE START
@@ -119,52 +116,37 @@ module _ (T : Tables) (v : Valid T) where
         enough = enough;
       }
 
-  -- the session that is replayed is the file's, less its bad entries, which no replay looks at
-  view-replayed : (s : List ℕ) → replayed (sessionIn (frameOf T) (flatOf T)) s ≡ replayed (sessionOf T) s
-  view-replayed s =
-      ap (λ U. replayed (sessionOf U) s) (view-is T (valid-sized v))
-      ∙ replayed-without-bad (sessionOf T .model) (sessionOf T .pool) (sessionOf T .root) (sessionOf (goodTables T (valid-sized v)) .bad) (sessionOf T .bad) s
-
 begin-replay : (bytes s : List ℕ) (n : ℕ) (r : RunRecord) {T : Tables} {next : ℕ} → readFile bytes ≡ got T next → length s ≤ mostBytes
-    → T .queues .count * room ≤ n → (p : Progress) → p .going ≡ true → p .at ≡ 0 → p .steps ≡ 0 → Begins bytes s n r (begunOf (startOf T) T p)
+    → T .queues .count * room ≤ n → (p : Progress) → p .going ≡ true → p .at ≡ 0 → p .steps ≡ 0 → Begins bytes s n r (begunOf (startOf T) T p) (withoutBad T)
 unfolding replayOf
 begin-replay bytes s n r {T} {next} e h l p g at steps = starts g (λ mem long. (ready mem long, is mem long))
   where
     v : Valid T
     v = valid bytes e
 
-    ready : (mem : List ℕ) → length mem ≡ n → Ready (frameOf T) (flatOf T) s (state (startOf T) mem p)
+    ready : (mem : List ℕ) → length mem ≡ n → Ready (withoutBad T) s (state (startOf T) mem p)
     ready mem long =
         record {
-          valid = view-valid T v;
-          flatLong = flat-long T (valid-sized v);
+          valid = without-bad-valid T v;
           holds = start-holds T v mem (omega arith);
           most = h;
           within = omega arith;
           counted = omega arith;
         }
 
-    all : (mem : List ℕ) → rest (frameOf T) (flatOf T) s (state (startOf T) mem p) ≡ replayed (sessionOf T) s
+    all : (mem : List ℕ) → rest (withoutBad T) s (state (startOf T) mem p) ≡ replayed (sessionOf T) s
     all mem =
-        ap₂ (λ k a. replayFrom (sessionIn (frameOf T) (flatOf T)) s (length s - k) k a (configOf (T .machines) (T .queues) (startOf T) mem)) steps at
-        ∙ ap₂ (λ k γ. replayFrom (sessionIn (frameOf T) (flatOf T)) s k 0 0 γ) (sub-zero (length s)) (start-is T v mem)
-        ∙ view-replayed T v s
+        ap₂ (λ k a. replayFrom (sessionOf (withoutBad T)) s (length s - k) k a (configOf (T .machines) (T .queues) (startOf T) mem)) steps at
+        ∙ ap₂ (λ k γ. replayFrom (sessionOf (withoutBad T)) s k 0 0 γ) (sub-zero (length s)) (start-is T v mem)
+        ∙ without-bad-replayed T s
 
-    is : (mem : List ℕ) → length mem ≡ n
-        → replayOf bytes s mem r ≡ ranTo (view (frameOf T) (flatOf T)) mem (rest (frameOf T) (flatOf T) s (state (startOf T) mem p))
+    is : (mem : List ℕ) → length mem ≡ n → replayOf bytes s mem r ≡ ranTo (withoutBad T) mem (rest (withoutBad T) s (state (startOf T) mem p))
     is mem long =
         ap (λ x. replayTo x s mem r) e
         ∙ ap₂ (λ x y. lentTo x y T s mem r) (le-leb (length s) mostBytes h) (le-leb (T .queues .count * room) (length mem) (omega arith))
         ∙ ap (ranTo T mem) (sym (all mem))
 
 -- THE BEGINNING of what was read, whatever it was
-pub reads-sized : (bytes : List ℕ) {R : Reading} → Reads (readFile bytes) R → Sized (R .tables)
-reads-sized bytes {R} h = sized (readFile bytes) refl h
-  where
-    sized : (x : Part Tables) → readFile bytes ≡ x → Reads x R → Sized (R .tables)
-    sized (got T next) e h′ = subst Sized (sym (h′ .tables)) (valid-sized (valid bytes e))
-    sized (refused k q) e h′ = empty-sized (h′ .tables)
-
 module _ (bytes s : List ℕ) (n : ℕ) (r : RunRecord) (R : Reading) (reads : Reads (readFile bytes) R) where
   abbrev T : Tables
   T = R .tables
@@ -175,23 +157,23 @@ module _ (bytes s : List ℕ) (n : ℕ) (r : RunRecord) (R : Reading) (reads : R
   readAs : (a : R .answer ≡ Read) → readFile bytes ≡ got T (answer-read (readFile bytes) R reads (ap saidAnswer a) .0)
   readAs a = answer-read (readFile bytes) R reads (ap saidAnswer a) .1
 
-  pub begins : {p : Progress} {b : Begun} → Opens (R .answer) (T .queues .count) (length s) n p → b ≡ begunFor p p → Begins bytes s n r b
+  pub begins : {p : Progress} {b : Begun} → Opens (R .answer) (T .queues .count) (length s) n p → b ≡ begunFor p p → Begins bytes s n r b (withoutBad T)
   begins {p} (unread why a e) made =
       begin-unread bytes s n r (FileRefused why) T e (made ∙ ap (λ q. begunFor q p) e) (numberOf why) (placeOf why) (answer-refused (readFile bytes) R reads _ _ (ap saidAnswer a)) refl
   begins {p} (tooLong a h e) made = begin-long bytes s n r TraceTooLong T e (made ∙ ap (λ q. begunFor q p) e) (readAs a) h refl
   begins {p} (tooShort a h l e) made = begin-short bytes s n r MemoryShort T e (made ∙ ap (λ q. begunFor q p) e) (readAs a) h l refl
   begins {p} (opened a h l e) made =
-      subst (Begins bytes s n r) (sym (made ∙ ap (λ q. begunFor q q) e))
+      subst (λ c. Begins bytes s n r c (withoutBad T)) (sym (made ∙ ap (λ q. begunFor q q) e))
       (begin-replay bytes s n r (readAs a) h l (record { going = true; why = End; at = 0; steps = 0 }) refl refl refl)
 
 -- WHAT THE LOOP NEEDS of a beginning, and what both together promise
-pub begins-ready : {bytes s : List ℕ} {n : ℕ} {r : RunRecord} {b : Begun} → Begins bytes s n r b → (mem : List ℕ) → length mem ≡ n
-    → b .progress .going ≡ true → Ready (b .frame) (b .flat) s (state (b .«record») mem (b .progress))
+pub begins-ready : {bytes s : List ℕ} {n : ℕ} {r : RunRecord} {b : Begun} {T : Tables} → Begins bytes s n r b T → (mem : List ℕ) → length mem ≡ n
+    → b .progress .going ≡ true → Ready T s (state (b .«record») mem (b .progress))
 begins-ready (refuses idle same none-taken e) mem long g = false-not-true idle g
 begins-ready (starts going h) mem long g = h mem long .0
 
-pub replays : {bytes s mem : List ℕ} {r : RunRecord} {b : Begun} {r₁ : RunRecord} {mem₁ : List ℕ} {p₁ : Progress}
-    → Begins bytes s (length mem) r b → Ran (b .frame) (b .flat) s (state (b .«record») mem (b .progress)) (state r₁ mem₁ p₁)
+pub replays : {bytes s mem : List ℕ} {r : RunRecord} {b : Begun} {T : Tables} {r₁ : RunRecord} {mem₁ : List ℕ} {p₁ : Progress}
+    → Begins bytes s (length mem) r b T → Ran T s (state (b .«record») mem (b .progress)) (state r₁ mem₁ p₁)
     → Replays bytes s mem r (endedOf p₁) r₁ mem₁
 replays {mem = mem} (refuses idle same none-taken e) R =
     let stays = R .idle idle in

@@ -13,12 +13,14 @@ use Rattle.numbers.specs.Laws.Ranges.{below-range}
 use Rattle.numbers.specs.declared.refusal.Refusal.{Refusal}
 use Rattle.model.specs.Model.{Configuration, take?}
 use Rattle.model.specs.Session.{Session, inside}
+use Rattle.meaning.specs.Tables.{sessionOf}
 use Rattle.meaning.specs.Laws.Rows.{transitions-length}
 use Rattle.trace.specs.Rules.{Why, end, outside, refusal}
 use Rattle.trace.specs.Replay.{Turn, stops, kept, moved, turn}
 use Rattle.trace.specs.Laws.Turns.{turn-outside, turn-end, turn-unread}
 use Rattle.stepping.specs.Frame.{modelIn, insideOf}
 use Rattle.tables.specs.Valid.{MachinesValid, QueuesValid}
+use Rattle.tables.specs.declared.tables.Tables.{Tables}
 use Rattle.stepping.specs.Configurations.{runOf, configOf, Holds, Settleable}
 use Rattle.stepping.specs.Laws.Settling.{record-is}
 use Rattle.stepping.specs.Inside.{Mapped}
@@ -26,9 +28,9 @@ use Rattle.stepping.specs.Taking.{Takeable, Stays, Takes}
 use Rattle.stepping.specs.declared.frame.Frame.{Frame}
 use Rattle.stepping.specs.declared.runs.RunRecord.{RunRecord}
 use Rattle.stepping.specs.declared.taking.Took.the-variants.{Yes, NotPossible, NoRoom}
-use Rattle.replay.specs.Flat.{rowsIn, finalsIn, arcsIn, rootsIn}
+use Rattle.replay.specs.Tables.{frameOf}
 use Rattle.replay.specs.Reply.{ran, saidStop}
-use Rattle.replay.specs.Run.{State, state, sessionIn, stands, Ready, Turned, on, off, Stepped, Stopped, Ends, TurnAsked}
+use Rattle.replay.specs.Run.{State, state, stands, Ready, Turned, on, off, Stepped, Stopped, Ends, TurnAsked}
 use Rattle.replay.specs.declared.progress.Stop.{Stop}
 use Rattle.replay.specs.declared.progress.Stop.the-variants.{End, Outside, Unread}
 use Rattle.replay.specs.declared.progress.Progress.{Progress}
@@ -89,11 +91,14 @@ module _ (S : Session) (s : List ℕ) (at : ℕ) (γ : Configuration) where
   turn-is i h e = rw (i, lt-ltb at (length s) h, e)
 
 -- WHAT A STEP'S STATE GIVES to its parts
-module _ {f : Frame} {flat s : List ℕ} {x : State} (R : Ready f flat s x) where
-  pub transitions-counted : length (sessionIn f flat .model .transitions) ≡ f .transitions
-  transitions-counted = transitions-length (rowsIn flat) (f .transitions) 0
+module _ {T : Tables} {s : List ℕ} {x : State} (R : Ready T s x) where
+  abbrev f : Frame
+  f = frameOf T
 
-  pub ready-mapped : Mapped f (finalsIn flat) (arcsIn flat) (rootsIn flat) (x .lent) (x .memory)
+  pub transitions-counted : length (sessionOf T .model .transitions) ≡ T .transitions .count
+  transitions-counted = transitions-length (T .transitions .rows) (T .transitions .count) 0
+
+  pub ready-mapped : Mapped f (T .pool .finals) (T .pool .arcs) (T .map .roots) (x .lent) (x .memory)
   ready-mapped =
       record {
         machines = R .valid .machines;
@@ -103,7 +108,7 @@ module _ {f : Frame} {flat s : List ℕ} {x : State} (R : Ready f flat s x) wher
         holds = R .holds;
       }
 
-  pub ready-takeable : {i : ℕ} → i < f .transitions → Takeable f (rowsIn flat) (x .lent) (x .memory) i
+  pub ready-takeable : {i : ℕ} → i < f .transitions → Takeable f (T .transitions .rows) (x .lent) (x .memory) i
   ready-takeable h =
       record {
         machines = R .valid .machines;
@@ -114,39 +119,39 @@ module _ {f : Frame} {flat s : List ℕ} {x : State} (R : Ready f flat s x) wher
       }
 
   abbrev isInside : Bool
-  isInside = insideOf f (finalsIn flat) (arcsIn flat) (rootsIn flat) (stands f x)
+  isInside = insideOf f (T .pool .finals) (T .pool .arcs) (T .map .roots) (stands f x)
 
-  pub stepped-outside : {y : State} → false ≡ isInside → Stopped f x Outside y → Stepped f flat s x y
+  pub stepped-outside : {y : State} → false ≡ isInside → Stopped f x Outside y → Stepped T s x y
   stepped-outside i S =
-      record { turned = turned-off outside (turn-outside (sessionIn f flat) s (x .progress .at) (stands f x) (sym i)) refl S }
+      record { turned = turned-off outside (turn-outside (sessionOf T) s (x .progress .at) (stands f x) (sym i)) refl S }
 
-  pub stepped-end : {y : State} → true ≡ isInside → length s ≤ x .progress .at → Stopped f x End y → Stepped f flat s x y
+  pub stepped-end : {y : State} → true ≡ isInside → length s ≤ x .progress .at → Stopped f x End y → Stepped T s x y
   stepped-end i h S =
-      record { turned = turned-off end (turn-end (sessionIn f flat) s (x .progress .at) (stands f x) (sym i) h) refl S }
+      record { turned = turned-off end (turn-end (sessionOf T) s (x .progress .at) (stands f x) (sym i) h) refl S }
 
   pub stepped-unread : {y : State} {why : Refusal} → true ≡ isInside → x .progress .at < length s
-      → refused (numberOf why) (placeOf why) ≡ readBelow s (x .progress .at) (f .transitions) → Stopped f x (Unread why) y → Stepped f flat s x y
+      → refused (numberOf why) (placeOf why) ≡ readBelow s (x .progress .at) (f .transitions) → Stopped f x (Unread why) y → Stepped T s x y
   stepped-unread {why = why} i h e S =
       record {
         turned =
             turned-off (refusal (numberOf why) (placeOf why))
-            (turn-unread (sessionIn f flat) s (x .progress .at) (stands f x) (sym i) h
+            (turn-unread (sessionOf T) s (x .progress .at) (stands f x) (sym i) h
             (ap (readBelow s (x .progress .at)) transitions-counted ∙ sym e)) refl S;
       }
 
   pub stepped-taken : {t next : ℕ} {y : State} → true ≡ isInside → x .progress .at < length s
       → got t next ≡ readBelow s (x .progress .at) (f .transitions)
-      → Turned f (moved (x .progress .at) next (take? (modelIn f (rowsIn flat)) t (stands f x))) x y → Stepped f flat s x y
-  stepped-taken i h e T =
+      → Turned f (moved (x .progress .at) next (take? (modelIn f (T .transitions .rows)) t (stands f x))) x y → Stepped T s x y
+  stepped-taken i h e t =
       record {
         turned =
             turned-as
-            (turn-is (sessionIn f flat) s (x .progress .at) (stands f x) (sym i) h
-            (ap (readBelow s (x .progress .at)) transitions-counted ∙ sym e)) T;
+            (turn-is (sessionOf T) s (x .progress .at) (stands f x) (sym i) h
+            (ap (readBelow s (x .progress .at)) transitions-counted ∙ sym e)) t;
       }
 
   -- the number that was read is a transition's
-  pub number-asked : {t next : ℕ} → got t next ≡ readBelow s (x .progress .at) (f .transitions) → TurnAsked f (rowsIn flat) x t
+  pub number-asked : {t next : ℕ} → got t next ≡ readBelow s (x .progress .at) (f .transitions) → TurnAsked f (T .transitions .rows) x t
   number-asked e =
       record {
         takeable = ready-takeable (below-range s (x .progress .at) (f .transitions) (sym e));

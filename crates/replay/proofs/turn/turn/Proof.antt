@@ -1,7 +1,7 @@
 use mathlib.Core.Path.{sym, ap, _∙_}
 use borrow.Author.Tests.{not-true, not-false}
 use Rattle.numbers.specs.Said.{saidField}
-use Rattle.replay.specs.Laws.Turn.{ready-mapped, stepped-outside, stepped-end, stepped-unread, stepped-taken, number-asked, held-stopped}
+use Rattle.replay.specs.Laws.Turn.{stepped-outside, stepped-end, stepped-unread, stepped-taken, number-asked, held-stopped}
 use borrow.Author.Needs.{needs}
 use Rattle.replay.proofs.turn.turn.Statement.{statement}
 use Rattle.replay.proofs.turn.turn.Tie as tie
@@ -13,134 +13,85 @@ use Rattle.replay.proofs.turn.stopped.Reads as stopped-reads
 use Rattle.replay.proofs.turn.taken.Reads as taken-reads
 use Rattle.stepping.proofs.inside.is_inside.Reads as is-inside-reads
 
--- src/turn.rt:88:18
-sub-finals : tie.Need-sub-finals
-sub-finals c = search needs
-
--- src/turn.rt:88:18
-part-finals-start : tie.Need-part-finals-start
-part-finals-start c = search needs
-
--- src/turn.rt:88:18
-part-finals-end : tie.Need-part-finals-end
-part-finals-end c = search needs
-
--- src/turn.rt:89:16
-sub-arcs : tie.Need-sub-arcs
-sub-arcs c = search needs
-
--- src/turn.rt:89:16
-part-arcs-start : tie.Need-part-arcs-start
-part-arcs-start c = search needs
-
--- src/turn.rt:89:16
-part-arcs-end : tie.Need-part-arcs-end
-part-arcs-end c = search needs
-
--- src/turn.rt:90:17
-sub-roots : tie.Need-sub-roots
-sub-roots c = search needs
-
--- src/turn.rt:90:17
-part-roots-start : tie.Need-part-roots-start
-part-roots-start c = search needs
-
--- src/turn.rt:90:17
-part-roots-end : tie.Need-part-roots-end
-part-roots-end c = search needs
-
--- src/turn.rt:91:9
+-- src/turn.rt:85:9
 is-inside-requires : tie.Need-is-inside-requires
-is-inside-requires c κs = ready-mapped (c .before .before .before .before .before .before .before .before .before .before .pre)
+is-inside-requires c κs = search needs
 
--- src/turn.rt:92:9
+-- src/turn.rt:86:9
 stopped-requires : tie.Need-stopped-requires
 stopped-requires c κs = search needs
 
--- src/turn.rt:92:9
+-- src/turn.rt:86:9
 same-length : tie.Need-same-length
 same-length c = search needs
 
--- src/turn.rt:92:9
+-- src/turn.rt:86:9
 returns : tie.Need-returns
 returns c = let R = c .before .before .before .before .before .before .before .before .before .before .before .before .before .before .before .before .before .before .pre in
     stepped-outside R (sym (not-true _ (c .before .before .before .before .before .before .if1 .taken)) ∙ c .before .before .before .before .before .before .before .is-inside .ensures) (held-stopped (R .valid .machines) (R .valid .queues) (R .holds) (c .before .before .stopped .ensures))
 
--- src/turn.rt:96:9
+-- src/turn.rt:90:9
 stopped-requires-2 : tie.Need-stopped-requires-2
 stopped-requires-2 c κs = search needs
 
--- src/turn.rt:96:9
+-- src/turn.rt:90:9
 same-length-2 : tie.Need-same-length-2
 same-length-2 c = search needs
 
--- src/turn.rt:96:9
+-- src/turn.rt:90:9
 returns-2 : tie.Need-returns-2
 returns-2 c = let R = c .before .before .before .before .before .before .before .before .before .before .before .before .before .before .before .before .before .before .before .pre in
     stepped-end R (sym (not-false _ (c .before .before .before .before .before .before .before .if1 .left)) ∙ c .before .before .before .before .before .before .before .before .is-inside .ensures) (c .before .before .before .before .before .before .if2 .taken) (held-stopped (R .valid .machines) (R .valid .queues) (R .holds) (c .before .before .stopped2 .ensures))
 
--- src/turn.rt:98:33
+-- src/turn.rt:92:33
 wide-requires : tie.Need-wide-requires
 wide-requires c κs = search needs
 
--- src/turn.rt:98:11
+-- src/turn.rt:92:11
 read-below-requires : tie.Need-read-below-requires
 read-below-requires c κs = search needs
 
--- src/turn.rt:99:24
+-- src/turn.rt:93:24
 enum-known-why : tie.Need-enum-known-why
 enum-known-why c = search needs
 
--- src/turn.rt:99:32
+-- src/turn.rt:93:32
 stopped-requires-3 : tie.Need-stopped-requires-3
 stopped-requires-3 c κs = search needs
 
--- src/turn.rt:100:22
+-- src/turn.rt:94:22
 enum-known-i : tie.Need-enum-known-i
 enum-known-i c = search needs
 
--- src/turn.rt:100:67
-slice-aggregate-taken : tie.Need-slice-aggregate-taken
-slice-aggregate-taken c = search needs
-
--- src/turn.rt:100:98
+-- src/turn.rt:94:84
 wide-requires-2 : tie.Need-wide-requires-2
 wide-requires-2 c κs = search needs
 
--- src/turn.rt:100:34
+-- src/turn.rt:94:34
 taken-requires : tie.Need-taken-requires
-taken-requires c κs = rw (c .wide2 .ensures .same) (number-asked (c .before .before .before .before .before .before .before .before .before .before .before .before .before .before .before .before .before .before .before .before .before .before .before .before .pre) (sym (ap saidField (c .before .before .before .before .before .before .before .i .given .1)) ∙ rw (c .before .before .before .before .before .before .before .before .before .before .wide .ensures .same) at (c .before .before .before .before .before .before .before .before .before .read-below .ensures)))
+taken-requires c κs = rw (c .wide2 .ensures .same) (number-asked (c .before .before .before .before .before .before .before .before .before .before .before .before .before .before .before .before .before .before .before .before .before .before .before .pre) (sym (ap saidField (c .before .before .before .before .before .before .i .given .1)) ∙ rw (c .before .before .before .before .before .before .before .before .before .wide .ensures .same) at (c .before .before .before .before .before .before .before .before .read-below .ensures)))
 
--- src/turn.rt:75:1
+-- src/turn.rt:69:1
 same-length-3 : tie.Need-same-length-3
 same-length-3 c = search needs
 
--- src/turn.rt:75:1
+-- src/turn.rt:69:1
 returns-3 : tie.Need-returns-3
 returns-3 c = let R = c .before .before .before .before .before .before .before .before .before .before .before .before .before .before .before .before .before .before .before .before .before .before .before .before .pre in
     stepped-unread R (sym (not-false _ (c .before .before .before .before .before .before .before .before .before .before .before .before .if1 .left)) ∙ c .before .before .before .before .before .before .before .before .before .before .before .before .before .is-inside .ensures) (c .before .before .before .before .before .before .before .before .before .before .before .if2 .left) (sym (ap saidField (c .before .before .before .before .before .before .before .why .given .1)) ∙ rw (c .before .before .before .before .before .before .before .before .before .before .wide .ensures .same) at (c .before .before .before .before .before .before .before .before .before .read-below .ensures)) (held-stopped (R .valid .machines) (R .valid .queues) (R .holds) (c .before .before .stopped3 .ensures))
 
--- src/turn.rt:75:1
+-- src/turn.rt:69:1
 same-length-4 : tie.Need-same-length-4
 same-length-4 c = search needs
 
--- src/turn.rt:75:1
+-- src/turn.rt:69:1
 returns-4 : tie.Need-returns-4
-returns-4 c = stepped-taken (c .before .before .before .before .before .before .before .before .before .before .before .before .before .before .before .before .before .before .before .before .before .before .before .before .before .before .before .pre) (sym (not-false _ (c .before .before .before .before .before .before .before .before .before .before .before .before .before .before .before .if1 .left)) ∙ c .before .before .before .before .before .before .before .before .before .before .before .before .before .before .before .before .is-inside .ensures) (c .before .before .before .before .before .before .before .before .before .before .before .before .before .before .if2 .left) (sym (ap saidField (c .before .before .before .before .before .before .before .before .before .before .i .given .1)) ∙ rw (c .before .before .before .before .before .before .before .before .before .before .before .before .before .wide .ensures .same) at (c .before .before .before .before .before .before .before .before .before .before .before .before .read-below .ensures)) (rw (c .before .before .before .wide2 .ensures .same) at (c .before .before .taken .ensures))
+returns-4 c = stepped-taken (c .before .before .before .before .before .before .before .before .before .before .before .before .before .before .before .before .before .before .before .before .before .before .before .before .before .before .pre) (sym (not-false _ (c .before .before .before .before .before .before .before .before .before .before .before .before .before .before .if1 .left)) ∙ c .before .before .before .before .before .before .before .before .before .before .before .before .before .before .before .is-inside .ensures) (c .before .before .before .before .before .before .before .before .before .before .before .before .before .if2 .left) (sym (ap saidField (c .before .before .before .before .before .before .before .before .before .i .given .1)) ∙ rw (c .before .before .before .before .before .before .before .before .before .before .before .before .wide .ensures .same) at (c .before .before .before .before .before .before .before .before .before .before .before .read-below .ensures)) (rw (c .before .before .before .wide2 .ensures .same) at (c .before .before .taken .ensures))
 
 pub turn-spec : {M : Type 1} → statement M
 turn-spec =
     tie.close
     (tie.spec
-    sub-finals
-    part-finals-start
-    part-finals-end
-    sub-arcs
-    part-arcs-start
-    part-arcs-end
-    sub-roots
-    part-roots-start
-    part-roots-end
     is-inside-requires
     stopped-requires
     same-length
@@ -153,7 +104,6 @@ turn-spec =
     enum-known-why
     stopped-requires-3
     enum-known-i
-    slice-aggregate-taken
     wide-requires-2
     taken-requires
     same-length-3
