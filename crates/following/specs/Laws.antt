@@ -2,3 +2,4 @@
 pub mod Follow
 pub mod Rows
 pub mod Words
+pub mod Standing

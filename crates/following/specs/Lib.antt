@@ -1,3 +1,4 @@
 pub mod Follow
+pub mod Standing
 pub mod Rows
 pub mod Laws

@@ -10,7 +10,7 @@ use Rattle.model.specs.Model.{Action, local, send, receive, firstOf}
 use Rattle.model.specs.Judge.{out, into, rootPair}
 use Rattle.meaning.specs.Tables.{actionOf}
 use Rattle.pairs.specs.Pairs.{afterSide, sideOf}
-use Rattle.following.specs.Follow.{wordOver}
+use Rattle.following.specs.Standing.{wordOver}
 use Rattle.items.specs.declared.start.Cut.{Cut}
 use Rattle.tables.specs.Rows.{wordEntry, kindAt, queueAt, lengthAt, wordAt}
 

@@ -14,7 +14,7 @@ use Rattle.model.specs.Model.{messages}
 use Rattle.model.specs.Session.{Session}
 use Rattle.model.specs.Diagram.{Pool, along, follow}
 use Rattle.model.specs.Verdict.{Pair, before, after}
-use Rattle.following.specs.Follow.{wordOver, WordWithin}
+use Rattle.following.specs.Standing.{wordOver, WordWithin}
 use Rattle.model.specs.Judge as Judge
 use Rattle.model.specs.Judge.{same, pair}
 use Rattle.pairs.specs.declared.pairs.Walk.{Walk}

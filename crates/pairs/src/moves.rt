@@ -3,7 +3,7 @@ use crate::pairs::AFTER;
 use crate::pairs::Node;
 use crate::pairs::Walk;
 use crate::pairs::code_of;
-use following::words::follow_word;
+use following::messages::follow_word;
 use tables::kinds::Message;
 use tables::kinds::Reached;
 use tables::lookup::Arc;

@@ -3,5 +3,4 @@ pub mod Waiting
 pub mod Each
 pub mod Rings
 pub mod Words
-pub mod Pieces
 pub mod Settle

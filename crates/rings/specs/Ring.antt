@@ -5,11 +5,11 @@ use mathlib.Core.Option.{Option, none, some}
 use mathlib.Core.List.{List, [], _∷_}
 use lib.ListN.{getD, set}
 use Rattle.trace.specs.Rules.{room}
+use Rattle.following.specs.Standing.{standing}
 
--- the n messages that wait in the ring at base, from place i on: places are taken round the ring
-unfoldable pub waiting : List ℕ → ℕ → ℕ → ℕ → List ℕ
-waiting mem base i zero = []
-waiting mem base i (suc n) = getD mem (base + i % room) 0 ∷ waiting mem base (i + 1) n
+-- the n messages that wait in the ring at base, from place i on
+abbrev pub waiting : List ℕ → ℕ → ℕ → ℕ → List ℕ
+waiting mem base i n = standing room mem base i n
 
 -- so many values of f, from q on
 abbrev pub each : (ℕ → List ℕ) → ℕ → ℕ → List (List ℕ)

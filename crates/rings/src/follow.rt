@@ -1,9 +1,9 @@
-// Where the messages that wait lead by the table of arcs: those of one ring, and those of all rings, queue 0 first.
+// Where the messages that wait lead by the table of arcs: those of all rings, queue 0 first.
 use crate::ROOM;
+use following::messages::follow;
 use following::rows::Row;
 use following::rows::row_of;
 use following::rows::state_of;
-use following::words::follow;
 use tables::kinds::Reached;
 use tables::tables::MOST_QUEUES;
 ghost use Prim.Native.Nat.{_≤_};
@@ -11,35 +11,9 @@ ghost use Rattle.model.specs.Model.{Between};
 ghost use Rattle.model.specs.Diagram.{word};
 ghost use Rattle.tables.specs.Limits.{mostMessages, mostPool};
 ghost use Rattle.tables.specs.Lookup.{ArcsSmall};
-ghost use Rattle.rings.specs.Ring.{waiting, rings};
+ghost use Rattle.rings.specs.Ring.{rings};
 ghost use Rattle.following.specs.Follow.{FollowsTo};
-ghost use Rattle.following.specs.Rows.{StateRow, RowFollows};
-ghost use Rattle.rings.specs.Lent.{Ring, Rings};
-
-// The row that what waits in the ring at base leads to: the messages up to the ring's last byte, and then those from its first byte on.
-fn follow_ring(
-    arcs: &[u8],
-    from: usize,
-    memory: &[u8],
-    base: usize,
-    head: usize,
-    count: usize,
-) -> Row
-    requires { ⌜ ArcsSmall (now arcs) ⌝ }
-    requires { ⌜ StateRow from ⌝ }
-    requires { ⌜ Ring (now memory) base head count ⌝ }
-    requires { ⌜ Between 0 mostMessages (waiting (now memory) base head count) ⌝ }
-    ensures { λ r. ⌜ RowFollows (now (arcs .entry)) from (waiting (now (memory .entry)) base head count) r ⌝ }
-{
-    let straight = ROOM - head;
-    if count <= straight {
-        return follow(arcs, from, memory, base + head, count);
-    }
-    let Row::At(row) = follow(arcs, from, memory, base + head, straight) else {
-        return Row::Nowhere;
-    };
-    follow(arcs, row, memory, base, count - straight)
-}
+ghost use Rattle.rings.specs.Lent.{Rings};
 
 // Where what waits in so many rings leads. Between rings, too, a state is its row.
 pub fn follow_rings(
@@ -62,7 +36,7 @@ pub fn follow_rings(
     let mut row = row_of(from.state());
     let mut q: usize = 0;
     while q < count {
-        let Row::At(next) = follow_ring(arcs, row, memory, q * ROOM, heads[q], lengths[q]) else {
+        let Row::At(next) = follow(arcs, row, memory, q * ROOM, ROOM, heads[q], lengths[q]) else {
             return Reached::nowhere();
         };
         row = next;

@@ -13,7 +13,7 @@ use Rattle.pairs.specs.declared.pairs.Walk.{Walk}
 use Rattle.walk.specs.declared.edges.Edge.{Edge}
 use Rattle.pairs.specs.Pairs.{decode}
 use Rattle.pairs.specs.Marks.{Tables}
-use Rattle.following.specs.Follow.{wordOver}
+use Rattle.following.specs.Standing.{wordOver}
 use Rattle.pairs.specs.Over.{goOver}
 
 -- the place of the parent of the pair at place k

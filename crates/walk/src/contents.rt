@@ -5,7 +5,7 @@ ghost use mathlib.Core.Path.{_≡_};
 ghost use mathlib.Core.List.{_++_, reverse};
 ghost use Prim.Native.Nat.{_+_, _≤_};
 ghost use lib.ListN.{length, take, drop};
-ghost use Rattle.following.specs.Follow.{wordOver, WordWithin};
+ghost use Rattle.following.specs.Standing.{wordOver, WordWithin};
 ghost use Rattle.pairs.specs.Over.{Lent};
 ghost use Rattle.walk.specs.Shown.{partOver, shownOver, Placed, Laid, Shown};
 ghost use Rattle.meaning.specs.Checking.{contentsLeast};

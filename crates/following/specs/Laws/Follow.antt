@@ -1,4 +1,4 @@
--- Where the messages of a word lead, one after the other and queue after queue.
+-- Where the messages of a word lead, one after the other and word after word.
 use Prim.Native.Nat.{ℕ, _≤_, _<_}
 use mathlib.Core.Path.{_≡_, refl, sym, ap, subst, _∙_}
 use mathlib.Core.Option.{Option, none, some}
@@ -9,9 +9,9 @@ use Rattle.tables.specs.Kinds.{reachedOf}
 use Rattle.tables.specs.Pool.{arcAt}
 use Rattle.tables.specs.Lookup.{alongArc, AlongTo}
 use Rattle.tables.specs.Laws.Lookup.{reached-nowhere}
-use Rattle.model.specs.Model.{total, Between, message, Own}
-use Rattle.model.specs.Diagram.{Pool, follow, word}
-use Rattle.model.specs.Laws.Queues.{between-wide, between-front, between-back, word-between}
+use Rattle.model.specs.Model.{Between, message}
+use Rattle.model.specs.Diagram.{Pool, follow}
+use Rattle.model.specs.Laws.Queues.{between-front, between-back}
 use Rattle.following.specs.Follow.{followArcs, FollowsTo}
 
 pub follow-none : (arcs u : List ℕ) → followArcs arcs none u ≡ none
@@ -33,10 +33,6 @@ follow-is P arcs same none (m ∷ u) (message l h b) = follow-is P arcs same non
 follow-is P arcs same (some s) (m ∷ u) (message l h b) =
     ap (λ y. followArcs arcs y u) (sym (same s m h)) ∙ follow-is P arcs same (P .arc s m) u b
 
--- the messages of queues that have messages of their own
-pub own-small : {ns : List ℕ} {qs : List (List ℕ)} → total ns ≤ mostMessages → Own 0 ns qs → Between 0 mostMessages (word qs)
-own-small {ns} h own = between-wide (omega arith) (omega arith) (word-between own)
-
 -- UNDERWAY from t through u: s is reached, and the messages of v are left
 pub record Following (arcs : List ℕ) (t : ℕ) (u : List ℕ) (s : ℕ) (v : List ℕ) : Type 0 where
   pub is : followArcs arcs (reachedOf s) v ≡ followArcs arcs (reachedOf t) u
@@ -50,7 +46,7 @@ follow-begin {arcs} {u} {v} {t} h b e = record { is = ap (followArcs arcs (reach
 pub state-some : {s : ℕ} → s < mostPool → s ≡ mostPool → ⊥
 state-some h e = omega arith
 
-pub between-first : {lo hi m : ℕ} {u : List ℕ} → Between lo hi (m ∷ u) → m < hi
+between-first : {lo hi m : ℕ} {u : List ℕ} → Between lo hi (m ∷ u) → m < hi
 between-first (message a b c) = b
 
 module _ {arcs u : List ℕ} {t s : ℕ} {v : List ℕ} (f : Following arcs t u s v) where
@@ -67,12 +63,12 @@ module _ {arcs u : List ℕ} {t s : ℕ} {v : List ℕ} (f : Following arcs t u 
         small = between-back (m ∷ []) rest (subst (Between 0 mostMessages) e (f .small));
       }
 
-  -- the messages of a queue
-  pub queue-small : (w rest : List ℕ) → v ≡ w ++ rest → Between 0 mostMessages w
-  queue-small w rest e = between-front w rest (subst (Between 0 mostMessages) e (f .small))
+  -- the messages before others
+  pub front-small : (w rest : List ℕ) → v ≡ w ++ rest → Between 0 mostMessages w
+  front-small w rest e = between-front w rest (subst (Between 0 mostMessages) e (f .small))
 
-  pub follow-queue : {r : ℕ} (w rest : List ℕ) → v ≡ w ++ rest → FollowsTo arcs s w r → Following arcs t u r rest
-  follow-queue {r} w rest e a =
+  pub follow-front : {r : ℕ} (w rest : List ℕ) → v ≡ w ++ rest → FollowsTo arcs s w r → Following arcs t u r rest
+  follow-front {r} w rest e a =
       record {
         is =
             ap (λ x. followArcs arcs x rest) (a .is) ∙ sym (follow-append arcs (reachedOf s) w rest)
@@ -101,11 +97,5 @@ module _ {arcs u : List ℕ} {t s : ℕ} {v : List ℕ} (f : Following arcs t u 
 pub follows-as : {arcs u : List ℕ} {t t′ r r′ : ℕ} → t ≡ t′ → r′ ≡ r → FollowsTo arcs t u r → FollowsTo arcs t′ u r′
 follows-as {arcs} {u} e h l = record { is = ap reachedOf h ∙ l .is ∙ ap (λ k. followArcs arcs (reachedOf k) u) e; most = omega (arith, l .most) }
 
--- one word after another
-pub follows-both : {arcs u v : List ℕ} {t s r : ℕ} → FollowsTo arcs t u s → FollowsTo arcs s v r → FollowsTo arcs t (u ++ v) r
-follows-both {arcs} {u} {v} {t} f g =
-    record { is = g .is ∙ ap (λ x. followArcs arcs x v) (f .is) ∙ sym (follow-append arcs (reachedOf t) u v); most = g .most }
-
-pub follows-lost : {arcs u : List ℕ} (v : List ℕ) {t : ℕ} → FollowsTo arcs t u mostPool → FollowsTo arcs t (u ++ v) mostPool
-follows-lost {arcs} v f =
-    follows-both f (record { is = reached-nowhere refl ∙ sym (follow-none arcs v) ∙ sym (ap (λ x. followArcs arcs x v) (reached-nowhere refl)); most = f .most })
+pub follows-word : {arcs u v : List ℕ} {t r : ℕ} → u ≡ v → FollowsTo arcs t u r → FollowsTo arcs t v r
+follows-word {arcs} {t = t} {r} e l = subst (λ w. FollowsTo arcs t w r) e l

@@ -3,7 +3,7 @@ use Prim.Native.Nat.{ℕ, _+_, _-_, _*_, _<_}
 use mathlib.Core.Path.{_≡_, refl, sym, ap, subst, _∙_}
 use mathlib.Core.Bool.{Bool, true, false, cond}
 use mathlib.Core.Option.{none, some}
-use mathlib.Core.List.{List, _++_}
+use mathlib.Core.List.{List}
 use native.Mathlib.Omega.{arith}
 use lib.Dec.{eqb}
 use borrow.Author.Tests.{eq-eqb, ne-eqb}
@@ -13,7 +13,6 @@ use Rattle.tables.specs.Limits.{mostMessages, mostPool}
 use Rattle.tables.specs.Pool.{arcAt}
 use Rattle.model.specs.Laws.Basics.{none-not-some}
 use Rattle.following.specs.Follow.{FollowsTo}
-use Rattle.following.specs.Laws.Follow.{follows-both}
 use Rattle.following.specs.Rows.{rowOf, saidRow, RowTo, stateAt, StateRow, followedTo, RowFollows}
 use Rattle.following.specs.declared.rows.Row.{Row}
 use Rattle.following.specs.declared.rows.Row.the-variants.{At, Nowhere}
@@ -69,9 +68,3 @@ module _ {arcs u : List ℕ} {row : ℕ} {r : Row} (R : RowFollows arcs row u r)
 
   pub followed-nowhere : r ≡ Nowhere → FollowsTo arcs (stateAt row) u mostPool
   followed-nowhere z = subst (followedTo arcs row u) z (R .is)
-
--- one word after another
-pub followed-both : {arcs u v : List ℕ} {row next : ℕ} (r : Row) → FollowsTo arcs (stateAt row) u (stateAt next) → RowFollows arcs next v r
-    → RowFollows arcs row (u ++ v) r
-followed-both (At last) f R = record { is = (R .is .0, follows-both f (R .is .1)) }
-followed-both Nowhere f R = record { is = follows-both f (R .is) }

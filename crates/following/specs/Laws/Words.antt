@@ -4,14 +4,12 @@ use mathlib.Core.Path.{_≡_, sym, ap, ap₂, subst, _∙_}
 use mathlib.Core.List.{List, [], _∷_}
 use native.Mathlib.Omega.{arith}
 use native.Mathlib.Nat.{sub-zero, add-zero, sub-eq-zero-of-le}
-use lib.ListN.{length, getD, take, drop}
+use lib.ListN.{length, getD, take}
 use lib.Seq.{drop-cons}
 use Rattle.numbers.specs.Laws.Parts.{one-more}
 use Rattle.tables.specs.Limits.{mostMessages}
 use Rattle.model.specs.Model.{Between, nothing, message}
-use Rattle.model.specs.Laws.Queues.{between-back}
-use Rattle.following.specs.Follow.{wordOver, WordWithin}
-use Rattle.following.specs.Laws.Follow.{between-first}
+use Rattle.following.specs.Standing.{wordOver, WordWithin}
 
 -- WHAT IS LEFT of a word of n messages after i of them
 abbrev pub wordFrom : List ℕ → ℕ → ℕ → ℕ → List ℕ
@@ -36,24 +34,17 @@ module _ (table : List ℕ) (at n : ℕ) where
       ∙ ap (λ k. getD table k 0 ∷ []) (add-zero at)
 
 -- MESSAGES: one by one, and as a word
-first-of : (table : List ℕ) (at n : ℕ) → at + suc n ≤ length table → wordOver table at (suc n) ≡ getD table at 0 ∷ wordOver table (suc at) n
-first-of table at n h = ap (take (suc n)) (drop-cons table at 0 (omega arith))
+pub word-first : (table : List ℕ) (at n : ℕ) → at + suc n ≤ length table → wordOver table at (suc n) ≡ getD table at 0 ∷ wordOver table (suc at) n
+word-first table at n h = ap (take (suc n)) (drop-cons table at 0 (omega arith))
+
+all-small : (table : List ℕ) (at n : ℕ) → at + n ≤ length table → ((i : ℕ) → i < n → getD table (at + i) 0 < mostMessages)
+    → Between 0 mostMessages (wordOver table at n)
+all-small table at zero h each = nothing
+all-small table at (suc n) h each =
+    subst (Between 0 mostMessages) (sym (word-first table at n h))
+    (message (omega arith) (subst (λ k. getD table k 0 < mostMessages) (add-zero at) (each 0 (omega arith)))
+    (all-small table (suc at) n (omega arith)
+    (λ i l. subst (λ k. getD table k 0 < mostMessages) (let z : at + suc i ≡ suc at + i = omega arith in z) (each (suc i) (omega arith)))))
 
 pub word-small : (table : List ℕ) (at n : ℕ) → WordWithin table at n → Between 0 mostMessages (wordOver table at n)
-word-small table at zero w = nothing
-word-small table at (suc n) w =
-    let here : getD table (at + 0) 0 < mostMessages = w .messages 0 (omega arith) in
-    let rest : WordWithin table (suc at) n = record { within = omega (arith, w .within); messages = λ i h. subst (λ k. getD table k 0 < mostMessages) (let z : at + suc i ≡ suc at + i = omega arith in z) (w .messages (suc i) (omega arith)) } in
-    subst (Between 0 mostMessages) (sym (first-of table at n (w .within)))
-    (message (omega arith) (subst (λ k. getD table k 0 < mostMessages) (add-zero at) here) (word-small table (suc at) n rest))
-
-pub small-word : (table : List ℕ) (at n : ℕ) → at + n ≤ length table → Between 0 mostMessages (wordOver table at n) → WordWithin table at n
-small-word table at n h b = record { within = h; messages = each at n h b }
-  where
-    each : (at n : ℕ) → at + n ≤ length table → Between 0 mostMessages (wordOver table at n) → (i : ℕ) → i < n → getD table (at + i) 0 < mostMessages
-    each at zero h b i l = absurd (omega arith)
-    each at (suc n) h b zero l =
-        subst (λ k. getD table k 0 < mostMessages) (sym (add-zero at)) (between-first (subst (Between 0 mostMessages) (first-of table at n h) b))
-    each at (suc n) h b (suc i) l =
-        let rest = between-back (getD table at 0 ∷ []) (wordOver table (suc at) n) (subst (Between 0 mostMessages) (first-of table at n h) b) in
-        subst (λ k. getD table k 0 < mostMessages) (let z : suc at + i ≡ at + suc i = omega arith in z) (each (suc at) n (omega arith) rest i (omega arith))
+word-small table at n w = all-small table at n (omega (arith, w .within, w .most)) (w .messages)

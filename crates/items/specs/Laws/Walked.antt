@@ -23,8 +23,9 @@ use Rattle.meaning.specs.Tables.{sessionOf, transitionAt}
 use Rattle.meaning.specs.Laws.Sessions.{well-formed}
 use Rattle.pairs.specs.Pairs.{mostCodes, pairOf, NodeFits, afterSide}
 use Rattle.pairs.specs.Marks.{Blank}
-use Rattle.following.specs.Follow.{WordWithin}
+use Rattle.following.specs.Standing.{WordWithin}
 use Rattle.pairs.specs.Over.{Lent}
+use Rattle.walk.specs.Laws.Valid.{word-empty}
 use Rattle.walk.specs.Judged.{judgedOver, ShownFits, WalkJudged, shownOf, saidJudged, shownBy}
 use Rattle.tables.specs.Limits.{mostPool, mostWord}
 use Rattle.tables.specs.Lookup.{RootAt}
@@ -202,7 +203,8 @@ module _ {m : Machines} {q : Queues} {rows arcs finals roots : List ℕ} {c : �
             → WordWithin rs (wordEntry row) n
         word-in n valid long l =
             record {
-              within = omega (arith, valid .action .most);
+              within = omega arith;
+              most = omega (arith, valid .action .most);
               messages = λ i h. omega (arith, valid .action .below i (omega arith), a .parts .valid .queues .sumMost);
             }
 
@@ -295,8 +297,8 @@ module _ {q : Queues} {rows arcs finals roots : List ℕ} {control root : ℕ} (
           small = arcs-small (a .parts .valid .pool);
           sum = a .parts .valid .queues .sumMost;
           cut = omega arith;
-          out = record { within = omega arith; messages = λ i h. absurd (omega arith) };
-          into = record { within = omega arith; messages = λ i h. absurd (omega arith) };
+          out = word-empty (omega (arith, a .parts .valid .transitions .long));
+          into = word-empty (omega (arith, a .parts .valid .transitions .long));
         })
 
     pub entry-finals : length finals ≡ mostPool

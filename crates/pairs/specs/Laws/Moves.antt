@@ -12,7 +12,8 @@ use Rattle.meaning.specs.Tables.{arcOf}
 use Rattle.model.specs.Diagram.{along, follow}
 use Rattle.model.specs.Verdict.{Pair, after}
 use Rattle.model.specs.Judge.{pair}
-use Rattle.following.specs.Follow.{wordOver, WordWithin, FollowsTo}
+use Rattle.following.specs.Follow.{FollowsTo}
+use Rattle.following.specs.Standing.{wordOver, WordWithin}
 use Rattle.following.specs.Laws.Follow.{follow-is}
 use Rattle.following.specs.Laws.Words.{word-small}
 use Rattle.pairs.specs.declared.pairs.Node.{Node}

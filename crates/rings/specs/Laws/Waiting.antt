@@ -4,59 +4,30 @@ use mathlib.Core.Path.{_≡_, refl, sym, ap, ap₂, _∙_}
 use mathlib.Core.Option.{some}
 use mathlib.Core.List.{List, [], _∷_, _++_, append-nil}
 use native.Mathlib.Omega.{arith}
-use lib.ListN.{length, getD, set, take, drop, length-set, length-append}
-use lib.Seq.{drop-cons, getD-set-same, getD-set-other, drop-set-lt, drop-at, append-snoc}
+use lib.ListN.{length, getD, set, drop, length-set, length-append}
+use lib.Seq.{getD-set-same, getD-set-other, drop-set-lt, drop-at, append-snoc}
 use Rattle.trace.specs.Rules.{room}
 use Rattle.model.specs.Model.{strip}
 use Rattle.model.specs.Laws.Queues.{strip-is}
+use Rattle.following.specs.Standing.{standing}
 use Rattle.rings.specs.Ring.{waiting, putRound}
 
 pub waiting-length : (mem : List ℕ) (base i n : ℕ) → length (waiting mem base i n) ≡ n
-unfolding waiting
+unfolding standing
 waiting-length mem base i zero = refl
 waiting-length mem base i (suc n) = ap suc (waiting-length mem base (i + 1) n)
 
 -- a place and the same place round the ring
 pub waiting-round : (mem : List ℕ) (base i j n : ℕ) → i % room ≡ j % room → waiting mem base i n ≡ waiting mem base j n
-unfolding waiting
+unfolding standing
 waiting-round mem base i j zero e = refl
 waiting-round mem base i j (suc n) e =
     ap₂ {C = List ℕ} (λ x l. x ∷ l) (ap (λ k. getD mem (base + k) 0) e) (waiting-round mem base (i + 1) (j + 1) n (omega arith))
 
--- AS IT STANDS in memory: on to the ring's last byte in one piece
-pub waiting-straight : (mem : List ℕ) (base i n : ℕ) → i + n ≤ room → base + room ≤ length mem → waiting mem base i n ≡ take n (drop (base + i) mem)
-unfolding waiting
-waiting-straight mem base i zero h g = refl
-waiting-straight mem base i (suc n) h g =
-    ap₂ {C = List ℕ} (λ x l. x ∷ l) (ap (λ k. getD mem (base + k) 0) (let z : i % room ≡ i = omega arith in z))
-    (waiting-straight mem base (i + 1) n (omega arith) g)
-    ∙ ap (λ j. getD mem (base + i) 0 ∷ take n (drop j mem)) (let z : base + (i + 1) ≡ suc (base + i) = omega arith in z)
-    ∙ sym (ap (take (suc n)) (drop-cons mem (base + i) 0 (omega arith)))
-
--- so many, and then the others
-waiting-parts : (mem : List ℕ) (base i k n : ℕ) → waiting mem base i (k + n) ≡ waiting mem base i k ++ waiting mem base (i + k) n
-unfolding waiting
-waiting-parts mem base i zero n = ap₂ (waiting mem base) (let z : i ≡ i + 0 = omega arith in z) (let z : 0 + n ≡ n = omega arith in z)
-waiting-parts mem base i (suc k) n =
-    ap (waiting mem base i) (let z : suc k + n ≡ suc (k + n) = omega arith in z)
-    ∙ ap (λ l. getD mem (base + i % room) 0 ∷ l)
-    (waiting-parts mem base (i + 1) k n ∙ ap (λ j. waiting mem base (i + 1) k ++ waiting mem base j n) (let z : i + 1 + k ≡ i + suc k = omega arith in z))
-
--- past it in two: the second from the ring's first byte on
-pub waiting-bent : (mem : List ℕ) (base i n : ℕ) → i < room → room - i ≤ n → n ≤ room → base + room ≤ length mem
-    → waiting mem base i n ≡ take (room - i) (drop (base + i) mem) ++ take (n - (room - i)) (drop base mem)
-waiting-bent mem base i n placed past held within =
-    ap (waiting mem base i) (let z : n ≡ room - i + (n - (room - i)) = omega arith in z)
-    ∙ waiting-parts mem base i (room - i) (n - (room - i))
-    ∙ ap₂ _++_ (waiting-straight mem base i (room - i) (omega arith) within)
-    (waiting-round mem base (i + (room - i)) 0 (n - (room - i)) (omega arith)
-    ∙ waiting-straight mem base 0 (n - (room - i)) (omega arith) within
-    ∙ ap (λ j. take (n - (room - i)) (drop j mem)) (let z : base + 0 ≡ base = omega arith in z))
-
 -- memories that hold the same in the ring's bytes
 pub waiting-same : (mem mem′ : List ℕ) (base i n : ℕ) → ((k : ℕ) → k < room → getD mem (base + k) 0 ≡ getD mem′ (base + k) 0)
     → waiting mem base i n ≡ waiting mem′ base i n
-unfolding waiting
+unfolding standing
 waiting-same mem mem′ base i zero h = refl
 waiting-same mem mem′ base i (suc n) h =
     ap₂ {C = List ℕ} (λ x l. x ∷ l) (h (i % room) (omega arith)) (waiting-same mem mem′ base (i + 1) n h)
@@ -64,7 +35,7 @@ waiting-same mem mem′ base i (suc n) h =
 -- A BYTE that no message stands in
 pub waiting-other : (mem : List ℕ) (base i n p v : ℕ) → ((k : ℕ) → k < n → base + (i + k) % room ≡ p → ⊥)
     → waiting (set mem p v) base i n ≡ waiting mem base i n
-unfolding waiting
+unfolding standing
 waiting-other mem base i zero p v h = refl
 waiting-other mem base i (suc n) p v h =
     ap₂ {C = List ℕ} (λ x l. x ∷ l)
@@ -74,7 +45,7 @@ waiting-other mem base i (suc n) p v h =
 -- A MESSAGE put after those that wait
 pub push-one : (mem : List ℕ) (base i n v : ℕ) → n < room → base + room ≤ length mem
     → waiting (set mem (base + (i + n) % room) v) base i (suc n) ≡ waiting mem base i n ++ (v ∷ [])
-unfolding waiting
+unfolding standing
 push-one mem base i zero v h g =
     ap (λ x. x ∷ [])
     (ap (λ k. getD (set mem (base + k % room) v) (base + i % room) 0) (let z : i + 0 ≡ i = omega arith in z)
@@ -123,7 +94,7 @@ put-length mem base i (m ∷ w) =
 
 -- WHAT IS LEFT after messages are taken from the front
 pub waiting-drop : (mem : List ℕ) (base i n k : ℕ) → k ≤ n → drop k (waiting mem base i n) ≡ waiting mem base (i + k) (n - k)
-unfolding waiting
+unfolding standing
 waiting-drop mem base i n zero h =
     ap₂ (waiting mem base) (let z : i ≡ i + 0 = omega arith in z) (let z : n ≡ n - 0 = omega arith in z)
 waiting-drop mem base i zero (suc k) h = absurd (omega arith)

@@ -1,5 +1,5 @@
 -- The loops over a ring, turn by turn: a word is put, and asked for.
-use Prim.Native.Nat.{ℕ, suc, _+_, _-_, _%_, _≤_, _<_}
+use Prim.Native.Nat.{ℕ, _+_, _-_, _%_, _≤_, _<_}
 use mathlib.Core.Path.{_≡_, refl, sym, ap, ap₂, _∙_}
 use mathlib.Core.Bool.{Bool, true, false, true≢false}
 use mathlib.Core.Option.{Option, none, some}
@@ -14,6 +14,7 @@ use Rattle.numbers.specs.Laws.Parts.{one-more}
 use Rattle.trace.specs.Rules.{room}
 use Rattle.model.specs.Model.{strip}
 use Rattle.model.specs.Laws.Basics.{byTest}
+use Rattle.following.specs.Standing.{standing}
 use Rattle.rings.specs.Ring.{waiting, putRound, began}
 use Rattle.rings.specs.Laws.Waiting.{waiting-length}
 
@@ -27,21 +28,14 @@ module _ (mem : List ℕ) (base head n : ℕ) where
 
   pub waiting-next : {i : ℕ} → i < n
       → waitingFrom mem base head n i ≡ getD mem (base + (head + i) % room) 0 ∷ waitingFrom mem base head n (i + 1)
-  unfolding waiting
+  unfolding standing
   waiting-next {i} h =
       ap (waiting mem base (head + i)) (one-more h)
       ∙ ap (λ k. getD mem (base + (head + i) % room) 0 ∷ waiting mem base k (n - (i + 1))) (let z : head + i + 1 ≡ head + (i + 1) = omega arith in z)
 
   pub waiting-end : {i : ℕ} → n ≤ i → waitingFrom mem base head n i ≡ []
-  unfolding waiting
+  unfolding standing
   waiting-end h = rw (sub-eq-zero-of-le h)
-
--- the first message that waits, and those after it
-pub waiting-first : (mem : List ℕ) (base i n : ℕ) → i < room → 0 < n → waiting mem base i n ≡ getD mem (base + i) 0 ∷ waiting mem base (i + 1) (n - 1)
-unfolding waiting
-waiting-first mem base i n placed waits =
-    ap (waiting mem base i) (let z : n ≡ suc (n - 1) = omega arith in z)
-    ∙ ap (λ k. getD mem (base + k) 0 ∷ waiting mem base (i + 1) (n - 1)) (let z : i % room ≡ i = omega arith in z)
 
 -- A WORD IS PUT
 pub record Putting (mem₀ : List ℕ) (base from : ℕ) (w mem : List ℕ) (p : ℕ) (rest : List ℕ) : Type 0 where

@@ -10,14 +10,15 @@ use Rattle.tables.specs.Limits.{mostMessages, mostPool}
 use Rattle.tables.specs.Kinds.{reachedOf}
 use Rattle.tables.specs.Lookup.{rootOf, finalAt, RootAt, ArcsSmall}
 use Rattle.tables.specs.Laws.Lookup.{arcs-small}
-use Rattle.model.specs.Model.{Between, number}
+use Rattle.model.specs.Model.{Between, Own, number, total}
+use Rattle.model.specs.Laws.Queues.{between-wide, word-between}
 use Rattle.model.specs.Diagram.{follow, word}
 use Rattle.meaning.specs.Tables.{poolOf}
 use Rattle.meaning.specs.Laws.Lookup.{along-is, final-is}
 use Rattle.meaning.specs.Laws.Order.{messages-are}
 use Rattle.controls.specs.Controls.{sizesOf}
 use Rattle.following.specs.Follow.{followArcs, FollowsTo}
-use Rattle.following.specs.Laws.Follow.{follow-is, own-small}
+use Rattle.following.specs.Laws.Follow.{follow-is}
 use Rattle.rings.specs.Ring.{rings}
 use Rattle.rings.specs.Lent.{Rings}
 use Rattle.stepping.specs.Frame.{poolIn, insideOf}
@@ -26,6 +27,10 @@ use Rattle.stepping.specs.Inside.{Mapped}
 use Rattle.stepping.specs.Laws.Shifting.{ringed-rings}
 use Rattle.stepping.specs.declared.frame.Frame.{Frame}
 use Rattle.stepping.specs.declared.runs.RunRecord.{RunRecord}
+
+-- the messages of queues that have messages of their own
+own-small : {ns : List ℕ} {qs : List (List ℕ)} → total ns ≤ mostMessages → Own 0 ns qs → Between 0 mostMessages (word qs)
+own-small {ns} h own = between-wide (omega arith) (omega arith) (word-between own)
 
 module _ {f : Frame} {finals arcs roots : List ℕ} {r : RunRecord} {mem : List ℕ} (A : Mapped f finals arcs roots r mem) where
   pub root-small : (c : ℕ) → getD roots c 0 ≤ mostPool

@@ -10,13 +10,13 @@ use borrow.Author.Tests.{eq-eqb, ne-eqb}
 use Rattle.numbers.specs.Laws.Lists.{sets-append}
 use Rattle.pairs.specs.declared.pairs.Walk.{Walk}
 use Rattle.walk.specs.declared.edges.Edge.{Edge}
-use Rattle.following.specs.Follow.{wordOver, WordWithin}
+use Rattle.following.specs.Standing.{wordOver, WordWithin}
 use Rattle.walk.specs.Shown.{parentOf, partOver, edgeLetter, shownFrom, shownOver, Placed, EdgeOf, Laid, Shown}
 use Rattle.walk.specs.Laws.Edges.{parent-earlier, placed-before}
 
 -- WHAT A LETTER STANDS FOR
 pub word-length : {rows : List ℕ} {at n : ℕ} → WordWithin rows at n → length (wordOver rows at n) ≡ n
-word-length {rows} {at} {n} z = length-take-le n (drop at rows) (omega (arith, length-drop at rows, z .within))
+word-length {rows} {at} {n} z = length-take-le n (drop at rows) (omega (arith, length-drop at rows, z .within, z .most))
 
 module _ (rows : List ℕ) (w : Walk) {letter : ℕ} where
   pub part-step : letter ≡ w .sum → partOver rows w letter ≡ wordOver rows (w .word) (w .out)

@@ -1,7 +1,7 @@
 -- The tables of a file that was read can be walked over: what a walk asks of them holds.
 use mathlib.Core.Path.{_≡_, refl}
 use mathlib.Core.List.{List}
-use Prim.Native.Nat.{ℕ, _*_, _≤_, _<_}
+use Prim.Native.Nat.{ℕ, _+_, _*_, _≤_, _<_}
 use native.Mathlib.Omega.{arith}
 use lib.ListN.{length}
 use Rattle.tables.specs.Valid.{QueuesValid, TransitionsValid, Valid}
@@ -12,9 +12,10 @@ use Rattle.tables.specs.declared.tables.Transitions.{Transitions}
 use Rattle.tables.specs.declared.tables.Tables.{Tables}
 use Rattle.model.specs.Model.{messages}
 use Rattle.meaning.specs.Tables.{sessionOf}
+use Rattle.tables.specs.Limits.{mostWord}
 use Rattle.tables.specs.Rows.{rowLength, wordEntry, lengthAt}
 use Rattle.pairs.specs.declared.pairs.Walk.{Walk}
-use Rattle.following.specs.Follow.{WordWithin}
+use Rattle.following.specs.Standing.{WordWithin}
 use Rattle.pairs.specs.Over.{Lent, Over}
 
 -- the word of a transition, or a front of it; and no word
@@ -23,12 +24,13 @@ pub word-within : {m : Machines} {q : Queues} {τ : Transitions} → Transitions
 word-within {q = q} z s t n h g =
     let a = z .row t h .action in
     record {
-      within = omega (arith, a .most, z .most, z .long);
+      within = omega (arith, z .most, z .long);
+      most = omega (arith, a .most);
       messages = λ i l. omega (arith, a .below i (omega arith), s .sumMost);
     }
 
-pub word-empty : {rows : List ℕ} {at : ℕ} → at ≤ length rows → WordWithin rows at 0
-word-empty h = record { within = omega arith; messages = λ i l. absurd (omega arith) }
+pub word-empty : {rows : List ℕ} {at : ℕ} → at + mostWord ≤ length rows → WordWithin rows at 0
+word-empty h = record { within = h; most = omega arith; messages = λ i l. absurd (omega arith) }
 
 pub lent : {T : Tables} → Valid T → (w : Walk) → w .sum ≡ T .queues .sum → w .cut ≤ w .sum
     → WordWithin (T .transitions .rows) (w .word) (w .out) → WordWithin (T .transitions .rows) (w .word) (w .into)

@@ -9,7 +9,7 @@ use Rattle.pairs.proofs.moves.step.Statement.{statement}
 use Rattle.pairs.proofs.moves.step.Tie as tie
 use Rattle.pairs.proofs.moves.step.Reads as reads
 use Rattle.pairs.proofs.moves.step.Lts as lts
-use Rattle.following.proofs.words.follow_word.Reads as follow-word-reads
+use Rattle.following.proofs.messages.follow_word.Reads as follow-word-reads
 use Rattle.pairs.proofs.moves.pair_to.Reads as pair-to-reads
 use Rattle.tables.proofs.kinds.Reached.at.Reads as at-reads
 use Rattle.tables.proofs.kinds.Reached.is_nowhere.Reads as is-nowhere-reads

@@ -7,7 +7,7 @@ use Rattle.model.specs.Diagram.{word}
 use Rattle.tables.specs.Laws.Lookup.{nowhere-true, nowhere-false, state-below}
 use Rattle.following.specs.Rows.{stateAt, StateRow}
 use Rattle.following.specs.Laws.Rows.{followed-at, followed-nowhere}
-use Rattle.following.specs.Laws.Follow.{Following, follow-begin, queue-small, follow-queue, follow-end, follow-lost, follows-as}
+use Rattle.following.specs.Laws.Follow.{Following, follow-begin, front-small, follow-front, follow-end, follow-lost, follows-as}
 use Rattle.rings.specs.Ring.{rings}
 use Rattle.rings.specs.Laws.Rings.{one-ring, messagesFrom, messages-begin, messages-next, messages-end}
 use Rattle.rings.proofs.follow.follow_rings.Statement.{statement}
@@ -16,7 +16,7 @@ use Rattle.rings.proofs.follow.follow_rings.Reads as reads
 use Rattle.rings.proofs.follow.follow_rings.Lts as lts
 use Rattle.following.proofs.rows.row_of.Reads as row-of-reads
 use Rattle.following.proofs.rows.state_of.Reads as state-of-reads
-use Rattle.rings.proofs.follow.follow_ring.Reads as follow-ring-reads
+use Rattle.following.proofs.messages.follow.Reads as follow-reads
 use Rattle.tables.proofs.kinds.Reached.at.Reads as at-reads
 use Rattle.tables.proofs.kinds.Reached.is_nowhere.Reads as is-nowhere-reads
 use Rattle.tables.proofs.kinds.Reached.nowhere.Reads as nowhere-reads
@@ -52,33 +52,34 @@ loop-holds c =
     (follow-begin (omega (arith, row .below)) (c .before .before .before .before .before .before .pre .1 .1 .1) (messages-begin (now (a .memory)) (now (a .heads)) (now (a .lengths)) (a .count)), (row, omega arith))
 
 -- src/follow.rt:65:60
-mul-follow-ring : tie.Need-mul-follow-ring Inv-loop μ-loop
-mul-follow-ring c = search needs
+mul-follow : tie.Need-mul-follow Inv-loop μ-loop
+mul-follow c = search needs
 
 -- src/follow.rt:65:70
-mul-follow-ring-2 : tie.Need-mul-follow-ring-2 Inv-loop μ-loop
-mul-follow-ring-2 c = search needs
+mul-follow-2 : tie.Need-mul-follow-2 Inv-loop μ-loop
+mul-follow-2 c = search needs
 
 -- src/follow.rt:65:70
-element-copy-out-follow-ring : tie.Need-element-copy-out-follow-ring Inv-loop μ-loop
-element-copy-out-follow-ring c = search needs
+element-copy-out-follow : tie.Need-element-copy-out-follow Inv-loop μ-loop
+element-copy-out-follow c = search needs
 
 -- src/follow.rt:65:80
-mul-follow-ring-3 : tie.Need-mul-follow-ring-3 Inv-loop μ-loop
-mul-follow-ring-3 c = search needs
+mul-follow-3 : tie.Need-mul-follow-3 Inv-loop μ-loop
+mul-follow-3 c = search needs
 
 -- src/follow.rt:65:80
-element-copy-out-follow-ring-2 : tie.Need-element-copy-out-follow-ring-2 Inv-loop μ-loop
-element-copy-out-follow-ring-2 c = search needs
+element-copy-out-follow-2 : tie.Need-element-copy-out-follow-2 Inv-loop μ-loop
+element-copy-out-follow-2 c = search needs
 
 -- src/follow.rt:65:29
-follow-ring-requires : tie.Need-follow-ring-requires Inv-loop μ-loop
-follow-ring-requires c κs =
+follow-requires : tie.Need-follow-requires Inv-loop μ-loop
+follow-requires c κs =
     let p = c .before .before .before .before .before .before .before .before .before .before .pre in
     let a = c .before .before .before .before .before .before .before .before .before .before .args in
     let inv = c .before .before .before .loop .inv in
     let next = messages-next (now (a .memory)) (now (a .heads)) (now (a .lengths)) (a .count) (c .before .before .loop-test .taken) in
-    (p .0, (inv .1 .0, (one-ring (p .1 .1 .0) (c .before .before .loop-test .taken), queue-small (inv .0) _ _ next)))
+    let ring = one-ring (p .1 .1 .0) (c .before .before .loop-test .taken) in
+    (p .0, (inv .1 .0, (record { within = ring .within; placed = ring .placed }, front-small (inv .0) _ _ next)))
 
 -- src/follow.rt:65:21
 enum-known-next : tie.Need-enum-known-next Inv-loop μ-loop
@@ -97,7 +98,7 @@ returns-2 : tie.Need-returns-2 Inv-loop μ-loop
 returns-2 c =
     let a = c .before .before .before .before .before .before .before .before .before .before .before .before .before .before .args in
     let next = messages-next (now (a .memory)) (now (a .heads)) (now (a .lengths)) (a .count) (c .before .before .before .before .before .before .loop-test .taken) in
-    let lost = follow-queue (c .before .before .before .before .before .before .before .loop .inv .0) _ _ next (followed-nowhere (c .before .before .before .follow-ring .ensures) (c .before .enum-told .given .1)) in
+    let lost = follow-front (c .before .before .before .before .before .before .before .loop .inv .0) _ _ next (followed-nowhere (c .before .before .before .follow .ensures) (c .before .enum-told .given .1)) in
     follows-as (c .before .before .before .before .before .before .before .before .row-of .ensures .state ∙ c .before .before .before .before .before .before .before .before .before .state .ensures) refl (follow-lost lost refl (c .nowhere .ensures))
 
 -- src/follow.rt:69:9
@@ -114,8 +115,8 @@ loop-again c =
     let a = c .before .before .before .before .before .before .before .before .before .before .before .before .before .before .args in
     let inv = c .before .before .before .before .before .before .before .loop .inv in
     let next = messages-next (now (a .memory)) (now (a .heads)) (now (a .lengths)) (a .count) (c .before .before .before .before .before .before .loop-test .taken) in
-    let found = followed-at (c .before .before .before .follow-ring .ensures) (c .before .next .given .1) in
-    (follow-queue (inv .0) _ _ next (found .1), (found .0, omega arith))
+    let found = followed-at (c .before .before .before .follow .ensures) (c .before .next .given .1) in
+    (follow-front (inv .0) _ _ next (found .1), (found .0, omega arith))
 
 -- src/follow.rt:71:17
 state-of-requires : tie.Need-state-of-requires Inv-loop μ-loop
@@ -143,12 +144,12 @@ follow-rings-spec =
     state-requires
     row-of-requires
     loop-holds
-    mul-follow-ring
-    mul-follow-ring-2
-    element-copy-out-follow-ring
-    mul-follow-ring-3
-    element-copy-out-follow-ring-2
-    follow-ring-requires
+    mul-follow
+    mul-follow-2
+    element-copy-out-follow
+    mul-follow-3
+    element-copy-out-follow-2
+    follow-requires
     enum-known-next
     enum-told
     nowhere-requires

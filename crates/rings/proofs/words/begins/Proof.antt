@@ -5,8 +5,10 @@ use native.Mathlib.Omega.{arith}
 use lib.ListN.{take, drop}
 use denote.Ref.{now}
 use Rattle.rings.specs.Ring.{waiting}
+use Rattle.trace.specs.Rules.{room}
+use Rattle.following.specs.Laws.Standing.{standing-first}
 use Rattle.following.specs.Laws.Words.{wordFrom, word-begin, word-next, word-end, word-one}
-use Rattle.rings.specs.Laws.Words.{waitingFrom, waiting-begin, waiting-next, waiting-first, Asked, asked-begin, asked-same, asked-other, asked-end, ask-one, ask-short}
+use Rattle.rings.specs.Laws.Words.{waitingFrom, waiting-begin, waiting-next, Asked, asked-begin, asked-same, asked-other, asked-end, ask-one, ask-short}
 use Rattle.rings.proofs.words.begins.Statement.{statement}
 use Rattle.rings.proofs.words.begins.Tie as tie
 use Rattle.rings.proofs.words.begins.Reads as reads
@@ -33,7 +35,7 @@ shared-slice-read-result-2 c = search needs
 returns-2 : tie.Need-returns-2 Inv-loop μ-loop
 returns-2 c =
     let a = c .before .before .before .before .args in
-    ask-one (word-one _ _ _ (c .before .before .if2 .taken) (c .before .before .before .before .pre .1)) (waiting-first (now (a .memory)) (a .base) (a .head) (a .count) (c .before .before .before .before .pre .0 .placed) (omega (arith, c .before .before .before .if1 .left, c .before .before .if2 .taken)))
+    ask-one (word-one _ _ _ (c .before .before .if2 .taken) (c .before .before .before .before .pre .1)) (standing-first room (now (a .memory)) (a .base) (a .head) (a .count) (c .before .before .before .before .pre .0 .placed) (omega (arith, c .before .before .before .if1 .left, c .before .before .if2 .taken)))
 
 loop-holds : tie.Need-loop-holds Inv-loop μ-loop
 loop-holds c = let a = c .before .before .args in (asked-begin (word-begin (now (a .rows)) (a .at) (a .n)) (waiting-begin _ _ _ _), omega arith)

@@ -21,11 +21,11 @@ sub-i c = omega arith
 
 -- src/contents.rt:21:28
 add-contents : tie.Need-add-contents Inv-loop μ-loop
-add-contents c = omega (arith, c .before .before .pre .0 .within, word-most (c .before .before .pre .0) (c .before .loop .inv))
+add-contents c = omega (arith, c .before .before .pre .0 .within, c .before .before .pre .0 .most, word-most (c .before .before .pre .0) (c .before .loop .inv))
 
 -- src/contents.rt:21:23
 shared-slice-read-contents : tie.Need-shared-slice-read-contents Inv-loop μ-loop
-shared-slice-read-contents c = omega (arith, c .before .before .before .pre .0 .within, word-most (c .before .before .before .pre .0) (c .before .before .loop .inv))
+shared-slice-read-contents c = omega (arith, c .before .before .before .pre .0 .within, c .before .before .before .pre .0 .most, word-most (c .before .before .before .pre .0) (c .before .before .loop .inv))
 
 -- src/contents.rt:21:9
 slice-write-contents : tie.Need-slice-write-contents Inv-loop μ-loop
