@@ -3,6 +3,7 @@ use Prim.Native.Nat.{ℕ, _+_, _-_, _*_, _≤_, _<_}
 use mathlib.Core.Path.{_≡_}
 use mathlib.Core.Bool.{Bool, true, false}
 use mathlib.Core.List.{List}
+use denote.Ref.{RefT, now}
 use lib.ListN.{length, drop, replicate}
 use Rattle.numbers.specs.Limits.{mostBytes}
 use Rattle.numbers.specs.declared.refusal.Refusal.{Refusal}
@@ -43,6 +44,13 @@ state r mem p = record { lent = r; memory = mem; progress = p }
 -- of the record's parts
 abbrev pub parts : List ℕ → List ℕ → List ℕ → List ℕ → Progress → State
 parts states heads lengths mem p = state (runOf states heads lengths) mem p
+
+-- the tables and the state that lent arrays hold
+abbrev pub tablesLent : Frame → RefT (List ℕ) → RefT (List ℕ) → RefT (List ℕ) → RefT (List ℕ) → Tables
+tablesLent f rows finals arcs roots = tablesOf f (now rows) (now finals) (now arcs) (now roots)
+
+abbrev pub partsLent : RefT (List ℕ) → RefT (List ℕ) → RefT (List ℕ) → RefT (List ℕ) → Progress → State
+partsLent states heads lengths mem p = parts (now states) (now heads) (now lengths) (now mem) p
 
 abbrev pub endedOf : Progress → Code.Ended
 endedOf p = record { why = p .why; steps = p .steps }

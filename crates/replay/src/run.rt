@@ -15,7 +15,7 @@ ghost use mathlib.Core.Path.{_≡_};
 ghost use mathlib.Core.Bool.{true};
 ghost use Rattle.stepping.specs.Frame.{tablesOf};
 ghost use Rattle.replay.specs.Reply.{Replays};
-ghost use Rattle.replay.specs.Run.{state, Ready, Stepped, Ran};
+ghost use Rattle.replay.specs.Run.{state, tablesLent, Ready, Stepped, Ran};
 
 // One step: the record's three tables are lent on, each by itself, so none is copied.
 pub(crate) fn step(
@@ -30,7 +30,7 @@ pub(crate) fn step(
     p: Progress,
 ) -> Progress
     requires { ⌜ Ready (tablesOf f (now rows) (now finals) (now arcs) (now roots)) (now trace) (state (now r) (now memory) p) ⌝ }
-    ensures { λ a. ⌜ Stepped (tablesOf f (now (rows .entry)) (now (finals .entry)) (now (arcs .entry)) (now (roots .entry))) (now (trace .entry)) (state (now (r .entry)) (now (memory .entry)) p) (state (now (r .exit)) (now (memory .exit)) a) ⌝ }
+    ensures { λ a. ⌜ Stepped (tablesLent f (rows .entry) (finals .entry) (arcs .entry) (roots .entry)) (now (trace .entry)) (state (now (r .entry)) (now (memory .entry)) p) (state (now (r .exit)) (now (memory .exit)) a) ⌝ }
 {
     turn(
         &mut r.states,
@@ -60,7 +60,7 @@ pub(crate) fn run(
     begun: Progress,
 ) -> Progress
     requires { ⌜ (begun .going ≡ true → Ready (tablesOf f (now rows) (now finals) (now arcs) (now roots)) (now trace) (state (now r) (now memory) begun)) ⌝ }
-    ensures { λ a. ⌜ Ran (tablesOf f (now (rows .entry)) (now (finals .entry)) (now (arcs .entry)) (now (roots .entry))) (now (trace .entry)) (state (now (r .entry)) (now (memory .entry)) begun) (state (now (r .exit)) (now (memory .exit)) a) ⌝ }
+    ensures { λ a. ⌜ Ran (tablesLent f (rows .entry) (finals .entry) (arcs .entry) (roots .entry)) (now (trace .entry)) (state (now (r .entry)) (now (memory .entry)) begun) (state (now (r .exit)) (now (memory .exit)) a) ⌝ }
 {
     let mut p = begun;
     while p.going {

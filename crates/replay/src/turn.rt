@@ -15,7 +15,7 @@ use tables::tables::MOST_QUEUES;
 ghost use mathlib.Core.Path.{_≡_};
 ghost use Rattle.stepping.specs.Configurations.{Settleable};
 ghost use Rattle.stepping.specs.Frame.{tablesOf};
-ghost use Rattle.replay.specs.Run.{parts, endedOf, Ready, TurnedBy, Stepped, Ends, TurnAsked};
+ghost use Rattle.replay.specs.Run.{parts, tablesLent, partsLent, endedOf, Ready, TurnedBy, Stepped, Ends, TurnAsked};
 
 // The replay ends here: record and memory are brought into the form of the end.
 fn stopped(
@@ -80,7 +80,7 @@ pub(crate) fn turn(
     p: Progress,
 ) -> Progress
     requires { ⌜ Ready (tablesOf f (now rows) (now finals) (now arcs) (now roots)) (now trace) (parts (now states) (now heads) (now lengths) (now memory) p) ⌝ }
-    ensures { λ a. ⌜ Stepped (tablesOf f (now (rows .entry)) (now (finals .entry)) (now (arcs .entry)) (now (roots .entry))) (now (trace .entry)) (parts (now (states .entry)) (now (heads .entry)) (now (lengths .entry)) (now (memory .entry)) p) (parts (now (states .exit)) (now (heads .exit)) (now (lengths .exit)) (now (memory .exit)) a) ⌝ }
+    ensures { λ a. ⌜ Stepped (tablesLent f (rows .entry) (finals .entry) (arcs .entry) (roots .entry)) (now (trace .entry)) (partsLent (states .entry) (heads .entry) (lengths .entry) (memory .entry) p) (partsLent (states .exit) (heads .exit) (lengths .exit) (memory .exit) a) ⌝ }
 {
     if !is_inside(f, finals, arcs, roots, states, heads, lengths, memory) {
         return stopped(heads, lengths, f, memory, p, Stop::Outside);
