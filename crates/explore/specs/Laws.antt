@@ -15,3 +15,4 @@ pub mod Agree
 pub mod Sweep
 pub mod Search
 pub mod SearchMeaning
+pub mod Marks

@@ -4,5 +4,6 @@ pub mod Size
 pub mod Order
 pub mod Explore
 pub mod Search
+pub mod Marks
 pub mod Cases
 pub mod Laws

@@ -1,13 +1,14 @@
 -- What the lent tables show. The queue has the number of each pair that was found, in the order of finding; seen has at a pair's number the place of its
 -- parent in the queue plus 1, and 0 where the pair was not found.
 use mathlib.Core.Path.{_≡_}
-use mathlib.Core.Bool.{Bool, true, false, not}
+use mathlib.Core.Bool.{not}
 use mathlib.Core.Option.{Option}
-use mathlib.Core.List.{List, [], _∷_, map}
+use mathlib.Core.List.{List, map}
 use Prim.Native.Nat.{ℕ, suc, _-_, _≤_, _<_}
 use lib.Dec.{eqb}
 use lib.ListN.{length, getD, take, replicate}
 use Rattle.explore.specs.Search.{Found, push, sweep}
+use Rattle.explore.specs.Marks.{mem, count}
 use Rattle.model.specs.Verdict.{Pair}
 use Rattle.model.specs.Judge.{same}
 use Rattle.pairs.specs.Pairs.{mostCodes, decode}
@@ -19,15 +20,6 @@ foundAt seen c = record { at = decode c; parent = getD seen c 0 - 1 }
 -- THE LIST of the definition: the pairs found, each with its parent's place
 abbrev pub view : List ℕ → List ℕ → ℕ → List (Found Pair)
 view seen queue tail = map (foundAt seen) (take tail queue)
-
-abbrev pub mem : ℕ → List ℕ → Bool
-mem x [] = false
-mem x (a ∷ l) = elim (eqb a x) [ true ↦ true | false ↦ mem x l ]
-
--- how many entries are not 0
-abbrev pub count : List ℕ → ℕ
-count [] = 0
-count (x ∷ l) = elim (eqb x 0) [ true ↦ count l | false ↦ suc (count l) ]
 
 pub record Tables (seen queue : List ℕ) (tail : ℕ) : Type 0 where
   pub seenLong : length seen ≡ mostCodes

@@ -2,8 +2,9 @@
 use mathlib.Core.Path.{_≡_, refl, ap, subst, sym, _∙_}
 use mathlib.Core.Logic.{_↔_, _⊎_, inl, inr, ⊎-elim, ⊎-map}
 use mathlib.Core.List.{List, [], _∷_, Memᴰ·cast}
-use Prim.Native.Nat.{ℕ, suc, _≤_, zero-le}
+use Prim.Native.Nat.{ℕ, zero, suc, _≤_, _<_, zero-le}
 use native.Mathlib.Omega.{arith}
+use native.Mathlib.Nat.{eq-or-lt-of-le}
 use lib.ListN.{length}
 use Rattle.explore.specs.Mem.{Mem, here, there, Distinct}
 use Rattle.explore.specs.Size.{Size}
@@ -52,3 +53,18 @@ module _ {A : Type 0} where
         each = λ x q. s .each x (e x .1 q);
         count = s .count;
       }
+
+-- the numbers below n
+unfoldable pub below : ℕ → List ℕ
+below zero = []
+below (suc n) = n ∷ below n
+
+pub below-length : (n : ℕ) → length (below n) ≡ n
+unfolding below
+below-length zero = refl
+below-length (suc n) = ap suc (below-length n)
+
+pub below-each : (n m : ℕ) → m < n → Mem m (below n)
+unfolding below
+below-each zero m h = absurd (omega arith)
+below-each (suc n) m h = ⊎-elim (λ e. here e) (λ l. there (below-each n m l)) (eq-or-lt-of-le {n = m} {m = n} (omega arith))

@@ -1,29 +1,14 @@
 -- How many pairs there are: the lists of all pairs over so many states.
 use mathlib.Core.Path.{_≡_, refl, sym, ap, ap₂, _∙_}
-use mathlib.Core.Logic.{⊎-elim}
 use mathlib.Core.Option.{Option, none, some}
 use mathlib.Core.List.{List, [], _∷_, _++_, map, Memᴰ·cast, Memᴰ·append-left, Memᴰ·append-right, Memᴰ·map}
-use Prim.Native.Nat.{ℕ, zero, suc, _+_, _*_, _<_}
+use Prim.Native.Nat.{ℕ, _+_, _*_, _<_}
 use native.Mathlib.Omega.{arith}
-use native.Mathlib.Nat.{zero-mul, suc-mul, eq-or-lt-of-le}
+use native.Mathlib.Nat.{zero-mul, suc-mul}
 use lib.ListN.{length, length-append, length-map}
 use Rattle.explore.specs.Mem.{Mem, here, there}
+use Rattle.explore.specs.Laws.Size.{below, below-length, below-each}
 use Rattle.model.specs.Verdict.{mostPairs, Pair, before, after}
-
--- the numbers below n
-below : ℕ → List ℕ
-below zero = []
-below (suc n) = n ∷ below n
-
-below-length : (n : ℕ) → length (below n) ≡ n
-unfolding below
-below-length zero = refl
-below-length (suc n) = ap suc (below-length n)
-
-below-each : (n m : ℕ) → m < n → Mem m (below n)
-unfolding below
-below-each zero m h = absurd (omega arith)
-below-each (suc n) m h = ⊎-elim (λ e. here e) (λ l. there (below-each n m l)) (eq-or-lt-of-le {n = m} {m = n} (omega arith))
 
 module _ {A B C : Type 0} (f : A → B → C) where
   -- all that f makes of the two lists

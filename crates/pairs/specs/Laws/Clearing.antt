@@ -10,7 +10,8 @@ use lib.ListN.{length, getD, set, take, replicate, length-set, length-replicate,
 use lib.Seq.{getD-set-same, getD-set-other, ext-getD}
 use borrow.Author.Tests.{eqb-true, eqb-false}
 use Rattle.pairs.specs.Pairs.{mostCodes}
-use Rattle.pairs.specs.Marks.{mem, Tables, Zeros, ZerosFrom, Blank, count}
+use Rattle.explore.specs.Marks.{mem, count}
+use Rattle.pairs.specs.Marks.{Tables, Zeros, ZerosFrom, Blank}
 
 all-zero : (l : List ℕ) → ((c : ℕ) → getD l c 0 ≡ 0) → l ≡ replicate (length l) 0
 all-zero l e =

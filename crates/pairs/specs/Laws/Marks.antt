@@ -16,57 +16,9 @@ use Rattle.model.specs.Verdict.{Pair}
 use Rattle.model.specs.Judge.{same}
 use Rattle.pairs.specs.Pairs.{mostCodes, decode}
 use Rattle.pairs.specs.Laws.Pairs.{same-codes}
-use Rattle.pairs.specs.Marks.{foundAt, view, mem, count, Tables, Shows, Pushed, Swept}
-
--- ROOM: where an entry is 0 not all are counted
-count-most : (l : List ℕ) → count l ≤ length l
-count-most [] = omega arith
-count-most (x ∷ l) = byTest (eqb x 0) (count-most l)
-  where
-    byTest : (b : Bool) → count l ≤ length l → elim b [ true ↦ count l | false ↦ suc (count l) ] ≤ suc (length l)
-    byTest true h = omega arith
-    byTest false h = omega arith
-
-count-room : (l : List ℕ) (c : ℕ) → c < length l → getD l c 0 ≡ 0 → count l < length l
-count-room [] c h e = absurd (omega arith)
-count-room (x ∷ l) zero h e = rw (eq-eqb x 0 e, count) (omega (arith, count-most l))
-count-room (x ∷ l) (suc c) h e = byTest (eqb x 0) (count-room l c (omega arith) e)
-  where
-    byTest : (b : Bool) → count l < length l → elim b [ true ↦ count l | false ↦ suc (count l) ] < suc (length l)
-    byTest true h = omega arith
-    byTest false h = omega arith
-
-count-set : (l : List ℕ) (c v : ℕ) → c < length l → getD l c 0 ≡ 0 → count (set l c (v + 1)) ≡ suc (count l)
-count-set [] c v h e = absurd (omega arith)
-count-set (x ∷ l) zero v h e = rw (eq-eqb x 0 e, ne-eqb (v + 1) 0 (λ z. omega arith), count)
-count-set (x ∷ l) (suc c) v h e = byTest (eqb x 0) (count-set l c v (omega arith) e)
-  where
-    byTest : (b : Bool) → count (set l c (v + 1)) ≡ suc (count l)
-        → elim b [ true ↦ count (set l c (v + 1)) | false ↦ suc (count (set l c (v + 1))) ] ≡ suc (elim b [ true ↦ count l | false ↦ suc (count l) ])
-    byTest true h = h
-    byTest false h = ap suc h
-
--- MEMBERS
-mem-append : (x a : ℕ) (l : List ℕ) → mem x (l ++ (a ∷ [])) ≡ elim (eqb a x) [ true ↦ true | false ↦ mem x l ]
-mem-append x a [] = refl
-mem-append x a (b ∷ l) = byTest (eqb b x) (eqb a x) (mem-append x a l)
-  where
-    byTest : (d e : Bool) → mem x (l ++ (a ∷ [])) ≡ elim e [ true ↦ true | false ↦ mem x l ]
-        → _≡_ {A = Bool} (elim d [ true ↦ true | false ↦ mem x (l ++ (a ∷ [])) ])
-        (elim e [ true ↦ true | false ↦ elim d [ true ↦ true | false ↦ mem x l ] ])
-    byTest true true h = refl
-    byTest true false h = refl
-    byTest false e h = h
-
-pub mem-at : (l : List ℕ) (n k : ℕ) → k < n → k < length l → mem (getD l k 0) (take n l) ≡ true
-mem-at [] n k h g = absurd (omega arith)
-mem-at (x ∷ l) zero k h g = absurd (omega arith)
-mem-at (x ∷ l) (suc n) zero h g = rw (eq-eqb x x refl, mem)
-mem-at (x ∷ l) (suc n) (suc k) h g = byTest (eqb x (getD l k 0)) (mem-at l n k (omega arith) (omega arith))
-  where
-    byTest : (b : Bool) → mem (getD l k 0) (take n l) ≡ true → elim b [ true ↦ true | false ↦ mem (getD l k 0) (take n l) ] ≡ true
-    byTest true h = refl
-    byTest false h = h
+use Rattle.explore.specs.Marks.{mem}
+use Rattle.explore.specs.Laws.Marks.{count-most, count-room, count-set, mem-at, one-more-taken, one-more-known}
+use Rattle.pairs.specs.Marks.{foundAt, view, Tables, Shows, Pushed, Swept}
 
 -- a mark at a number that is not in the list changes none of its pairs
 view-kept : (seen : List ℕ) (c v : ℕ) (l : List ℕ) → mem c l ≡ false → map (foundAt (set seen c v)) l ≡ map (foundAt seen) l
@@ -134,20 +86,7 @@ module _ {seen queue : List ℕ} {tail : ℕ} (T : Tables seen queue tail) where
     in-queue = omega (arith, T .queueLong, tables-room)
 
     taken : take (tail + 1) (set queue tail c) ≡ take tail queue ++ (c ∷ [])
-    taken = ap (λ n. take n (set queue tail c)) (add-one tail) ∙ take-suc-set queue tail c in-queue
-
-    new-known : (x : ℕ) → mem x (take (tail + 1) (set queue tail c)) ≡ not (eqb (getD (set seen c (h + 1)) x 0) 0)
-    new-known x = ap (mem x) taken ∙ mem-append x c (take tail queue) ∙ byTest (eqb c x) refl
-      where
-        byTest : (b : Bool) → eqb c x ≡ b
-            → elim b [ true ↦ true | false ↦ mem x (take tail queue) ] ≡ not (eqb (getD (set seen c (h + 1)) x 0) 0)
-        byTest true t =
-            let same-mark : getD (set seen c (h + 1)) x 0 ≡ h + 1 =
-            ap (λ y. getD (set seen c (h + 1)) y 0) (sym (eqb-true c x t)) ∙ getD-set-same seen c (h + 1) 0 in-seen in
-            sym (ap not (ne-eqb (getD (set seen c (h + 1)) x 0) 0 (λ z. omega arith)))
-        byTest false t =
-            let other : (x ≡ c → ⊥) = λ z. eqb-false c x t (sym z) in
-            T .known x ∙ ap (λ n. not (eqb n 0)) (sym (getD-set-other seen c x (h + 1) 0 other))
+    taken = one-more-taken seen queue tail c h in-queue in-seen
 
     at-place : (P : ℕ → Type 0) (k : ℕ) → (k ≡ tail → P c) → ((k ≡ tail → ⊥) → P (getD queue k 0)) → P (getD (set queue tail c) k 0)
     at-place P k here there = byTest (eqb k tail) refl
@@ -178,7 +117,7 @@ module _ {seen queue : List ℕ} {tail : ℕ} (T : Tables seen queue tail) where
                   seenLong = length-set seen c (h + 1) ∙ T .seenLong;
                   queueLong = length-set queue tail c ∙ T .queueLong;
                   counted = omega (arith, count-set seen c h in-seen e, T .counted);
-                  known = new-known;
+                  known = one-more-known seen queue tail c h in-queue in-seen (T .known);
                   codes = λ k. at-place (λ a. a < mostCodes) k (λ z. small) (λ z. T .codes k);
                   rest = λ k g. at-place (λ a. a ≡ 0) k (λ z. absurd (omega arith)) (λ z. T .rest k (omega arith));
                   earlier = new-earlier parent;

@@ -6,7 +6,8 @@ use native.Mathlib.Omega.{arith}
 use lib.Dec.{eqb}
 use lib.ListN.{length, getD}
 use borrow.Author.Tests.{eqb-false, not-true}
-use Rattle.pairs.specs.Laws.Marks.{mem-at, tables-most}
+use Rattle.explore.specs.Laws.Marks.{mem-at}
+use Rattle.pairs.specs.Laws.Marks.{tables-most}
 use Rattle.walk.specs.Shown.{parentOf, Placed}
 
 module _ {seen queue : List ℕ} {k : ℕ} (P : Placed seen queue k) where
