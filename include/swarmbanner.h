@@ -58,7 +58,7 @@ extern "C" {
 #define SWARMBANNER_REFUSED_TOTAL 6u         /* product of states passes 256, or sum of messages passes 32 */
 #define SWARMBANNER_REFUSED_QUEUE 7u         /* message of a transition is in another queue */
 #define SWARMBANNER_REFUSED_ASCENT 8u        /* arc messages do not ascend */
-#define SWARMBANNER_REFUSED_ORDER 9u         /* pool not in queue order; the place is the first after the pool */
+#define SWARMBANNER_REFUSED_ORDER 9u         /* a root accepts a word out of queue order; the first place after field 6 */
 #define SWARMBANNER_REFUSED_MORE 10u         /* bytes after the last field */
 #define SWARMBANNER_REFUSED_CONTROL 11u      /* membership: control state not below their number; the place is 0 */
 #define SWARMBANNER_REFUSED_MESSAGE 12u      /* membership: message not below the sum; its place in the contents */

@@ -174,7 +174,7 @@ static const struct worked cases[] = {
     {"j", "05 01010000010102000000010001000100000200010001010100000100", SWARMBANNER_REFUSED, 5, 0, 0, ""},
     {"k", R "00", SWARMBANNER_REFUSED, 10, 29, 0, ""},
     {"l", R_HEAD "01 01 01 00 00 01", SWARMBANNER_REFUSED, 3, 28, 0, ""},
-    {"m", S_HEAD S_SEND "01 01 02 00 00 01 00 01 00", SWARMBANNER_REFUSED, 9, 21, 0, ""},
+    {"m", S_HEAD S_SEND "01 01 02 00 00 01 00 01 00", SWARMBANNER_REFUSED, 9, 23, 0, ""},
     {"n", "03 10 10 02", SWARMBANNER_REFUSED, 6, 3, 0, ""},
     /* contents of two messages, and a bad entry that is not the first */
     {"leaves", S_HEAD S_SEND "04 01 01 00 01 01 02 00 02 01 03 01 01 00 02 01 00" "01 00", SWARMBANNER_LEAVES, 0, 0, 2,

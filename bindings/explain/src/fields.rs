@@ -57,6 +57,12 @@ pub struct Fields {
     queues: Vec<usize>,
     /// The message and the target of each arc, for each diagram state.
     pub(crate) arcs: Vec<Vec<(usize, usize)>>,
+    /// Whether each diagram state is final.
+    pub(crate) finals: Vec<bool>,
+    /// The root of each control state, or none.
+    pub(crate) roots: Vec<Option<usize>>,
+    /// The root of each bad entry.
+    pub(crate) bad_roots: Vec<usize>,
 }
 
 impl Fields {
@@ -207,7 +213,8 @@ impl Walk<'_> {
         for state in 0..states {
             self.met.pool.push(self.at);
             self.met.arcs.push(vec![]);
-            self.number(format!("whether diagram state {state} is final (0 no, 1 yes)"), (0, 1))?;
+            let is_final = self.number(format!("whether diagram state {state} is final (0 no, 1 yes)"), (0, 1))?;
+            self.met.finals.push(is_final > 0);
             let arcs = self.number(format!("the number of arcs of diagram state {state}"), (0, self.messages()))?;
             self.arcs(state, states, arcs)?;
         }
@@ -230,7 +237,8 @@ impl Walk<'_> {
         self.begin();
         for control in 0..self.controls() {
             let what = format!("the root of control state {control} (0 none, else 1 plus the diagram state)");
-            self.number(what, (0, states))?;
+            let root = self.number(what, (0, states))?;
+            self.met.roots.push(root.checked_sub(1));
         }
         Ok(())
     }
@@ -244,7 +252,8 @@ impl Walk<'_> {
         for entry in 0..self.number("the number of bad entries".into(), (0, BAD_ENTRIES_MOST))? {
             self.met.bad.push(self.at);
             self.index(format!("the control state of bad entry {entry}"), self.controls())?;
-            self.index(format!("the root of bad entry {entry} (the diagram state itself)"), states)?;
+            let root = self.index(format!("the root of bad entry {entry} (the diagram state itself)"), states)?;
+            self.met.bad_roots.push(root);
         }
         Ok(())
     }

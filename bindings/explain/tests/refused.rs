@@ -62,7 +62,7 @@ fn every_refusal_has_its_lines() {
             _ => 4,
         };
         assert_eq!(lines.len(), wanted, "{lines:?}");
-        assert!(refusal.number != 9 || lines[1].contains("which has an arc for message"), "{lines:?}");
+        assert!(refusal.number != 9 || lines[1].contains(", which accepts "), "{lines:?}");
     }
 }
 
@@ -177,8 +177,8 @@ const TOLD: [(&str, &[&str]); 13] = [
     ),
     (
         "01 01 00 02 01 01 00 01 01 02 00 00 01 00 01 00",
-        &["field 4, byte 14: the field before it: diagram state 0 has an arc for message 1 of queue 1 to state 0, which has an \
-           arc for message 0 of queue 0"],
+        &["field 6, byte 16: the end of the last field: control state 0 has root 0, which accepts 1 0, where message 0 of \
+           queue 0 comes after message 1 of queue 1"],
     ),
     (
         "02 01 01 00 00 01 01 02 00 00 00 01 00 01 00 01 00 00 02 00 01 00 01 01 01 00 00 01 00 00",

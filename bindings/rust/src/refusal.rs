@@ -35,7 +35,7 @@ impl Refusal {
             6 => "the product of the machines' states passes 256, or the sum of the queues' messages passes 32",
             7 => "a message of a transition is in another queue than the transition's",
             8 => "the messages of a diagram state's arcs do not ascend",
-            9 => "the pool is not in queue order: a state has an arc in for a queue and an arc out for an earlier one",
+            9 => "a word accepted from a root has a message of an earlier queue after one of a later queue",
             10 => "bytes follow the last field",
             11 => "the file has no such control state",
             12 => "the file has no such message",

@@ -12,7 +12,7 @@ use Rattle.numbers.specs.Limits.{mostBytes}
 use Rattle.numbers.specs.Part.{Part, got, refused}
 use Rattle.session.specs.Said.{ReadReply, read, refusal, saidAnswer}
 use Rattle.session.specs.File.{readFile, readReplyOf, tablesOf, Reads}
-use Rattle.tables.specs.Valid.{Valid}
+use Rattle.session.specs.Valid.{Valid}
 use Rattle.tables.specs.declared.tables.Tables.{Tables}
 use Rattle.session.specs.declared.reading.Reading.{Reading}
 use Rattle.meaning.specs.Reply.{shownOf}

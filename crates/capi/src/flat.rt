@@ -13,7 +13,7 @@ ghost use Prim.Native.Nat.{_+_, _≤_};
 ghost use lib.ListN.{length};
 ghost use Rattle.numbers.specs.Put.{Put};
 ghost use Rattle.capi.specs.Flat.{smallLong, largeLong, tablesLeast, small, large, flat};
-ghost use Rattle.tables.specs.Valid.{Valid};
+ghost use Rattle.session.specs.Valid.{Valid};
 
 // Bytes of the counts with the tables of machines and queues, of the large tables, and of all.
 const COUNTS: usize = 6;

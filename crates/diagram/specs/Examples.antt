@@ -2,13 +2,15 @@
 use Prim.Native.Nat.{ℕ}
 use mathlib.Core.Path.{_≡_, refl}
 use mathlib.Core.List.{List, [], _∷_}
+use Rattle.explore.specs.Explore.{expand, fresh}
 use Rattle.numbers.specs.Number.{readNumber, readWithin, readBelow, readTwo}
 use Rattle.reading_model.specs.Machines.{readFactor, readSizes, readStarts, countedMachines, readMachines}
 use Rattle.reading_model.specs.Queues.{readTerm, readCounts, readQueues}
 use Rattle.tables.specs.Queues.{firstMessage}
 use Rattle.reading_model.specs.Transitions.{readMessage, readWord, readAction, readTransition, readRows, readTransitions}
 use Rattle.reading_pool.specs.Pool.{readAscending, readArc, readArcs, readState, readStates, readPool}
-use Rattle.reading_pool.specs.Lowest.{lowest, lowests, arcsOrdered, statesOrdered, queuesOrdered, inQueueOrder}
+use Rattle.queue_order.specs.Nodes.{gather, queueNodes}
+use Rattle.queue_order.specs.Search.{reached, noneFails, inQueueOrder}
 use Rattle.session.specs.Map.{readRoots, readMap}
 use Rattle.session.specs.Bad.{readEntries, readBad}
 use Rattle.reading_model.specs.Model.{readModel}
@@ -46,6 +48,6 @@ unfolding
     readTerm readCounts readQueues firstMessage
     readMessage readWord readAction readTransition readRows readTransitions
     readAscending readArc readArcs readState readStates readPool
-    lowest lowests arcsOrdered statesOrdered queuesOrdered inQueueOrder
+    gather queueNodes reached noneFails inQueueOrder expand fresh
     readRoots readMap readEntries readBad
 replies = (refl, refl, refl, refl, refl, refl, refl, refl)

@@ -19,10 +19,12 @@ ghost use lib.ListN.{take};
 ghost use Rattle.tables.specs.Limits.{mostPool};
 ghost use Rattle.tables.specs.Kinds.{reachedOf};
 ghost use Rattle.model.specs.Model.{queueOf};
-ghost use Rattle.meaning.specs.Tables.{poolOf, sessionOf};
+ghost use Rattle.queue_order.specs.Pool.{poolOf};
+ghost use Rattle.meaning.specs.Tables.{sessionOf};
 ghost use Rattle.diagram.specs.Said.{saidMember};
 ghost use Rattle.diagram.specs.Member.{judge, ask, memberOf};
-ghost use Rattle.tables.specs.Valid.{QueuesValid, PoolValid, Valid};
+ghost use Rattle.tables.specs.Valid.{QueuesValid, PoolValid};
+ghost use Rattle.session.specs.Valid.{Valid};
 
 // The queue that a message belongs to.
 fn queue_of(q: Queues, m: Message) -> u8

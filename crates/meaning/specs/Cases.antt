@@ -16,7 +16,8 @@ use Rattle.reading_model.specs.Queues.{readTerm, readCounts, readQueues}
 use Rattle.tables.specs.Queues.{firstMessage}
 use Rattle.reading_model.specs.Transitions.{readMessage, readWord, readAction, readTransition, readRows, readTransitions}
 use Rattle.reading_pool.specs.Pool.{readAscending, readArc, readArcs, readState, readStates, readPool}
-use Rattle.reading_pool.specs.Lowest.{lowest, lowests, arcsOrdered, statesOrdered, queuesOrdered, inQueueOrder}
+use Rattle.queue_order.specs.Nodes.{gather, queueNodes}
+use Rattle.queue_order.specs.Search.{reached, noneFails, inQueueOrder}
 use Rattle.session.specs.Map.{readRoots, readMap}
 use Rattle.session.specs.Bad.{readEntries, readBad}
 use Rattle.reading_model.specs.Model.{readModel}
@@ -95,7 +96,7 @@ cases =
     ∷ case "j" (fileR "05" poolR "00") "refused 5 at 0\n"
     ∷ case "k" (fileR "02" poolR "00 00") "refused 10 at 29\n"
     ∷ case "l" (fileR "02" poolR "") "refused 3 at 28\n"
-    ∷ case "m" (fileS sendS "01 01 02 00 00 01 00") "refused 9 at 21\n"
+    ∷ case "m" (fileS sendS "01 01 02 00 00 01 00") "refused 9 at 23\n"
     ∷ case "n" (hex "03 10 10 02") "refused 6 at 3\n"
     ∷ []
 
@@ -171,6 +172,19 @@ furtherCases =
     -- a sum of 33 taken; a second byte of 128 taken
     ∷ case "sum" (hex "01 01 00 02 20 01") "refused 6 at 5\n"
     ∷ case "second byte" (hex "01 01 00 01 81 80") "refused 4 at 4\n"
+    -- S with a state out of order that no root leads to, and with one from which no final state is reached: either refused
+    ∷ case "unused" (fileS sendS "03 01 02 00 00 01 01 01 01 01 01 01 02 00 02 01 02") "closed 3\n"
+    ∷ case "dead" (fileS sendS "03 01 02 00 00 01 01 01 02 00 02 01 01 00 02 00 02 01 02") "closed 3\n"
+    -- message 1 and then 0 of the same queue refused
+    ∷ case "same queue" (hex "01 01 00 01 02 00 01 01 02 00 00 01 00 01 00") "closed 0\n"
+    -- 1 0 is accepted from a bad entry's root alone, at a control state without a root: bad entries passed over
+    ∷ case "bad root" (hex "01 01 00 02 01 01 00 01 01 02 00 00 01 00 00 01 00 00") "refused 9 at 18\n"
+    -- 1 0 leads back to the root, the only final state; and 1 2 0 over three queues
+    ∷ case "back" (hex "01 01 00 02 01 01 00 02 01 01 01 01 00 01 00 00 01 00") "refused 9 at 18\n"
+    ∷ case "apart" (hex "01 01 00 03 01 01 01 00 04 00 01 01 01 00 01 02 02 00 01 00 03 01 00 01 00") "refused 9 at 25\n"
+    -- the pool of case m with a byte too many, and with a root past its state: 10 before 9; 9 before field 5
+    ∷ case "more" (fileS sendS "01 01 02 00 00 01 00" ++ hex "00") "refused 9 at 23\n"
+    ∷ case "field 5" (hex "01 01 00 02 01 01 00 01 01 02 00 00 01 00 02 00") "refused 5 at 14\n"
     ∷ []
 
 -- what is claimed of a list of cases
@@ -218,7 +232,7 @@ unfolding
     readTerm readCounts readQueues firstMessage
     readMessage readWord readAction readTransition readRows readTransitions
     readAscending readArc readArcs readState readStates readPool
-    lowest lowests arcsOrdered statesOrdered queuesOrdered inQueueOrder
+    gather queueNodes reached noneFails inQueueOrder
     readRoots readMap readEntries readBad
     judged decide judge look walked explore rounds expand fresh starts childrenFrom
     line refusedLine digits spacedAll

@@ -1,21 +1,15 @@
 -- The session that the tables of a file describe. Its projections compute, so a proof pays nothing for it.
 use Prim.Native.Nat.{ℕ, zero, suc, _+_, _*_}
-use mathlib.Core.Bool.{true, false}
-use mathlib.Core.Option.{Option, none, some}
 use mathlib.Core.List.{List, [], _∷_}
 use lib.ListN.{getD, take, drop}
-use lib.Dec.{ltb}
-use Rattle.tables.specs.Limits.{mostMessages}
-use Rattle.tables.specs.Pool.{arcAt}
-use Rattle.tables.specs.Lookup.{rootOf, finalAt}
+use Rattle.tables.specs.Lookup.{rootOf}
 use Rattle.tables.specs.declared.tables.Machines.{Machines}
 use Rattle.tables.specs.declared.tables.Queues.{Queues}
 use Rattle.tables.specs.declared.tables.Transitions.{Transitions}
-use Rattle.tables.specs.declared.tables.Pool as Declared
 use Rattle.tables.specs.declared.tables.Tables.{Tables}
 use Rattle.model.specs.Model.{Model, Action, local, send, receive, Transition}
-use Rattle.model.specs.Diagram.{Pool}
 use Rattle.model.specs.Session.{Session}
+use Rattle.queue_order.specs.Pool.{poolOf}
 use Rattle.tables.specs.Rows.{rowLength, machineAt, fromAt, toAt, kindAt, queueAt, wordAt}
 
 -- kinds: 0 local, 1 send, 2 receive
@@ -46,13 +40,6 @@ modelOf m q τ =
       queues = take (q .count) (q .messages);
       transitions = transitionsFrom (τ .rows) (τ .count) 0;
     }
-
--- a state's entries of the table of arcs are for the messages below mostMessages
-abbrev pub arcOf : List ℕ → ℕ → ℕ → Option ℕ
-arcOf arcs s m = elim (ltb m mostMessages) [ true ↦ arcAt arcs s m | false ↦ none ]
-
-abbrev pub poolOf : Declared.Pool → Pool
-poolOf P = record { states = P .count; final = λ s. finalAt (P .finals) (some s); arc = arcOf (P .arcs) }
 
 -- so many bad entries from number b on
 abbrev pub badFrom : List ℕ → ℕ → ℕ → List (ℕ × ℕ)

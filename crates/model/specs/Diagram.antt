@@ -3,7 +3,7 @@ use mathlib.Core.Path.{_≡_}
 use mathlib.Core.Bool.{Bool, true, false}
 use mathlib.Core.Option.{Option, none, some}
 use mathlib.Core.List.{List, [], _∷_, _++_}
-use Prim.Native.Nat.{ℕ, _+_, _≤_}
+use Prim.Native.Nat.{ℕ, _+_, _<_}
 use lib.Dec.{ltb}
 use Rattle.model.specs.Model.{queueOf}
 
@@ -48,6 +48,12 @@ abbrev pub queuesFrom : ℕ → List ℕ → List ℕ → List (List ℕ)
 queuesFrom k [] u = []
 queuesFrom k (n ∷ ns) u = frontOf (k + n) u ∷ queuesFrom (k + n) ns (restOf (k + n) u)
 
--- the pool is in queue order when no state has an arc in for a message of some queue and an arc out for a message of an earlier queue
-abbrev pub InQueueOrder : List ℕ → Pool → Type 0
-InQueueOrder ns P = (r m s n s′ : ℕ) → P .arc r m ≡ some s → P .arc s n ≡ some s′ → queueOf ns m ≤ queueOf ns n
+-- A WORD IS OUT OF ORDER, over queues of so many messages each, if a message of an earlier queue stands after one of a later queue
+pub record OutOfOrder (ns u : List ℕ) : Type 0 where
+  pub before : List ℕ
+  pub later : ℕ
+  pub between : List ℕ
+  pub earlier : ℕ
+  pub after : List ℕ
+  pub is : u ≡ before ++ (later ∷ (between ++ (earlier ∷ after)))
+  pub back : queueOf ns earlier < queueOf ns later

@@ -20,7 +20,7 @@ pub enum Refusal {
     OtherQueue(usize),
     // an arc's message does not ascend
     NotAscending(usize),
-    // the pool is not in queue order
+    // a word that is accepted from a root is not in queue order
     NotInQueueOrder(usize),
     // bytes after the last field
     Trailing(usize),

@@ -1,8 +1,6 @@
 -- The laws of the pool that was read, each proved once from the definition.
 pub mod Ranges
-pub mod Testing
 pub mod Pool
-pub mod Order
 pub mod Places
 pub mod Arcs
 pub mod Listed

@@ -1,4 +1,3 @@
 pub mod Pool
 pub mod Lent
-pub mod Lowest
 pub mod Laws

@@ -1,3 +1,2 @@
-// Reading the pool, field 4 of a session file, and the test of its queue order.
-pub mod order;
+// Reading the pool, field 4 of a session file.
 pub mod pool;

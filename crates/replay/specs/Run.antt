@@ -8,7 +8,7 @@ use lib.ListN.{length, drop, replicate}
 use Rattle.numbers.specs.Limits.{mostBytes}
 use Rattle.numbers.specs.declared.refusal.Refusal.{Refusal}
 use Rattle.tables.specs.Limits.{mostQueues}
-use Rattle.tables.specs.Valid.{Valid}
+use Rattle.session.specs.Valid.{Valid}
 use Rattle.tables.specs.declared.tables.Machines.{Machines}
 use Rattle.tables.specs.declared.tables.Tables.{Tables}
 use Rattle.session.specs.declared.reading.Answer.{Answer}

@@ -16,7 +16,6 @@ use Rattle.reading_model.specs.Transitions.{readWord, readRows}
 use Rattle.reading_model.specs.Model.{readModel}
 use Rattle.tables.specs.Pool.{poolArcs}
 use Rattle.reading_pool.specs.Pool.{readAscending, readArc, readStates, readPool}
-use Rattle.tables.specs.Order.{QueueOrdered}
 use Rattle.session.specs.Map.{readRoots, readMap}
 use Rattle.session.specs.Bad.{readEntries}
 use Rattle.tables.specs.Rows.{rowsLength}
@@ -172,7 +171,7 @@ module _ (s : List ℕ) where
     pub below : arc < count
     pub read : ArcsRead sum n afterCount arc before p
 
-  -- fields 1 to 4, with K control states and n pool states; the pool is in queue order
+  -- fields 1 to 4, with K control states and n pool states
   pub record ToSets (controls n p : ℕ) : Type 0 where
     pub model : ModelTables
     pub pool : Pool
@@ -181,7 +180,6 @@ module _ (s : List ℕ) where
     pub afterModel : ℕ
     pub first : readModel s 0 ≡ got model afterModel
     pub second : readPool s afterModel (model .queues .sum) ≡ got pool p
-    pub ordered : QueueOrdered (model .queues) pool
 
   -- and field 5
   pub record ToBad (controls n p : ℕ) : Type 0 where

@@ -12,7 +12,7 @@ use Rattle.reading_model.specs.Model.{readModel}
 use Rattle.tables.specs.Pool.{poolArcs}
 use Rattle.tables.specs.Empty.{emptyModel}
 use Rattle.reading_pool.specs.Pool.{readPool}
-use Rattle.reading_pool.specs.Lowest.{inQueueOrder}
+use Rattle.queue_order.specs.Search.{inQueueOrder}
 use Rattle.session.specs.Sets.{readSets}
 use Rattle.tables.specs.declared.tables.ModelTables.{ModelTables}
 use Rattle.tables.specs.declared.tables.Pool.{Pool}
@@ -32,15 +32,22 @@ joined M P D =
       bad = D .bad;
     }
 
--- READING: the tables, or the refusal. Fields 1 to 3; field 4, and the test of queue order; fields 5 and 6, and nothing after them
+-- and back
+abbrev pub modelTables : Tables → ModelTables
+modelTables T = record { machines = T .machines; queues = T .queues; transitions = T .transitions }
+
+abbrev pub setTables : Tables → SetTables
+setTables T = record { map = T .map; bad = T .bad }
+
+-- READING: the tables, or the refusal. Fields 1 to 3; field 4; fields 5 and 6; then queue order, and nothing after the last field
 unfoldable pub readFile : List ℕ → Part Tables
 readFile s =
     provided (leb (length s) mostBytes) 1 mostBytes
     (andThen (readModel s 0) (λ M p₁.
     andThen (readPool s p₁ (M .queues .sum)) (λ P p₂.
-    provided (inQueueOrder (M .queues) P) 9 p₂
-    (andThen (readSets s p₂ (M .machines .product) (P .count)) (λ D p₃.
-    provided (leb (length s) p₃) 10 p₃ (got (joined M P D) p₃))))))
+    andThen (readSets s p₂ (M .machines .product) (P .count)) (λ D p₃.
+    provided (inQueueOrder (M .queues) P (M .machines .product) D) 9 p₃
+    (provided (leb (length s) p₃) 10 p₃ (got (joined M P D) p₃))))))
 
 -- the tables of no file: all entries 0
 abbrev pub empty : Tables

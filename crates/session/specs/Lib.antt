@@ -3,6 +3,7 @@ pub mod Map
 pub mod Bad
 pub mod Sets
 pub mod File
+pub mod Valid
 pub mod Lent
 pub mod Causes
 pub mod Laws

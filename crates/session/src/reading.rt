@@ -4,9 +4,9 @@ use crate::sets::read_sets;
 use numbers::number::Filled;
 use numbers::refusal::MOST_BYTES;
 use numbers::refusal::Refusal;
+use queue_order::order::in_queue_order;
 use reading_model::model::ModelRead;
 use reading_model::model::read_model;
-use reading_pool::order::in_queue_order;
 use reading_pool::pool::read_pool;
 use tables::empty::empty_machines;
 use tables::empty::empty_queues;
@@ -118,19 +118,19 @@ fn read_open(
             match after_pool {
                 Filled::Refused(why) => refused(why),
                 Filled::To(p2) => {
-                    if !in_queue_order(queues, second.count, arcs) {
-                        return refused(Refusal::NotInQueueOrder(p2));
-                    }
                     let machines = first.machines;
                     let third = read_sets(s, p2, machines.product, second.count);
                     let after_sets = third.filled;
                     match after_sets {
                         Filled::Refused(why) => refused(why),
                         Filled::To(p3) => {
+                            let sets = third.sets;
+                            if !in_queue_order(queues, finals, arcs, machines.product, sets) {
+                                return refused(Refusal::NotInQueueOrder(p3));
+                            }
                             if p3 < s.len() {
                                 return refused(Refusal::Trailing(p3));
                             }
-                            let sets = third.sets;
                             all_read(first, second.count, sets)
                         }
                     }

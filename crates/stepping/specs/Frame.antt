@@ -11,7 +11,8 @@ use Rattle.tables.specs.declared.tables.BadList.{BadList}
 use Rattle.tables.specs.declared.tables.Tables.{Tables}
 use Rattle.model.specs.Model.{Model, Configuration}
 use Rattle.model.specs.Diagram.{accepts, word}
-use Rattle.meaning.specs.Tables.{modelOf, poolOf}
+use Rattle.queue_order.specs.Pool.{poolOf}
+use Rattle.meaning.specs.Tables.{modelOf}
 use Rattle.stepping.specs.declared.frame.Frame.{Frame}
 
 abbrev pub noBad : BadList

@@ -6,6 +6,5 @@ pub mod Pool
 pub mod Empty
 pub mod Said
 pub mod Lookup
-pub mod Order
 pub mod Valid
 pub mod Laws

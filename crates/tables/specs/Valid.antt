@@ -1,5 +1,5 @@
--- WHAT HOLDS OF TABLES that a file was read into (document 01, "The session file"): every index below its count, entries beyond the counts
--- 0. `Laws.Valid.valid` is the theorem.
+-- What holds of each table that a field of a file was read into (document 01, "The session file"): every index below its count, entries
+-- beyond the counts 0.
 use Prim.Native.Nat.{ℕ, zero, suc, _+_, _*_, _≤_, _<_}
 use mathlib.Core.Path.{_≡_}
 use mathlib.Core.List.{List}
@@ -8,7 +8,6 @@ use Rattle.tables.specs.Limits.{mostMachines, mostStates, mostControls, 
 use Rattle.tables.specs.Rows.{rowLength, rowsLength, wordEntry, machineAt, fromAt, toAt, kindAt, queueAt, lengthAt}
 use Rattle.tables.specs.Queues.{firstMessage, OfQueue}
 use Rattle.tables.specs.Pool.{poolArcs}
-use Rattle.tables.specs.Order.{QueueOrdered}
 use Rattle.tables.specs.declared.tables.Machines.{Machines}
 use Rattle.tables.specs.declared.tables.Queues.{Queues}
 use Rattle.tables.specs.declared.tables.Transitions.{Transitions}
@@ -17,7 +16,6 @@ use Rattle.tables.specs.declared.tables.Map.{Map}
 use Rattle.tables.specs.declared.tables.BadList.{BadList}
 use Rattle.tables.specs.declared.tables.ModelTables.{ModelTables}
 use Rattle.tables.specs.declared.tables.SetTables.{SetTables}
-use Rattle.tables.specs.declared.tables.Tables.{Tables}
 
 -- the product of the first entries, as many as are asked for
 unfoldable pub productOf : List ℕ → ℕ → ℕ
@@ -100,16 +98,7 @@ pub record BadValid (product n : ℕ) (B : BadList) : Type 0 where
   pub root : (b : ℕ) → b < B .count → getD (B .rows) (b * 2 + 1) 0 < n
   pub rest : (k : ℕ) → B .count * 2 ≤ k → getD (B .rows) k 0 ≡ 0
 
-pub record Valid (T : Tables) : Type 0 where
-  pub machines : MachinesValid (T .machines)
-  pub queues : QueuesValid (T .queues)
-  pub transitions : TransitionsValid (T .machines) (T .queues) (T .transitions)
-  pub pool : PoolValid (T .queues .sum) (T .pool)
-  pub ordered : QueueOrdered (T .queues) (T .pool)
-  pub map : MapValid (T .machines .product) (T .pool .count) (T .map)
-  pub bad : BadValid (T .machines .product) (T .pool .count) (T .bad)
-
--- the model and the sets, each by itself
+-- the model and the sets
 pub record ModelValid (M : ModelTables) : Type 0 where
   pub machines : MachinesValid (M .machines)
   pub queues : QueuesValid (M .queues)

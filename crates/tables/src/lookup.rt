@@ -45,16 +45,6 @@ pub fn arc_at(arcs: &[u8], s: DiagramState, m: Message) -> Arc
     Arc::Target(DiagramState(target - 1))
 }
 
-// The same over any table: past its end there is no arc.
-pub fn arc_of(arcs: &[u8], s: DiagramState, m: Message) -> Arc
-    ensures { λ r. ⌜ saidArc r ≡ arcAt (now (arcs .entry)) (s .0) (m .0) ⌝ }
-{
-    if s.0 as usize * ARCS + (m.0 as usize) < arcs.len() {
-        return arc_at(arcs, s, m);
-    }
-    Arc::Nowhere
-}
-
 // One message more. A missing arc has nowhere to go, and nowhere stays nowhere.
 pub fn along(arcs: &[u8], from: Reached, m: Message) -> Reached
     requires { ⌜ ArcsSmall (now arcs) ⌝ }

@@ -23,7 +23,7 @@ ghost use lib.ListN.{length, replicate};
 ghost use Rattle.meaning.specs.Checking.{Checks, CheckMeans, CheckTwoRuns};
 ghost use Rattle.items.specs.Judging.{AllAsked};
 ghost use Rattle.verdict.specs.Check.{saidVerdict, Shows, concluded, Concludes, Room, VerdictFound};
-ghost use Rattle.tables.specs.Valid.{Valid};
+ghost use Rattle.session.specs.Valid.{Valid};
 ghost use Rattle.session.specs.Lent.{lentReading};
 ghost use Rattle.pairs.specs.Pairs.{mostCodes};
 ghost use Rattle.items.specs.Promises.{diagrams, memory};

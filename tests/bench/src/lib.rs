@@ -1,5 +1,7 @@
 //! Taking times, and the lines that report them.
 
+pub mod order;
+
 use std::time::{Duration, Instant};
 
 const RUNS: usize = 9;

@@ -3,10 +3,12 @@
 //! Every subject is timed on the same files in the same run, so another implementation is compared by adding a
 //! `Subject` to `subjects`. The program `replay` has the times of replaying.
 //!
+//! The reference reads with `order`, the product's test of queue order in safe Rust.
+//!
 //! `bench` leaves out the files with the most steps, which take minutes; `bench --whole` has them.
 //!
-//! `bench --before` is for a library that reads words of four messages at most: it may refuse the files that have
-//! longer ones, and is timed on all others. The files are the same in every run.
+//! `bench --before` is for a library that reads words of four messages at most, or pools in queue order alone: it may refuse
+//! the files that have longer words or other pools, and is timed on all others. The files are the same in every run.
 
 use std::hint::black_box;
 use std::time::{Duration, Instant};
@@ -15,10 +17,12 @@ use reference_checker::generate::document::{hex, R};
 use reference_checker::generate::large;
 use reference_checker::generate::plan::Direction;
 use reference_checker::long_words::has_long_word;
+use reference_checker::order_features::places_out_of_order;
 use reference_checker::random::Random;
-use reference_checker::read::read;
+use reference_checker::read::{read, read_asking};
 use reference_checker::verdict::Verdict;
-use reference_checker::walk::{check, Scratch};
+use reference_checker::walk::{check_tables, Scratch};
+use swarmbanner_bench::order::in_queue_order;
 use swarmbanner_bench::{report, time, Times};
 
 /// What is timed.
@@ -48,16 +52,17 @@ impl Subject for Reference {
     }
 
     fn reads(&mut self, file: &[u8]) -> bool {
-        black_box(read(black_box(file))).is_ok()
+        black_box(read_asking(black_box(file), in_queue_order)).is_ok()
     }
 
     fn checks(&mut self, file: &[u8]) -> Option<Checked> {
-        Some(match check(black_box(file), &mut self.scratch) {
-            Ok(Verdict::Closed { pairs }) => Checked::Closed { pairs },
-            Ok(Verdict::Leaves { contents, .. } | Verdict::Bad { contents, .. }) => {
+        let Ok(tables) = read_asking(black_box(file), in_queue_order) else { return Some(Checked::Else) };
+        Some(match check_tables(&tables, &mut self.scratch) {
+            Verdict::Closed { pairs } => Checked::Closed { pairs },
+            Verdict::Leaves { contents, .. } | Verdict::Bad { contents, .. } => {
                 Checked::Shown { messages: black_box(contents).len() }
             }
-            _ => Checked::Else,
+            Verdict::Outside => Checked::Else,
         })
     }
 }
@@ -131,7 +136,7 @@ fn subjects() -> Vec<Box<dyn Subject>> {
     vec![Box::new(Reference { scratch: Scratch::default() }), Box::new(Product::default())]
 }
 
-/// What is timed, and whether it may refuse long words.
+/// What is timed, and whether it may refuse long words and pools that are out of order where it does not matter.
 struct Bench {
     subjects: Vec<Box<dyn Subject>>,
     before: bool,
@@ -139,7 +144,8 @@ struct Bench {
 
 impl Bench {
     fn may_refuse(&self, file: &[u8]) -> bool {
-        self.before && read(file).is_ok_and(|tables| has_long_word(&tables))
+        let is_new = |tables| has_long_word(&tables) || !places_out_of_order(&tables).is_empty();
+        self.before && read(file).is_ok_and(is_new)
     }
 
     fn time_reading(&mut self, name: &str, file: &[u8]) {
@@ -220,6 +226,7 @@ fn main() {
     for (length, file) in WORD_LENGTHS.into_iter().zip(&maximal) {
         bench.time_reading(&format!("longest file, words of {length}"), file);
     }
+    bench.time_reading("longest test of queue order", &large::longest_test_of_order(&mut random()).bytes());
 
     bench.time_checking("R", &hex(R));
     let mut steps = vec![("local".to_string(), None)];

@@ -3,12 +3,14 @@
 use std::collections::{BTreeMap, BTreeSet};
 
 use crate::generate::draft::Role;
-use crate::generate::membership::Purpose;
+use crate::generate::membership::{Purpose, ABOUT_ORDER};
 use crate::generate::reading::{Expected, Generator};
 use crate::generate::replay as replays;
+use crate::generate::row_9;
 use crate::generate::verdicts;
 use crate::long_words::{self, has_long_word};
 use crate::membership::{membership, membership_line};
+use crate::order_features::{self, OrderHits};
 use crate::read::{read, Kind, Refusal, Tables, WORD_LENGTH};
 use crate::replay::{replay, Answer};
 use crate::replay_features;
@@ -37,6 +39,7 @@ struct ReadingHits<'c> {
     kinds: BTreeMap<&'c str, usize>,
     /// Files that are read and have a word of this length.
     word_lengths: [usize; WORD_LENGTH + 1],
+    of_order: OrderHits,
 }
 
 pub fn reading_coverage(generator: &Generator) -> Coverage {
@@ -44,6 +47,7 @@ pub fn reading_coverage(generator: &Generator) -> Coverage {
     let mut complaints = Vec::new();
     for (index, case) in generator.cases.iter().enumerate() {
         let reply = read(&case.bytes);
+        hits.of_order.add(&case.bytes);
         match &reply {
             Ok(tables) => hits.add_tables(tables),
             Err(refusal) => *hits.rows.entry(refusal.number).or_default() += 1,
@@ -88,6 +92,8 @@ const LONG_WORD_DAMAGE: [(&str, usize); 5] = [
     ("row 5: a length far past, and 17 messages", 20),
     ("row 7: late in a long word", 20),
 ];
+/// Files of each kind made for row 9.
+const ENOUGH_OF_ROW_9: usize = 30;
 
 impl ReadingHits<'_> {
     fn add_tables(&mut self, tables: &Tables) {
@@ -117,6 +123,11 @@ impl ReadingHits<'_> {
         for (kind, enough) in LONG_WORD_DAMAGE {
             ask(kind.to_string(), self.kinds.get(kind).copied(), enough);
         }
+        for kind in row_9::kinds() {
+            let files = self.kinds.get(&kind[..]).copied();
+            ask(kind, files, ENOUGH_OF_ROW_9);
+        }
+        complaints.extend(self.of_order.complaints(ENOUGH_OF_ROW_9));
         complaints
     }
 
@@ -131,7 +142,7 @@ impl ReadingHits<'_> {
         for (length, hits) in self.word_lengths.iter().enumerate() {
             report += &format!("read with a word of {length}: {hits}\n");
         }
-        report
+        report + &self.of_order.report()
     }
 }
 
@@ -139,6 +150,8 @@ impl ReadingHits<'_> {
 const ENOUGH_VERDICTS: usize = 100;
 /// Each mistake changes the line of at least this many files.
 const ENOUGH_TOLD: usize = 50;
+/// Files for checking, questions and replays that each mistake about row 9 changes, and that are out of order in each place.
+const ENOUGH_OF_ORDER: usize = 10;
 /// Mistakes are tried on files up to this many bytes: they are searched for plainly.
 const SMALL_FILE: usize = 300;
 
@@ -147,8 +160,15 @@ struct VerdictHits<'c> {
     lines: BTreeMap<String, usize>,
     kinds: BTreeMap<&'c str, usize>,
     features: BTreeMap<&'static str, usize>,
-    of_long_words: BTreeMap<String, usize>,
+    /// Features of long words and of queue order that are asked.
+    asked_features: BTreeMap<String, usize>,
     told: BTreeMap<Trap, usize>,
+    of_order: OrderHits,
+}
+
+/// The features that files for checking must have, each with how many files.
+fn asked_of_verdicts() -> BTreeMap<String, usize> {
+    long_words::asked().into_iter().chain(order_features::asked()).collect()
 }
 
 pub fn verdict_coverage(cases: &[verdicts::Case]) -> Coverage {
@@ -157,13 +177,15 @@ pub fn verdict_coverage(cases: &[verdicts::Case]) -> Coverage {
         lines: BTreeMap::new(),
         kinds: BTreeMap::new(),
         features: BTreeMap::new(),
-        of_long_words: long_words::asked().into_keys().map(|feature| (feature, 0)).collect(),
+        asked_features: asked_of_verdicts().into_keys().map(|feature| (feature, 0)).collect(),
         told: Trap::all().map(|trap| (trap, 0)).collect(),
+        of_order: OrderHits::default(),
     };
     for case in cases {
         let reply = check(&case.bytes, &mut scratch);
         *hits.lines.entry(line_kind(&line(&reply))).or_default() += 1;
         *hits.kinds.entry(&case.kind).or_default() += 1;
+        hits.of_order.add(&case.bytes);
         if let (Ok(tables), Ok(verdict)) = (read(&case.bytes), &reply) {
             hits.add_verdict(&tables, verdict, case.bytes.len() <= SMALL_FILE);
         }
@@ -178,8 +200,12 @@ impl VerdictHits<'_> {
         for (feature, has) in features_of(tables) {
             *self.features.entry(feature).or_default() += usize::from(has);
         }
-        for feature in long_words::features(tables, verdict) {
-            self.of_long_words.entry(feature).and_modify(|files| *files += 1);
+        let mut features = long_words::features(tables, verdict);
+        if is_small {
+            features.extend(order_features::features(tables, verdict));
+        }
+        for feature in features {
+            self.asked_features.entry(feature).and_modify(|files| *files += 1);
         }
         if is_small {
             for (&trap, count) in &mut self.told {
@@ -197,8 +223,8 @@ impl VerdictHits<'_> {
                 complaints.push(format!("{wanted} is hit only {hits} times"));
             }
         }
-        for (feature, enough) in long_words::asked() {
-            let hits = self.of_long_words[&feature];
+        for (feature, enough) in asked_of_verdicts() {
+            let hits = self.asked_features[&feature];
             if hits < enough {
                 complaints.push(format!("only {hits} files have: {feature}"));
             }
@@ -208,6 +234,7 @@ impl VerdictHits<'_> {
                 complaints.push(format!("only {count} files tell {trap:?}"));
             }
         }
+        complaints.extend(self.of_order.complaints(ENOUGH_OF_ORDER));
         complaints
     }
 
@@ -219,7 +246,7 @@ impl VerdictHits<'_> {
         for (feature, count) in &self.features {
             report += &format!("with {feature}: {count}\n");
         }
-        for (feature, count) in &self.of_long_words {
+        for (feature, count) in &self.asked_features {
             report += &format!("{feature}: {count}\n");
         }
         for (kind, count) in self.kinds.iter().filter(|(kind, _)| !kind.starts_with("document")) {
@@ -228,7 +255,7 @@ impl VerdictHits<'_> {
         for (trap, count) in &self.told {
             report += &format!("files whose line would change by {trap:?}: {count}\n");
         }
-        report
+        report + &self.of_order.report()
     }
 }
 
@@ -258,18 +285,26 @@ fn features_of(tables: &Tables) -> Vec<(&'static str, bool)> {
     ]
 }
 
+/// Questions of each kind about files that are out of order.
+const ENOUGH_QUESTIONS_OF_ORDER: usize = 24;
+
 pub fn membership_coverage(questions: &[(Purpose, Question)]) -> Coverage {
     let mut replies: BTreeMap<String, usize> = BTreeMap::new();
+    let mut about_order: BTreeMap<&str, usize> = ABOUT_ORDER.map(|kind| (kind, 0)).into();
+    let mut of_order = OrderHits::default();
     let mut complaints = Vec::new();
     for (index, (purpose, question)) in questions.iter().enumerate() {
         let reply = membership(&question.file, question.control_state, &question.contents);
         let as_made = match *purpose {
             Purpose::ControlState => reply == Err(Refusal { number: 11, place: 0 }),
             Purpose::MessageTooHigh(place) => reply == Err(Refusal { number: 12, place }),
-            Purpose::OutOfOrder(place) => reply == Err(Refusal { number: 13, place }),
+            Purpose::OutOfOrder(place) | Purpose::OutOfOrderAlongArcs(place) => {
+                reply == Err(Refusal { number: 13, place })
+            }
+            Purpose::WordOutOfOrder(refusal) => reply == Err(refusal),
             Purpose::RefusedFile => reply.is_err_and(|refusal| refusal.number <= 10),
-            Purpose::NoRoot => reply == Ok(false),
-            Purpose::OnTheWay | Purpose::InOrder => reply.is_ok(),
+            Purpose::NoRoot | Purpose::IntoDeadEnd => reply == Ok(false),
+            Purpose::OnTheWay | Purpose::InOrder | Purpose::Harmless => reply.is_ok(),
             Purpose::Long => reply == Ok(true),
             Purpose::Document => true,
         };
@@ -277,6 +312,10 @@ pub fn membership_coverage(questions: &[(Purpose, Question)]) -> Coverage {
             complaints.push(format!("question {index} ({purpose:?}): {}", membership_line(&reply)));
         }
         *replies.entry(line_kind(&membership_line(&reply))).or_default() += 1;
+        of_order.add(&question.file);
+        if let Some(kind) = purpose.about_order(&reply) {
+            about_order.entry(kind).and_modify(|count| *count += 1);
+        }
     }
     for wanted in ["yes", "no", "refused 11", "refused 12", "refused 13"] {
         let hits = replies.get(wanted).copied().unwrap_or(0);
@@ -284,11 +323,18 @@ pub fn membership_coverage(questions: &[(Purpose, Question)]) -> Coverage {
             complaints.push(format!("{wanted} is hit only {hits} times"));
         }
     }
+    for (kind, count) in about_order.iter().filter(|(_, &count)| count < ENOUGH_QUESTIONS_OF_ORDER) {
+        complaints.push(format!("only {count} questions about order are: {kind}"));
+    }
+    complaints.extend(of_order.complaints(ENOUGH_OF_ORDER));
     let mut report = format!("{} questions\n", questions.len());
     for (reply, count) in &replies {
         report += &format!("{reply}: {count}\n");
     }
-    Coverage { report, complaints }
+    for (kind, count) in &about_order {
+        report += &format!("about order, {kind}: {count}\n");
+    }
+    Coverage { report: report + &of_order.report(), complaints }
 }
 
 /// Each mistake changes the line of at least this many replays.
@@ -307,10 +353,12 @@ pub fn replay_coverage(cases: &[replays::Case]) -> Coverage {
     let asked = replay_features::asked();
     let mut features: BTreeMap<String, usize> = asked.keys().map(|feature| (feature.clone(), 0)).collect();
     let mut told = BTreeMap::from(ReplayTrap::ALL.map(|trap| (trap, 0)));
+    let mut of_order = OrderHits::default();
     let mut complaints = Vec::new();
     let mut bytes = 0;
     for (index, replays::Case { kind, replay: asked, expected }) in cases.iter().enumerate() {
         bytes += asked.file.len() + asked.trace.len();
+        of_order.add(&asked.file);
         let lent = asked.lent();
         let answer = replay(&asked.file, &asked.trace, &lent);
         if expected.is_some_and(|expected| expected != answer.reply) {
@@ -341,6 +389,7 @@ pub fn replay_coverage(cases: &[replays::Case]) -> Coverage {
             complaints.push(format!("only {count} replays tell {trap:?}"));
         }
     }
+    complaints.extend(of_order.complaints(ENOUGH_OF_ORDER));
     let mut report = format!("{} replays, {bytes} bytes of files and traces\n", cases.len());
     for (feature, count) in &features {
         report += &format!("{feature}: {count}\n");
@@ -348,5 +397,5 @@ pub fn replay_coverage(cases: &[replays::Case]) -> Coverage {
     for (trap, count) in &told {
         report += &format!("replays whose line would change by {trap:?}: {count}\n");
     }
-    Coverage { report, complaints }
+    Coverage { report: report + &of_order.report(), complaints }
 }

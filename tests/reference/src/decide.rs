@@ -172,9 +172,7 @@ impl<'t> Session<'t> {
         for _ in 0..longest {
             for index in shorter.clone() {
                 let word: Vec<u8> = words[index].clone();
-                let queue = word.last().map_or(0, |&message| self.tables.queue_of(message));
-                let messages = self.tables.first_message(queue)..self.tables.message_sum;
-                words.extend(messages.map(|message| [&word[..], &[message as u8]].concat()));
+                words.extend(self.messages_behind(&word).map(|message| [&word[..], &[message]].concat()));
             }
             shorter = shorter.end..words.len();
         }
@@ -246,8 +244,9 @@ impl<'t> Session<'t> {
         (0..self.tables.pool_state_count).map(|state| follow(self.tables, Some(state), word)).collect()
     }
 
-    /// The first word, shortest first and then lowest, that passes a test which words nowhere in the source fail.
-    /// `alike` gives equal values only for words that stay alike when the same messages are added.
+    /// The first contents, shortest first and then lowest, that pass a test which words nowhere in the source fail.
+    /// `alike` gives equal values only for words that stay alike when the same messages are added. Contents are in queue
+    /// order, so words that end in different queues do not go on with the same messages, and are not held alike.
     fn first_word<A: Eq + std::hash::Hash>(
         &self,
         source: Option<usize>,
@@ -257,7 +256,7 @@ impl<'t> Session<'t> {
         if source.is_none() {
             return Ok(None);
         }
-        let mut known = HashSet::from([alike(&[])]);
+        let mut known = HashSet::from([(0, alike(&[]))]);
         let mut words = vec![vec![]];
         while !words.is_empty() {
             let mut longer = Vec::new();
@@ -265,9 +264,10 @@ impl<'t> Session<'t> {
                 if test(&word) {
                     return Ok(Some(word));
                 }
-                for message in 0..self.tables.message_sum as u8 {
+                for message in self.messages_behind(&word) {
                     let next = [&word[..], &[message]].concat();
-                    if follow(self.tables, source, &next).is_some() && known.insert(alike(&next)) {
+                    let key = (self.tables.queue_of(message), alike(&next));
+                    if follow(self.tables, source, &next).is_some() && known.insert(key) {
                         longer.push(next);
                     }
                 }
@@ -278,6 +278,12 @@ impl<'t> Session<'t> {
             words = longer;
         }
         Ok(None)
+    }
+
+    /// The messages that contents can go on with.
+    fn messages_behind(&self, word: &[u8]) -> Range<u8> {
+        let queue = word.last().map_or(0, |&message| self.tables.queue_of(message));
+        self.tables.first_message(queue) as u8..self.tables.message_sum as u8
     }
 
     /// The different actions of all words of some queues.

@@ -1,6 +1,7 @@
 //! An independent reference for Swarmbanner, written from its documents alone: reading, membership, verdicts, replays,
 //! and generators of files to compare by.
 
+pub mod arcs;
 pub mod coverage;
 pub mod decide;
 pub mod diagram;
@@ -8,6 +9,9 @@ pub mod digest;
 pub mod generate;
 pub mod long_words;
 pub mod membership;
+pub mod order;
+pub mod order_features;
+pub mod order_traps;
 pub mod random;
 pub mod read;
 pub mod replay;

@@ -16,7 +16,7 @@ use reference_checker::membership::{membership, membership_line};
 use reference_checker::random::Random;
 use reference_checker::read::read;
 use reference_checker::replay::replay;
-use reference_checker::selftest::{selftest, Agreement};
+use reference_checker::selftest::{selftest, selftest_order, Agreement};
 use reference_checker::stream::{put_file, put_question, put_replay, Question, Records};
 use reference_checker::verdict::{line, Reply};
 use reference_checker::walk::{check, Scratch};
@@ -38,7 +38,7 @@ usage: reference COMMAND
   generate-replay        write the stream of replays
   replay                 answer such a stream on standard input, one line a replay
   coverage-replay        say what that stream hits, and which mistakes it would tell
-  selftest SEED COUNT    compare all ways to the verdict on random small files
+  selftest SEED COUNT    compare all ways to the verdict, and to row 9, on random small files
   check                  check one file on standard input, by walking
   maximal                write the longest file that is read";
 
@@ -106,9 +106,13 @@ fn run(arguments: &[String]) -> Result<(), String> {
         }
         ["maximal"] => write(&maximal_closed(&mut Random::new(SEED)).bytes()),
         ["selftest", seed, count] => {
-            let agreement = selftest(number(seed)?, number(count)? as usize);
+            let (seed, count) = (number(seed)?, number(count)? as usize);
+            let agreement = selftest(seed, count);
             tell_agreement(&agreement);
-            fail_on(&agreement.disagreements)
+            let of_order = selftest_order(seed, count);
+            println!("row 9: {} in order, {} out of order", of_order.in_order, of_order.out_of_order);
+            println!("disagreements: {}", of_order.disagreements.len());
+            fail_on(&[agreement.disagreements, of_order.disagreements].concat())
         }
         _ => Err(USAGE.to_string()),
     }

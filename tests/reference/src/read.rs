@@ -4,6 +4,8 @@
 
 use std::fmt;
 
+use crate::order::in_queue_order;
+
 pub const LONGEST_FILE: usize = 16_384;
 
 pub const MACHINES: usize = 4;
@@ -29,7 +31,7 @@ impl fmt::Display for Refusal {
     }
 }
 
-const fn refuse<T>(number: u8, place: usize) -> Result<T, Refusal> {
+pub(crate) const fn refuse<T>(number: u8, place: usize) -> Result<T, Refusal> {
     Err(Refusal { number, place })
 }
 
@@ -183,24 +185,34 @@ fn small(value: usize) -> u8 {
 }
 
 pub fn read(bytes: &[u8]) -> Result<Tables, Refusal> {
+    read_asking(bytes, in_queue_order)
+}
+
+/// Reads with this test of queue order in row 9: `tests/bench` times another form of it.
+pub fn read_asking(bytes: &[u8], is_in_queue_order: impl Fn(&Tables) -> bool) -> Result<Tables, Refusal> {
     if bytes.len() > LONGEST_FILE {
         return refuse(1, LONGEST_FILE);
     }
     let mut reader = Reader { bytes, place: 0 };
     let mut tables = Tables::empty();
-    read_machines(&mut reader, &mut tables)?;
-    read_queues(&mut reader, &mut tables)?;
-    read_transitions(&mut reader, &mut tables)?;
-    read_pool(&mut reader, &mut tables)?;
-    if !in_queue_order(&tables) {
-        return refuse(9, reader.place);
-    }
+    read_up_to_pool(&mut reader, &mut tables)?;
     read_roots(&mut reader, &mut tables)?;
     read_bad_entries(&mut reader, &mut tables)?;
+    if !is_in_queue_order(&tables) {
+        return refuse(9, reader.place);
+    }
     if reader.place < bytes.len() {
         return refuse(10, reader.place);
     }
     Ok(tables)
+}
+
+/// Fields 1 to 4.
+pub(crate) fn read_up_to_pool(reader: &mut Reader, tables: &mut Tables) -> Result<(), Refusal> {
+    read_machines(reader, tables)?;
+    read_queues(reader, tables)?;
+    read_transitions(reader, tables)?;
+    read_pool(reader, tables)
 }
 
 /// Field 1. The product is tested at each number of states, before any starting state is read.
@@ -292,29 +304,8 @@ fn read_pool(reader: &mut Reader, tables: &mut Tables) -> Result<(), Refusal> {
     Ok(())
 }
 
-/// No state has an arc in for a message of some queue and an arc out for a message of an earlier queue.
-fn in_queue_order(tables: &Tables) -> bool {
-    let mut queue_of = [0; MESSAGES];
-    for queue in 0..tables.queue_count {
-        queue_of[tables.first_message(queue)..tables.first_message(queue + 1)].fill(queue);
-    }
-    let arcs_of = |state: usize| {
-        let arcs = &tables.arcs[state * MESSAGES..][..tables.message_sum];
-        arcs.iter().zip(queue_of).filter(|(&arc, _)| arc > 0)
-    };
-    let mut latest_in = [0; POOL_STATES];
-    for state in 0..tables.pool_state_count {
-        for (&arc, queue) in arcs_of(state) {
-            let latest = &mut latest_in[usize::from(arc - 1)];
-            *latest = queue.max(*latest);
-        }
-    }
-    // Messages are numbered through the queues, so a state's first arc is of its earliest queue.
-    (0..tables.pool_state_count).all(|state| arcs_of(state).next().is_none_or(|(_, queue)| queue >= latest_in[state]))
-}
-
 /// Field 5. The number read is kept: 0 for no root, or 1 plus the root.
-fn read_roots(reader: &mut Reader, tables: &mut Tables) -> Result<(), Refusal> {
+pub(crate) fn read_roots(reader: &mut Reader, tables: &mut Tables) -> Result<(), Refusal> {
     for control_state in 0..tables.control_state_count {
         tables.roots[control_state] = small(reader.between(0, tables.pool_state_count)?);
     }
@@ -322,7 +313,7 @@ fn read_roots(reader: &mut Reader, tables: &mut Tables) -> Result<(), Refusal> {
 }
 
 /// Field 6. Here the root stands as it is.
-fn read_bad_entries(reader: &mut Reader, tables: &mut Tables) -> Result<(), Refusal> {
+pub(crate) fn read_bad_entries(reader: &mut Reader, tables: &mut Tables) -> Result<(), Refusal> {
     tables.bad_count = reader.between(0, BAD_ENTRIES)?;
     for entry in 0..tables.bad_count {
         tables.bad[entry] = BadEntry {

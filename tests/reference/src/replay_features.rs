@@ -4,6 +4,7 @@ use std::collections::{BTreeMap, BTreeSet};
 
 use crate::diagram::{follow, root};
 use crate::generate::replay::SESSIONS;
+use crate::order_features::places_out_of_order;
 use crate::read::{
     read, Kind, Refusal, Tables, Transition, MACHINES, MACHINE_STATES, MESSAGES, POOL_STATES, QUEUES, TRANSITIONS,
     WORD_LENGTH,
@@ -108,6 +109,7 @@ pub fn asked() -> BTreeMap<String, usize> {
             "trace refused where memory is short",
         ],
     );
+    asked.extend(ENDS_OF_DISORDERED.map(|end| (of_disordered(end), OF_OTHERS)));
     asked.insert("file refused 01".to_string(), 1);
     asked.extend((3..=10).map(|number| (file_refused(number), OF_RARE)));
     for length in 0..=WORD_LENGTH {
@@ -118,6 +120,13 @@ pub fn asked() -> BTreeMap<String, usize> {
     asked.extend((0..QUEUES).map(|queue| (across_at_queue(queue), OF_OTHERS)));
     asked.extend(SESSIONS.map(|(name, _)| (of_session(name), OF_RARE)));
     asked
+}
+
+/// Ends of replays of files that are out of order where it does not matter.
+const ENDS_OF_DISORDERED: [&str; 4] = ["end", "outside at step 0", "outside later", "refused"];
+
+fn of_disordered(end: &str) -> String {
+    format!("a map out of order, {end}")
 }
 
 fn file_refused(number: u8) -> String {
@@ -181,6 +190,15 @@ pub fn features(asked: &Replay, answer: &Answer) -> BTreeSet<String> {
             Reply::End { steps } | Reply::Outside { steps } | Reply::StepRefused { steps, .. } => Some(steps),
             _ => None,
         };
+        if steps.is_some() && !places_out_of_order(&tables).is_empty() {
+            let [end, at_once, later, refused] = ENDS_OF_DISORDERED;
+            features.insert(of_disordered(match answer.reply {
+                Reply::End { .. } => end,
+                Reply::Outside { steps: 0 } => at_once,
+                Reply::Outside { .. } => later,
+                _ => refused,
+            }));
+        }
         if let Some(steps) = steps {
             features.extend(Watched::new(&tables, &asked.trace, steps).features(&answer.reply));
         }

@@ -8,9 +8,14 @@ type Ring = [u8; QUEUE_ROOM];
 
 /// The reply; record and memory are as `replay` says.
 pub fn replay_in_rings(record: &mut Record, file: &[u8], trace: &[u8], memory: &mut [u8]) -> Reply {
-    let tables = match read(file) {
+    replay_as_read(record, &read(file), trace, memory)
+}
+
+/// The same for a file that was read, or refused, by whatever reader.
+pub fn replay_as_read(record: &mut Record, file: &Result<Tables, Refusal>, trace: &[u8], memory: &mut [u8]) -> Reply {
+    let tables = match file {
         Ok(tables) => tables,
-        Err(refusal) => return Reply::FileRefused(refusal),
+        Err(refusal) => return Reply::FileRefused(*refusal),
     };
     if trace.len() > LONGEST_TRACE {
         return Reply::TraceRefused(Refusal { number: 1, place: LONGEST_TRACE });
@@ -19,7 +24,7 @@ pub fn replay_in_rings(record: &mut Record, file: &[u8], trace: &[u8], memory: &
         return Reply::MemoryRefused(Refusal { number: 2, place: 0 });
     };
     *record = Record { states: tables.starts, ..Record::default() };
-    let reply = run(&tables, trace, record, rings);
+    let reply = run(tables, trace, record, rings);
     for ((ring, head), &length) in rings.iter_mut().zip(&mut record.heads).zip(&record.lengths) {
         ring.rotate_left(*head);
         ring[length..].fill(0);

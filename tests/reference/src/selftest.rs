@@ -1,10 +1,14 @@
-//! The ways to a verdict against each other, on random small files.
+//! The ways to a verdict, and those to row 9, against each other on random small files.
 
 use std::collections::BTreeMap;
 
 use crate::decide::{confirm, decide};
+use crate::generate::reading::Generator;
 use crate::generate::verdicts::Plans;
 use crate::long_words::has_long_word;
+use crate::order::{in_queue_order, in_queue_order_by_words};
+use crate::order_traps::read_with;
+use crate::read::{read, read_asking};
 use crate::traps::verdict_with;
 use crate::verdict::{line, Verdict};
 
@@ -27,7 +31,11 @@ pub fn selftest(seed: u64, count: usize) -> Agreement {
     let mut plans = Plans::new(seed);
     let mut agreement = Agreement::default();
     for round in 0..count {
-        let plan = if round % 2 == 0 { plans.small() } else { plans.long_worded() };
+        let plan = match round % 4 {
+            0 => plans.small(),
+            1 => plans.disordered(),
+            _ => plans.long_worded(),
+        };
         let bytes = plan.bytes();
         let (tables, walked) = plans.judge(&plan);
         let mut disagree = |with: &str, other: String| {
@@ -61,4 +69,30 @@ pub fn selftest(seed: u64, count: usize) -> Agreement {
 
 fn first_word(verdict: &Verdict) -> String {
     verdict.to_string().split(' ').next().unwrap_or_default().to_string()
+}
+
+#[derive(Default)]
+pub struct OrderAgreement {
+    pub in_order: usize,
+    pub out_of_order: usize,
+    pub disagreements: Vec<String>,
+}
+
+/// Row 9 by sets of states, by every word and by arcs, on small pools whose arcs heed no order.
+pub fn selftest_order(seed: u64, count: usize) -> OrderAgreement {
+    let mut plans = Generator::new(seed);
+    let mut agreement = OrderAgreement::default();
+    for _ in 0..count {
+        let bytes = plans.plan_in_any_order().bytes();
+        let tables = read_asking(&bytes, |_| true).expect("nothing else is wrong");
+        let in_order = in_queue_order(&tables);
+        let by_words = in_queue_order_by_words(&tables).expect("the pool is small");
+        let by_arcs = read_with(&bytes, None);
+        if by_words != in_order || by_arcs != read(&bytes) || by_arcs.is_ok() != in_order {
+            let hex: String = bytes.iter().map(|byte| format!("{byte:02x} ")).collect();
+            agreement.disagreements.push(format!("by sets: {in_order}; by words: {by_words}; file {hex}"));
+        }
+        *if in_order { &mut agreement.in_order } else { &mut agreement.out_of_order } += 1;
+    }
+    agreement
 }

@@ -3,9 +3,10 @@
 //! A set of files is worth something only if each mistake changes the line of some of them. With no trap set, this is
 //! a third way to the verdict, slow and plain.
 
-use std::collections::HashSet;
+use std::collections::{BTreeSet, HashSet};
 use std::ops::Range;
 
+use crate::arcs::Arcs;
 use crate::diagram::follow;
 use crate::read::{Kind, Tables, Transition};
 use crate::verdict::Verdict;
@@ -74,6 +75,10 @@ pub enum Trap {
     LostMessagePassedOver,
     /// A source that is lost past the fourth message of a received word has received what came before.
     LostSourceStops,
+    /// Pairs count only where a word in queue order leads to them.
+    WordsInOrderOnly,
+    /// Pairs whose source leads to no final state do not count.
+    DeadEndsUncounted,
 }
 
 impl Trap {
@@ -116,8 +121,11 @@ impl Trap {
         Trap::LostSourceStops,
     ];
 
+    /// Mistakes about words out of order, which lead to no final state.
+    pub const OF_QUEUE_ORDER: [Trap; 2] = [Trap::WordsInOrderOnly, Trap::DeadEndsUncounted];
+
     pub fn all() -> impl Iterator<Item = Trap> {
-        Self::OF_ALL_WORDS.into_iter().chain(Self::OF_LONG_WORDS)
+        Self::OF_ALL_WORDS.into_iter().chain(Self::OF_LONG_WORDS).chain(Self::OF_QUEUE_ORDER)
     }
 }
 
@@ -126,6 +134,8 @@ struct Node {
     after: bool,
     source: usize,
     target: Option<usize>,
+    /// Of the last message; 0 where words may be in any order.
+    queue: usize,
 }
 
 /// Messages of a word that the mistakes about long words take rightly.
@@ -150,14 +160,29 @@ pub struct Judge<'t> {
     trap: Option<Trap>,
     counted: HashSet<Node>,
     pairs: usize,
+    /// States that lead to a final one.
+    alive: BTreeSet<usize>,
 }
 
 /// The verdict with a mistake, or without one.
 pub fn verdict_with(tables: &Tables, trap: Option<Trap>) -> Verdict {
-    Judge { tables, trap, counted: HashSet::new(), pairs: 0 }.verdict()
+    Judge::new(tables, trap).verdict()
+}
+
+/// The pairs of the items before the one that fails, or of all.
+pub fn pairs_before_failing(tables: &Tables, trap: Option<Trap>) -> usize {
+    let mut judge = Judge::new(tables, trap);
+    judge.verdict();
+    judge.pairs
 }
 
 impl<'t> Judge<'t> {
+    fn new(tables: &'t Tables, trap: Option<Trap>) -> Self {
+        let finals = (0..tables.pool_state_count).filter(|&state| tables.finals[state]).collect();
+        let alive = Arcs::new(tables).leading_to(finals);
+        Judge { tables, trap, counted: HashSet::new(), pairs: 0, alive }
+    }
+
     fn is(&self, trap: Trap) -> bool {
         self.trap == Some(trap)
     }
@@ -202,7 +227,7 @@ impl<'t> Judge<'t> {
         items
     }
 
-    fn verdict(mut self) -> Verdict {
+    fn verdict(&mut self) -> Verdict {
         let tables = self.tables;
         let start =
             (0..tables.machine_count).map(|machine| usize::from(tables.starts[machine]) * self.weight(machine)).sum();
@@ -248,7 +273,7 @@ impl<'t> Judge<'t> {
         let kind = if empty_as_local { Kind::Local } else { transition.kind };
         let after = if empty_as_local { 0..all } else { after };
         let search = Search { kind, word: self.word_of(transition), before, after, is_bad: false };
-        self.search(&search, Node { after: kind == Kind::Local, source, target })
+        self.search(&search, Node { after: kind == Kind::Local, source, target, queue: 0 })
     }
 
     fn bad(&mut self, entry: usize) -> Option<Vec<u8>> {
@@ -258,7 +283,7 @@ impl<'t> Judge<'t> {
         let target = if self.is(Trap::BadRootWithOneAdded) { root.checked_sub(1) } else { Some(root) };
         let search =
             Search { kind: Kind::Local, word: &[], before: 0..0, after: 0..self.tables.message_sum, is_bad: true };
-        self.search(&search, Node { after: true, source, target })
+        self.search(&search, Node { after: true, source, target, queue: 0 })
     }
 
     /// Breadth first, each node with the word that found it. The first failing node's contents, or none.
@@ -278,7 +303,8 @@ impl<'t> Judge<'t> {
             }
             next += 1;
         }
-        self.pairs += found.len();
+        let pairs: HashSet<Node> = found.iter().map(|&(node, _)| Node { queue: 0, ..node }).collect();
+        self.pairs += pairs.len();
         if self.is(Trap::RootsUncounted) && !search.is_bad {
             self.pairs -= 1;
         }
@@ -309,7 +335,8 @@ impl<'t> Judge<'t> {
                 let letter = vec![message as u8];
                 let source = follow(self.tables, Some(node.source), &letter)?;
                 let target = follow(self.tables, node.target, &letter);
-                Some((Node { source, target, ..node }, letter))
+                let queue = if self.is(Trap::WordsInOrderOnly) { self.tables.queue_of(letter[0]) } else { 0 };
+                (queue >= node.queue).then_some((Node { source, target, queue, ..node }, letter))
             })
             .collect();
         if !node.after {
@@ -317,7 +344,8 @@ impl<'t> Judge<'t> {
         }
         children.retain(|(child, _)| {
             let dropped = if search.is_bad { !self.is(Trap::BadCountsLost) } else { self.is(Trap::DropLostTarget) };
-            child.target.is_some() || !dropped
+            let is_dead = self.is(Trap::DeadEndsUncounted) && !self.alive.contains(&child.source);
+            (child.target.is_some() || !dropped) && !is_dead
         });
         if self.is(Trap::HighestFirst) {
             children.reverse();

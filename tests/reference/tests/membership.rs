@@ -42,6 +42,16 @@ fn the_file_comes_first() {
 }
 
 #[test]
+fn contents_are_in_order_whatever_the_arcs() {
+    // Root 0 accepts nothing and 1; behind it 0 leads to a dead end.
+    let file = |is_final: &str| format!("01 01 00  02 01 01  00  03 01 01 01 01 01 01 00 02 {is_final} 00  01  00");
+    assert_eq!(answer(&file("00"), 0, &[1]), "yes");
+    assert_eq!(answer(&file("00"), 0, &[1, 0]), "refused 13 at 1");
+    assert_eq!(answer(&file("00"), 1, &[1, 0]), "refused 11 at 0");
+    assert_eq!(answer(&file("01"), 1, &[1, 0]), "refused 9 at 20");
+}
+
+#[test]
 fn streams_of_questions_are_read_back() {
     let asked: Vec<Question> = questions(3).into_iter().map(|(_, question)| question).collect();
     let mut stream = Vec::new();

@@ -240,16 +240,56 @@ fn pool() {
     assert_eq!(refusal(&to("02 01 01 01 01 00 01 01 00")), (3, 16));
 }
 
+/// One control state, queues of one and two messages, no transitions.
+fn with_pool(rest: &str) -> String {
+    format!("01 01 00 02 01 02 00 {rest}")
+}
+
 #[test]
 fn queue_order() {
-    let to = |rest: &str| format!("01 01 00 02 01 02 00 {rest}");
     // State 1 is entered by message 1 of queue 1 and left by message 0 of queue 0.
-    assert_eq!(refusal(&to("02 01 01 01 01 01 01 00 00")), (9, 16));
-    assert_eq!(refusal(&to("02 01 01 01 01 01 01 00 00 ff ff")), (9, 16));
-    // Left by message 2 of the same queue instead.
-    assert_eq!(refusal(&to("02 01 01 01 01 01 01 02 01")), (3, 16));
+    let pool = "02 01 01 01 01 01 01 00 00";
+    assert_eq!(refusal(&with_pool(&format!("{pool} 01 00"))), (9, 18));
+    assert_eq!(refusal(&with_pool(&format!("{pool} 02 00"))), (9, 18));
+    // Without a root nothing is accepted, and through a bad root it is, though the control state has no root.
+    tables(&with_pool(&format!("{pool} 00 00")));
+    assert_eq!(refusal(&with_pool(&format!("{pool} 00 01 00 00"))), (9, 20));
+    // Left by message 2 of the same queue instead, or by 1 after 2.
+    tables(&with_pool("02 01 01 01 01 01 01 02 01 01 00"));
+    tables(&with_pool("02 01 01 02 01 01 01 01 01 01 00"));
+}
+
+#[test]
+fn words_that_are_not_accepted_may_be_out_of_order() {
+    // Root 0 accepts nothing and 1; behind 1 and 0 is state 2.
+    let pool = |is_final: &str| with_pool(&format!("03 01 01 01 01 01 01 00 02 {is_final} 00"));
+    tables(&format!("{} 01 00", pool("00")));
+    assert_eq!(refusal(&format!("{} 01 00", pool("01"))), (9, 20));
+    // From state 1 on there is one message only, and from state 2 none.
+    tables(&format!("{} 02 00", pool("01")));
+    tables(&format!("{} 03 01 00 01", pool("01")));
+    assert_eq!(refusal(&format!("{} 03 01 00 00", pool("01"))), (9, 22));
+    // A cycle of 1 and 0 that no final state is in, or that is.
+    let cycle = |is_final: &str| with_pool(&format!("03 01 01 02 01 {is_final} 01 01 02 00 01 00 01 01 00"));
+    tables(&cycle("00"));
+    assert_eq!(refusal(&cycle("01")), (9, 22));
+}
+
+#[test]
+fn queue_order_is_asked_between_field_6_and_the_end() {
+    let pool = "02 01 01 01 01 01 01 00 00";
+    assert_eq!(refusal(&with_pool(pool)), (3, 16));
+    assert_eq!(refusal(&with_pool(&format!("{pool} ff ff"))), (4, 16));
+    assert_eq!(refusal(&with_pool(&format!("{pool} 03 00"))), (5, 16));
+    assert_eq!(refusal(&with_pool(&format!("{pool} 01"))), (3, 17));
+    assert_eq!(refusal(&with_pool(&format!("{pool} 01 41"))), (5, 17));
+    assert_eq!(refusal(&with_pool(&format!("{pool} 01 01 00"))), (3, 19));
+    assert_eq!(refusal(&with_pool(&format!("{pool} 01 01 00 02"))), (5, 19));
+    assert_eq!(refusal(&with_pool(&format!("{pool} 01 01 00 01 00"))), (9, 20));
+    assert_eq!(refusal(&with_pool(&format!("{pool} 01 00 00"))), (9, 18));
+    assert_eq!(refusal(&with_pool(&format!("{pool} 00 00 00"))), (10, 18));
     // The order of field 4 itself comes first.
-    assert_eq!(refusal(&to("03 01 01 01 01 01 01 00 00 00 02 01 01 01 01")), (8, 20));
+    assert_eq!(refusal(&with_pool("03 01 01 01 01 01 01 00 00 00 02 01 01 01 01")), (8, 20));
 }
 
 #[test]
@@ -274,6 +314,13 @@ fn generated_files_are_refused_as_they_were_made() {
     assert!(coverage.complaints.is_empty(), "{}", coverage.complaints.join("\n"));
     let has_13 = |tables: Tables| tables.used_transitions().iter().any(|transition| transition.length == 13);
     generator.cases.retain(|case| case.kind != "row 5: a word of 17" && !read(&case.bytes).is_ok_and(has_13));
+    generator.cases.retain(|case| case.kind != "row 9: before 10");
     let complaints = reading_coverage(&generator).complaints;
-    assert_eq!(complaints, ["a word of 13 is hit only 0 times", "row 5: a word of 17 is hit only 0 times"]);
+    let asked = [
+        "a word of 13 is hit only 0 times",
+        "row 5: a word of 17 is hit only 0 times",
+        "row 9: before 10 is hit only 0 times",
+        "only 0 files tell AskedAfterTheEnd",
+    ];
+    assert_eq!(complaints, asked);
 }

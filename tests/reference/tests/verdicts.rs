@@ -64,6 +64,23 @@ fn pairs_go_by_reading() {
 }
 
 #[test]
+fn pairs_go_by_words_in_any_order() {
+    // Root 0 and state 1 accept; 1 leads from one to the other, and then 0 to state 2, which is a dead end. The words of
+    // state 3 are out of order, but no root leads to it.
+    let to = |transition: &str| {
+        hex(&format!("01 01 00  02 01 01  01 {transition}  04 01 01 01 01 01 01 00 02 00 00 01 02 00 00 01 01  01  00"))
+    };
+    assert_line("local", &to("00 00 00 00"), "closed 3");
+    // Before the step, and after it, both roots have read nothing, 1, or 1 and 0.
+    assert_line("send of nothing to queue 1", &to("00 00 00 01 01 00"), "closed 6");
+    // Before the step they have read nothing, and after it nothing or 1.
+    assert_line("send of nothing to queue 0", &to("00 00 00 01 00 00"), "closed 3");
+    assert_line("receive of nothing from queue 0", &to("00 00 00 02 00 00"), "closed 4");
+    assert_line("receive from queue 1", &to("00 00 00 02 01 01 01"), "closed 2");
+    assert_line("send to queue 1", &to("00 00 00 01 01 01 01"), "leaves 0 0 1: 1");
+}
+
+#[test]
 fn bad_entries() {
     let to = |bad: &str| hex(&format!("01 02 00  01 01  00  02 01 01 00 01 00 01 00 00  01 00  {bad}"));
     // State 0 accepts the words of even length, state 1 those of odd length.
@@ -311,10 +328,16 @@ fn generated_files_hit_everything() {
     let mut cases = verdict_cases(5);
     let coverage = verdict_coverage(&cases);
     assert!(coverage.complaints.is_empty(), "{}", coverage.complaints.join("\n"));
-    // Without the files made for long words their features are missed.
-    cases.retain(|case| case.kind != "long words");
+    // Without the files made for long words and those out of order their features are missed.
+    cases.retain(|case| case.kind != "long words" && case.kind != "out of order");
     let complaints = verdict_coverage(&cases).complaints.join("\n");
-    for missed in ["bad, receive of 11", "leaves, send of a full word that is lost at 09", "FifteenTaken"] {
+    for missed in [
+        "bad, receive of 11",
+        "leaves, send of a full word that is lost at 09",
+        "FifteenTaken",
+        "bad, out of order: dead ends",
+        "WordsInOrderOnly",
+    ] {
         assert!(complaints.contains(missed), "not asked: {missed}");
     }
 }

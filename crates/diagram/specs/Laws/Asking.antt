@@ -10,11 +10,12 @@ use native.Mathlib.Omega.{arith}
 use Rattle.numbers.specs.Part.{Part, got, refused}
 use Rattle.session.specs.Said.{read, refusal as turnedAway}
 use Rattle.session.specs.File.{readFile, readReplyOf, tablesOf}
-use Rattle.tables.specs.Valid.{Valid}
+use Rattle.session.specs.Valid.{Valid}
 use Rattle.session.specs.Laws.Valid.{valid}
 use Rattle.tables.specs.declared.tables.Tables.{Tables}
 use Rattle.model.specs.Model.{controls}
-use Rattle.meaning.specs.Tables.{poolOf, sessionOf}
+use Rattle.queue_order.specs.Pool.{poolOf}
+use Rattle.meaning.specs.Tables.{sessionOf}
 use Rattle.tables.specs.Lookup.{rootOf}
 use Rattle.diagram.specs.Member.{refusal, judge, ask, memberOf}
 use Rattle.meaning.specs.Laws.Lookup.{controls-are}

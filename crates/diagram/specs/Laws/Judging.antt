@@ -14,10 +14,10 @@ use Rattle.tables.specs.declared.tables.Queues.{Queues}
 use Rattle.tables.specs.declared.tables.Pool as Declared
 use Rattle.model.specs.Model.{total, queueOf}
 use Rattle.model.specs.Diagram.{Pool, along}
-use Rattle.meaning.specs.Tables.{poolOf}
+use Rattle.queue_order.specs.Pool.{poolOf}
 use Rattle.tables.specs.Lookup.{alongArc, finalAt}
 use Rattle.diagram.specs.Member.{MemberReply, refusal, answer, judge}
-use Rattle.meaning.specs.Laws.Order.{messages-are}
+use Rattle.queue_order.specs.Laws.Tables.{messages-are}
 use Rattle.meaning.specs.Laws.Lookup.{along-is, final-is}
 use Rattle.diagram.specs.Laws.Queues.{drop-all}
 

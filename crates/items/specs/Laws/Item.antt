@@ -6,7 +6,7 @@ use mathlib.Core.Option.{Option, none, some, Option·map}
 use mathlib.Core.List.{List, [], _∷_, _++_}
 use native.Mathlib.Omega.{arith}
 use lib.ListN.{length, getD, take, drop, length-take}
-use Rattle.tables.specs.Valid.{Valid}
+use Rattle.session.specs.Valid.{Valid}
 use Rattle.tables.specs.declared.tables.Tables.{Tables}
 use Rattle.model.specs.Model.{Action, local, send, receive, messages, moved}
 use Rattle.model.specs.Session.{Session}
@@ -24,7 +24,7 @@ use Rattle.tables.specs.Laws.Lookup.{reached-nowhere, reached-state, reached-sm
 use Rattle.tables.specs.declared.kinds.DiagramState.{DiagramState}
 use Rattle.tables.specs.declared.kinds.Reached.{Reached}
 use Rattle.meaning.specs.Laws.Sessions.{well-formed}
-use Rattle.meaning.specs.Laws.Order.{messages-are}
+use Rattle.queue_order.specs.Laws.Tables.{messages-are}
 use Rattle.pairs.specs.Pairs.{mostCodes, afterSide, pairOf}
 use Rattle.pairs.specs.Over.{Over, walkOver}
 use Rattle.walk.specs.Judged.{judgedOver, ShownFits}

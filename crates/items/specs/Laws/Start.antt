@@ -12,7 +12,7 @@ use Rattle.tables.specs.declared.tables.Queues.{Queues}
 use Rattle.model.specs.Model.{Action, local, send, receive, firstOf}
 use Rattle.model.specs.Judge.{out, into, rootPair}
 use Rattle.meaning.specs.Tables.{actionOf}
-use Rattle.meaning.specs.Laws.Counts.{first-is}
+use Rattle.queue_order.specs.Laws.Tables.{first-is}
 use Rattle.pairs.specs.Pairs.{afterSide, sideOf}
 use Rattle.following.specs.Standing.{wordOver}
 use Rattle.items.specs.Start.{actionAt, cutOf, Cuts}

@@ -8,7 +8,8 @@ use native.Mathlib.Omega.{arith}
 use native.Mathlib.Nat.{mul-le-mul}
 use lib.ListN.{length, getD, take, drop, length-append, length-drop}
 use lib.Seq.{drop-at}
-use Rattle.tables.specs.Valid.{MachinesValid, QueuesValid, RowValid, Valid}
+use Rattle.tables.specs.Valid.{MachinesValid, QueuesValid, RowValid}
+use Rattle.session.specs.Valid.{Valid}
 use Rattle.tables.specs.declared.tables.Machines.{Machines}
 use Rattle.tables.specs.declared.tables.Queues.{Queues}
 use Rattle.tables.specs.declared.tables.Tables.{Tables}

@@ -13,7 +13,7 @@ use Rattle.numbers.specs.Part.{Part, got, provided}
 use Rattle.numbers.specs.Part as Part
 use Rattle.numbers.specs.Laws.Parts.{not-refused}
 use Rattle.session.specs.File.{readFile}
-use Rattle.tables.specs.Valid.{Valid}
+use Rattle.session.specs.Valid.{Valid}
 use Rattle.session.specs.Laws.Fields.{parts, file-is}
 use Rattle.session.specs.Laws.Refusals.{refusal-number}
 use Rattle.session.specs.Laws.Valid.{valid}

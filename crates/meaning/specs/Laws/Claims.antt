@@ -7,7 +7,7 @@ use native.Mathlib.Omega.{arith}
 use Rattle.numbers.specs.Part as Part
 use Rattle.numbers.specs.Laws.Parts.{not-refused, same-value}
 use Rattle.session.specs.File.{readFile}
-use Rattle.tables.specs.Valid.{Valid}
+use Rattle.session.specs.Valid.{Valid}
 use Rattle.session.specs.Laws.Valid.{valid}
 use Rattle.tables.specs.declared.tables.Tables.{Tables}
 use Rattle.model.specs.Verdict.{Reply, closed, items, Means, Closed}

@@ -11,7 +11,7 @@ use Rattle.tables.specs.declared.tables.Machines.{Machines}
 use Rattle.tables.specs.declared.tables.Pool.{Pool}
 use Rattle.model.specs.Model.{product}
 use Rattle.model.specs.Diagram.{along, isFinal}
-use Rattle.meaning.specs.Tables.{arcOf, poolOf}
+use Rattle.queue_order.specs.Pool.{arcOf, poolOf}
 use Rattle.tables.specs.Lookup.{alongArc, finalAt}
 use Rattle.meaning.specs.Laws.Counts.{product-is}
 

@@ -15,7 +15,8 @@ use Rattle.explore.specs.Mem.{Mem, here, there}
 use Rattle.model.specs.Model.{Transition, first, Between}
 use Rattle.model.specs.Session.{OwnWord}
 use Rattle.meaning.specs.Tables.{actionOf, transitionAt, transitionsFrom, modelOf, badFrom}
-use Rattle.meaning.specs.Laws.Counts.{first-is, between-take}
+use Rattle.queue_order.specs.Laws.Tables.{first-is}
+use Rattle.meaning.specs.Laws.Counts.{between-take}
 use Rattle.tables.specs.Rows.{rowLength, wordEntry, queueAt, lengthAt, wordAt}
 
 pub transitions-length : (rows : List ℕ) (left t : ℕ) → length (transitionsFrom rows left t) ≡ left

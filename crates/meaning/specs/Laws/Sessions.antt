@@ -1,37 +1,44 @@
 -- The session of every file that was read is well formed and within document 01's limits: all theorems of the model hold of it.
-use Prim.Native.Nat.{ℕ, _-_, _<_}
-use mathlib.Core.Path.{_≡_, refl}
-use mathlib.Core.Bool.{Bool, true, false}
-use mathlib.Core.Option.{none, some}
-use lib.ListN.{getD}
-use lib.Dec.{eqb}
-use borrow.Author.Tests.{eqb-false}
+use Prim.Native.Nat.{ℕ}
+use mathlib.Core.Path.{_≡_, refl, ap}
+use mathlib.Core.Bool.{true}
+use mathlib.Core.Option.{Option, none, some}
+use mathlib.Core.List.{List}
 use native.Mathlib.Omega.{arith}
-use Rattle.tables.specs.Valid.{MapValid, Valid}
-use Rattle.tables.specs.declared.tables.Map.{Map}
+use Rattle.session.specs.Valid.{Valid}
 use Rattle.tables.specs.declared.tables.Tables.{Tables}
+use Rattle.model.specs.Model.{total, Between}
+use Rattle.model.specs.Diagram.{accepts, isFinal, OutOfOrder}
 use Rattle.model.specs.Session.{WellFormed}
-use Rattle.model.specs.Laws.Basics.{none-not-some}
-use Rattle.model.specs.Laws.Ordered.{accepted-in-order}
+use Rattle.model.specs.Laws.Basics.{false-not-true}
+use Rattle.model.specs.Laws.Walks.{follow-none}
+use Rattle.model.specs.Laws.Ordered.{in-order, accepted-between}
 use Rattle.model.specs.Laws.Bounds.{Within}
-use Rattle.meaning.specs.Tables.{poolOf, sessionOf}
+use Rattle.queue_order.specs.Pool.{poolOf}
+use Rattle.queue_order.specs.Order.{of-control}
+use Rattle.queue_order.specs.Laws.Tables.{arc-within, messages-are}
+use Rattle.meaning.specs.Tables.{sessionOf}
 use Rattle.tables.specs.Lookup.{rootOf}
+use Rattle.tables.specs.Laws.Lookup.{root-entry}
 use Rattle.meaning.specs.Laws.Counts.{product-is, states-are}
 use Rattle.meaning.specs.Laws.Rows.{transitions-length, entries-length, words-own, moves-within, entries-within}
-use Rattle.meaning.specs.Laws.Order.{arc-within, messages-are, pool-in-order}
-
--- a root is a state of the pool
-root-within : (product n : ℕ) (R : Map) → MapValid product n R → (c s : ℕ) → rootOf (R .roots) c ≡ some s → s < n
-root-within product n R v c s e = go (eqb (getD (R .roots) c 0) 0) refl e
-  where
-    go : (b : Bool) → eqb (getD (R .roots) c 0) 0 ≡ b → elim b [ true ↦ none | false ↦ some (getD (R .roots) c 0 - 1) ] ≡ some s → s < n
-    go true f e′ = none-not-some refl e′
-    go false f e′ =
-        let same : getD (R .roots) c 0 - 1 ≡ s = cc in
-        let some-root = eqb-false (getD (R .roots) c 0) 0 f in
-        omega (arith, v .roots c)
 
 module _ (T : Tables) (ok : Valid T) where
+  messages-within : (o : Option ℕ) (u : List ℕ) → accepts (poolOf (T .pool)) o u ≡ true → Between 0 (total (sessionOf T .model .queues)) u
+  messages-within =
+      accepted-between (poolOf (T .pool)) (total (sessionOf T .model .queues)) (λ s m s′ e.
+      let a = arc-within (T .queues) (T .pool) (ok .queues) (ok .pool) s m s′ e in
+      omega (arith, a .message, messages-are (ok .queues)))
+
+  -- what the root of a control state accepts is not out of order
+  root-ordered : (c : ℕ) (u : List ℕ) → accepts (poolOf (T .pool)) (rootOf (T .map .roots) c) u ≡ true
+      → OutOfOrder (sessionOf T .model .queues) u → ⊥
+  root-ordered c u e back = go (rootOf (T .map .roots) c) refl e
+    where
+      go : (o : Option ℕ) → rootOf (T .map .roots) c ≡ o → accepts (poolOf (T .pool)) o u ≡ true → ⊥
+      go none f t = false-not-true (ap (isFinal (poolOf (T .pool))) (follow-none (poolOf (T .pool)) u)) t
+      go (some s) f t = ok .ordered (record { root = s; listed = of-control c f; word = u; accepted = t; back = back })
+
   pub well-formed : WellFormed (sessionOf T)
   well-formed =
       let M = ok .machines in
@@ -43,16 +50,10 @@ module _ (T : Tables) (ok : Valid T) where
         moves = moves-within (T .machines) (T .queues) (T .transitions) Q (omega (arith, M .most, M .statesLong)) (ok .transitions);
         words = words-own (T .machines) (T .queues) (T .transitions) Q (ok .transitions);
         arcs = λ s m s′ e. arc-within (T .queues) (T .pool) Q (ok .pool) s m s′ e .to;
-        roots = root-within (T .machines .product) (T .pool .count) (T .map) (ok .map);
+        roots = λ c s e. omega (arith, root-entry (T .map .roots) c e, ok .map .roots c);
         entries = λ c s m. entries-within (T .machines .product) (T .pool .count) (T .bad) (ok .bad) (c, s) m;
         ordered =
-            λ c u.
-            accepted-in-order (sessionOf T .model .queues) (poolOf (T .pool))
-            (pool-in-order (T .queues) (T .pool) Q (ok .pool) (ok .ordered))
-            (λ s m s′ e.
-            let a = arc-within (T .queues) (T .pool) Q (ok .pool) s m s′ e in
-            omega (arith, a .message, messages-are Q))
-            (rootOf (T .map .roots) c) u;
+            λ c u e. in-order (sessionOf T .model .queues) u (messages-within (rootOf (T .map .roots) c) u e) (root-ordered c u e);
       }
 
   pub within : Within (sessionOf T)

@@ -8,7 +8,7 @@ use native.Mathlib.Omega.{arith}
 use native.Mathlib.Nat.{mul-le-mul}
 use Rattle.numbers.specs.Part as Part
 use Rattle.tables.specs.Limits.{mostWord, mostMessages}
-use Rattle.tables.specs.Valid.{Valid}
+use Rattle.session.specs.Valid.{Valid}
 use Rattle.tables.specs.declared.tables.Tables.{Tables}
 use Rattle.explore.specs.Mem.{Mem, here, there}
 use Rattle.model.specs.Model.{Between, nothing, Contents}
@@ -25,7 +25,7 @@ use Rattle.meaning.specs.Tables.{actionOf, sessionOf}
 use Rattle.meaning.specs.Reply.{FileReply, refused, verdict, replyTo, shownOf}
 use Rattle.meaning.specs.Checking.{mostShown, readLent, contentsAfter, checkOf}
 use Rattle.meaning.specs.Laws.Rows.{transition-row}
-use Rattle.meaning.specs.Laws.Order.{messages-are}
+use Rattle.queue_order.specs.Laws.Tables.{messages-are}
 use Rattle.meaning.specs.Laws.Sessions.{well-formed}
 use Rattle.meaning.specs.Laws.Claims.{Sound}
 use Rattle.meaning.specs.Laws.Checking.{Ways, long, little, whole, ways, enough-long, lent-sound}

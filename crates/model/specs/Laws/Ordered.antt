@@ -1,15 +1,17 @@
--- What a pool in queue order accepts is in queue order: it is the word of some queues, which the word determines.
-use mathlib.Core.Path.{_≡_, refl, sym, ap, ap₂, subst, _∙_}
+-- A word that is not out of order is the word of some queues, which the word determines.
+use mathlib.Core.Path.{_≡_, refl, sym, ap, ap₂, subst, subst₂, _∙_}
 use mathlib.Core.Bool.{true}
 use mathlib.Core.Option.{Option, none, some}
-use mathlib.Core.List.{List, [], _∷_, _++_}
+use mathlib.Core.List.{List, [], _∷_, _++_, Memᴰ·append-right}
+use mathlib.Core.Logic.{_↔_}
 use Prim.Native.Nat.{ℕ, zero, suc, _+_, _-_, _≤_, _<_, zero-le}
 use native.Mathlib.Omega.{arith}
-use native.Mathlib.Nat.{le-trans}
-use lib.Dec.{ltb}
-use borrow.Author.Tests.{ltb-true, ltb-false, lt-ltb, le-ltb}
+use native.Mathlib.Nat.{zero-add, add-zero, le-refl}
+use lib.Dec.{ltb, leb}
+use borrow.Author.Tests.{ltb-true, ltb-false, lt-ltb, le-ltb, leb-true, leb-false}
+use Rattle.explore.specs.Mem.{Mem, here, there}
 use Rattle.model.specs.Model.{firstOf, total, queueOf, Between, nothing, message, Own, none-left, queue}
-use Rattle.model.specs.Diagram.{Pool, follow, isFinal, accepts, word, frontOf, restOf, queuesFrom, InQueueOrder}
+use Rattle.model.specs.Diagram.{Pool, follow, isFinal, accepts, word, frontOf, restOf, queuesFrom, OutOfOrder}
 use Rattle.model.specs.Laws.Queues.{between-none, between-wide, word-between, first-zero}
 use Rattle.model.specs.Laws.Basics.{byTest, none-not-some, false-not-true}
 use Rattle.model.specs.Laws.Walks.{follow-none, follow-front}
@@ -45,56 +47,132 @@ first-queue [] q m h l = absurd (omega arith)
 first-queue (n ∷ ns) zero m h l = zero-le
 first-queue (n ∷ ns) (suc q) m h l = rw (le-ltb m n (omega arith), queueOf) (omega (arith, first-queue ns q (m - n) (omega arith) (omega arith)))
 
--- A POOL IN QUEUE ORDER
-module _ (P : Pool) (top : ℕ) (arcs : (s m s′ : ℕ) → P .arc s m ≡ some s′ → m < top) where
-  -- no arc for a message below the cut follows one for a message from it on
-  abbrev Cuts : ℕ → Type 0
-  Cuts cut = (r m s n s′ : ℕ) → P .arc r m ≡ some s → P .arc s n ≡ some s′ → cut ≤ m → cut ≤ n
+-- A WORD THAT IS NOT OUT OF ORDER
+-- no message below the cut stands after one from it on
+abbrev Follows : ℕ → List ℕ → Type 0
+Follows cut [] = Unit {0}
+Follows cut (m ∷ u) = (cut ≤ m → (n : ℕ) → Mem n u → cut ≤ n) × Follows cut u
 
-  module _ (cut : ℕ) (cuts : Cuts cut) where
-    stays-high : (r m s : ℕ) (u : List ℕ) {s′ : ℕ} → P .arc r m ≡ some s → cut ≤ m → follow P (some s) u ≡ some s′ → Between cut top u
-    stays-high r m s [] a h e = nothing
-    stays-high r m s (n ∷ u) a h e =
-        let (x, b, e′) = follow-front P (some s) (n ∷ []) u e in
-        let l = cuts r m s n x a b h in
-        message l (arcs s n x b) (stays-high s n x u b l e′)
+follows-right : (cut : ℕ) (x y : List ℕ) → Follows cut (x ++ y) → Follows cut y
+follows-right cut [] y f = f
+follows-right cut (m ∷ x) y f = follows-right cut x y (f .1)
 
-    parts-at : {lo : ℕ} (r s : ℕ) (u : List ℕ) → follow P (some r) u ≡ some s → Between lo top u → (x y : List ℕ) × (u ≡ x ++ y) × Between lo cut x × Between cut top y
-    parts-at r s [] e b = ([], [], refl, nothing, nothing)
-    parts-at r s (m ∷ u) e (message l h b) =
-        let (x, a, e′) = follow-front P (some r) (m ∷ []) u e in
-        let (low, high, p, c, d) = parts-at x s u e′ b in
-        byTest (ltb m cut)
-        (λ t. (m ∷ low, high, ap {B = List ℕ} (λ y. m ∷ y) p, message l (ltb-true m cut t) c, d))
-        (λ f. ([], m ∷ u, refl, nothing, message (ltb-false m cut f) h (stays-high r m x u a (ltb-false m cut f) e′)))
+stays-high : {lo top : ℕ} (cut : ℕ) (u : List ℕ) → ((n : ℕ) → Mem n u → cut ≤ n) → Between lo top u → Between cut top u
+stays-high cut [] f b = nothing
+stays-high cut (m ∷ u) f (message l h b) = message (f m (here refl)) h (stays-high cut u (λ n k. f n (there k)) b)
 
-  in-queues : (ns : List ℕ) (k : ℕ) → ((q : ℕ) → Cuts (k + firstOf ns q)) → k + total ns ≡ top → (r s : ℕ) (u : List ℕ) → follow P (some r) u ≡ some s → Between k top u
-      → (qs : List (List ℕ)) × Own k ns qs × (word qs ≡ u)
-  in-queues [] k cuts all r s u e b = ([], none-left, sym (between-none {lo = 0} u (between-wide (omega arith) (omega arith) b) b))
-  in-queues (n ∷ ns) k cuts all r s u e b =
-      let z = first-zero ns in
-      let here : Cuts (k + n) = subst Cuts (omega arith) (cuts 1) in
-      let (x, y, p, c, d) = parts-at (k + n) here r s u e b in
-      let (m, f, g) = follow-front P (some r) x y (ap (follow P (some r)) (sym p) ∙ e) in
-      let later : (q : ℕ) → Cuts (k + n + firstOf ns q) = λ q. subst Cuts (omega arith) (cuts (suc q)) in
-      let (qs, own, w) = in-queues ns (k + n) later (omega arith) m s y g d in
-      (x ∷ qs, queue c own, ap (λ l. x ++ l) w ∙ sym p)
+parts-at : {lo top : ℕ} (cut : ℕ) (u : List ℕ) → Follows cut u → Between lo top u → (x y : List ℕ) × (u ≡ x ++ y) × Between lo cut x × Between cut top y
+parts-at cut [] f b = ([], [], refl, nothing, nothing)
+parts-at cut (m ∷ u) f (message l h b) =
+    let (low, high, p, c, d) = parts-at cut u (f .1) b in
+    byTest (ltb m cut)
+    (λ t. (m ∷ low, high, ap {B = List ℕ} (λ y. m ∷ y) p, message l (ltb-true m cut t) c, d))
+    (λ t. let e = ltb-false m cut t in ([], m ∷ u, refl, nothing, message e h (stays-high cut u (f .0 e) b)))
 
-  any-between : (r s : ℕ) (u : List ℕ) → follow P (some r) u ≡ some s → Between 0 top u
-  any-between r s [] e = nothing
-  any-between r s (m ∷ u) e = let (x, a, e′) = follow-front P (some r) (m ∷ []) u e in message zero-le (arcs r m x a) (any-between x s u e′)
+in-queues : (ns : List ℕ) (k : ℕ) (u : List ℕ) → ((q : ℕ) → Follows (k + firstOf ns q) u) → Between k (k + total ns) u
+    → (qs : List (List ℕ)) × Own k ns qs × (word qs ≡ u)
+in-queues [] k u f b = ([], none-left, sym (between-none {lo = 0} u (between-wide (omega arith) (omega arith) b) b))
+in-queues (n ∷ ns) k u f b =
+    let z = first-zero ns in
+    let first : Follows (k + n) u = subst (λ c. Follows c u) (omega arith) (f 1) in
+    let (x, y, p, c, d) = parts-at (k + n) u first b in
+    let later : (q : ℕ) → Follows (k + n + firstOf ns q) y =
+    λ q. follows-right (k + n + firstOf ns q) x y (subst₂ Follows (omega arith) p (f (suc q))) in
+    let (qs, own, w) = in-queues ns (k + n) y later (subst (λ top. Between (k + n) top y) (omega arith) d) in
+    (x ∷ qs, queue c own, ap (λ l. x ++ l) w ∙ sym p)
 
--- the queues that the accepted contents of a pool in queue order are the word of
-pub accepted-in-order : (ns : List ℕ) (P : Pool) → InQueueOrder ns P → ((s m s′ : ℕ) → P .arc s m ≡ some s′ → m < total ns)
-    → (o : Option ℕ) (u : List ℕ) → accepts P o u ≡ true → (qs : List (List ℕ)) × Own 0 ns qs × (word qs ≡ u)
-accepted-in-order ns P order arcs o u e = byEnd o (follow P o u) refl e
+mem-parts : (n : ℕ) (u : List ℕ) → Mem n u → (a b : List ℕ) × (u ≡ a ++ (n ∷ b))
+mem-parts n (m ∷ u) (here e) = ([], u, ap {B = List ℕ} (λ k. k ∷ u) (sym e))
+mem-parts n (m ∷ u) (there k) = let (a, b, e) = mem-parts n u k in (m ∷ a, b, ap {B = List ℕ} (λ y. m ∷ y) e)
+
+pub out-longer : (ns : List ℕ) (m : ℕ) (u : List ℕ) → OutOfOrder ns u → OutOfOrder ns (m ∷ u)
+out-longer ns m u o =
+    record {
+      before = m ∷ o .before;
+      later = o .later;
+      between = o .between;
+      earlier = o .earlier;
+      after = o .after;
+      is = ap {B = List ℕ} (λ y. m ∷ y) (o .is);
+      back = o .back;
+    }
+
+follows : (ns : List ℕ) (q : ℕ) (u : List ℕ) → Between 0 (total ns) u → (OutOfOrder ns u → ⊥) → Follows (firstOf ns q) u
+follows ns q [] b order = tt
+follows ns q (m ∷ u) (message l h b) order = (high, follows ns q u b (λ o. order (out-longer ns m u o)))
   where
-    cuts : (q r m s n s′ : ℕ) → P .arc r m ≡ some s → P .arc s n ≡ some s′ → 0 + firstOf ns q ≤ m → 0 + firstOf ns q ≤ n
-    cuts q r m s n s′ a b h =
-        let k = first-queue ns q m (arcs r m s a) (omega arith) in
-        omega (arith, queue-first ns q n (le-trans k (order r m s n s′ a b)))
+    high : firstOf ns q ≤ m → (n : ℕ) → Mem n u → firstOf ns q ≤ n
+    high f n k =
+        byTest (leb q (queueOf ns n))
+        (λ t. queue-first ns q n (leb-true q (queueOf ns n) t))
+        (λ t.
+        let (a, c, e) = mem-parts n u k in
+        absurd
+        (order
+        (record {
+          before = [];
+          later = m;
+          between = a;
+          earlier = n;
+          after = c;
+          is = ap {B = List ℕ} (λ y. m ∷ y) e;
+          back = omega (arith, leb-false q (queueOf ns n) t, first-queue ns q m h f);
+        })))
 
-    byEnd : (o x : Option ℕ) → follow P o u ≡ x → isFinal P x ≡ true → (qs : List (List ℕ)) × Own 0 ns qs × (word qs ≡ u)
-    byEnd o none f t = false-not-true refl t
-    byEnd none (some s) f t = none-not-some (follow-none P u) f
-    byEnd (some r) (some s) f t = in-queues P (total ns) arcs ns 0 cuts (omega arith) r s u f (any-between P (total ns) arcs r s u f)
+-- the queues that a word is of which is not out of order
+pub in-order : (ns u : List ℕ) → Between 0 (total ns) u → (OutOfOrder ns u → ⊥) → (qs : List (List ℕ)) × Own 0 ns qs × (word qs ≡ u)
+in-order ns u b order =
+    in-queues ns 0 u (λ q. subst (λ c. Follows c u) (sym (zero-add (firstOf ns q))) (follows ns q u b order))
+    (subst (λ top. Between 0 top u) (sym (zero-add (total ns))) b)
+
+-- AND BACK: the word of some queues is not out of order
+between-each : {lo hi : ℕ} (u : List ℕ) → Between lo hi u → (n : ℕ) → Mem n u → (lo ≤ n) × (n < hi)
+between-each (m ∷ u) (message l h b) n (here e) = (omega arith, omega arith)
+between-each (m ∷ u) (message l h b) n (there k) = between-each u b n k
+
+high-follows : {top : ℕ} (cut : ℕ) (u : List ℕ) → Between cut top u → Follows cut u
+high-follows cut [] b = tt
+high-follows cut (m ∷ u) (message l h b) = (λ _ n k. between-each u b n k .0, high-follows cut u b)
+
+low-follows : {lo hi : ℕ} (cut : ℕ) (x y : List ℕ) → Between lo hi x → hi ≤ cut → Follows cut y → Follows cut (x ++ y)
+low-follows cut [] y b h f = f
+low-follows cut (m ∷ x) y (message l u b) h f = (λ e n k. absurd (omega arith), low-follows cut x y b h f)
+
+own-follows : {k : ℕ} {ns : List ℕ} {qs : List (List ℕ)} (p : ℕ) → Own k ns qs → Follows (k + firstOf ns p) (word qs)
+own-follows p none-left = tt
+own-follows zero (queue {k = k} {q = q} {qs = qs} own later) =
+    subst (λ c. Follows c (q ++ word qs)) (sym (add-zero k)) (high-follows k (q ++ word qs) (word-between (queue own later)))
+own-follows (suc p) (queue {k = k} {n = n} {ns = ns} {q = q} {qs = qs} own later) =
+    low-follows (k + (n + firstOf ns p)) q (word qs) own (omega arith)
+    (subst (λ c. Follows c (word qs)) (omega arith) (own-follows p later))
+
+-- A WORD of declared messages is the word of some queues exactly if it is not out of order
+pub in-order-is : (ns u : List ℕ) → Between 0 (total ns) u → (OutOfOrder ns u → ⊥) ↔ ((qs : List (List ℕ)) × Own 0 ns qs × (word qs ≡ u))
+in-order-is ns u b = (in-order ns u b, back)
+  where
+    back : (qs : List (List ℕ)) × Own 0 ns qs × (word qs ≡ u) → OutOfOrder ns u → ⊥
+    back w o =
+        let q = queueOf ns (o .later) in
+        let all : Follows (0 + firstOf ns q) (o .before ++ (o .later ∷ (o .between ++ (o .earlier ∷ o .after)))) =
+        subst (Follows (0 + firstOf ns q)) (w .2 ∙ o .is) (own-follows q (w .1)) in
+        let here-on = follows-right (0 + firstOf ns q) (o .before) (o .later ∷ (o .between ++ (o .earlier ∷ o .after))) all in
+        let high = here-on .0 (omega (arith, queue-first ns q (o .later) (le-refl q))) (o .earlier) (Memᴰ·append-right (o .between) (here refl)) in
+        let whole = subst (Between 0 (total ns)) (o .is) b in
+        let low = between-each (o .before ++ (o .later ∷ (o .between ++ (o .earlier ∷ o .after)))) whole (o .earlier)
+        (Memᴰ·append-right (o .before) (there (Memᴰ·append-right (o .between) (here refl)))) .1 in
+        omega (arith, o .back, first-queue ns q (o .earlier) low (omega arith))
+
+-- what can be followed, and what is accepted, in a pool whose arcs are for messages below top
+module _ (P : Pool) (top : ℕ) (arcs : (s m s′ : ℕ) → P .arc s m ≡ some s′ → m < top) where
+  pub followed-between : (r s : ℕ) (u : List ℕ) → follow P (some r) u ≡ some s → Between 0 top u
+  followed-between r s [] f = nothing
+  followed-between r s (m ∷ u) f =
+      let (x, a, g) = follow-front P (some r) (m ∷ []) u f in message zero-le (arcs r m x a) (followed-between x s u g)
+
+  pub accepted-between : (o : Option ℕ) (u : List ℕ) → accepts P o u ≡ true → Between 0 top u
+  accepted-between o u e = byEnd o (follow P o u) refl e
+    where
+      byEnd : (o x : Option ℕ) → follow P o u ≡ x → isFinal P x ≡ true → Between 0 top u
+      byEnd o none f t = false-not-true refl t
+      byEnd none (some s) f t = none-not-some (follow-none P u) f
+      byEnd (some r) (some s) f t = followed-between r s u f

@@ -1,21 +1,21 @@
 -- Document 01's file R is well formed, so the theorems speak of something: whatever numbers its run is fed, every configuration is inside.
-use mathlib.Core.Path.{_≡_, refl, sym, subst}
+use mathlib.Core.Path.{_≡_, refl, sym, ap, subst}
 use mathlib.Core.Bool.{Bool, true, false}
 use mathlib.Core.Option.{Option, none, some}
-use mathlib.Core.List.{List, [], _∷_, List·Memᴰ·not-nil}
-use Prim.Native.Nat.{ℕ, _≤_, _<_, zero-le}
+use mathlib.Core.List.{List, [], _∷_, _++_, List·Memᴰ·not-nil}
+use Prim.Native.Nat.{ℕ, _<_, zero-le}
 use native.Mathlib.Omega.{arith}
 use lib.Dec.{eqb}
 use lib.ListN.{getD}
 use borrow.Author.Tests.{eqb-true}
 use Rattle.explore.specs.Mem.{Mem, here, there}
-use Rattle.model.specs.Model.{Configuration, nothing, message, queueOf, run}
-use Rattle.model.specs.Diagram.{InQueueOrder}
+use Rattle.model.specs.Model.{Configuration, Between, nothing, message, queueOf, run}
+use Rattle.model.specs.Diagram.{OutOfOrder}
 use Rattle.model.specs.Session.{Session, OwnWord, WellFormed, Inside}
 use Rattle.model.specs.TwoRuns.{Says}
 use Rattle.model.specs.Examples.{sender, receiver, modelR, sessionR, anyNumber, r-closed}
 use Rattle.model.specs.Laws.Basics.{none-not-some}
-use Rattle.model.specs.Laws.Ordered.{accepted-in-order}
+use Rattle.model.specs.Laws.Ordered.{in-order, accepted-between}
 use Rattle.model.specs.Laws.Verdicts.{two-runs}
 
 abbrev R : Session
@@ -43,11 +43,19 @@ r-well-formed =
       arcs = λ s m s′ e. omega (arith, arc-is s m s′ e);
       roots = λ c s e. let z : 0 ≡ s = cc in omega arith;
       entries = λ c s m. absurd (List·Memᴰ·not-nil m);
-      ordered = λ c u e. accepted-in-order (1 ∷ []) anyNumber order (λ s m s′ p. omega (arith, arc-is s m s′ p)) (some 0) u e;
+      ordered = λ c u e. let b = accepted-between anyNumber 1 (λ s m s′ p. omega (arith, arc-is s m s′ p)) (some 0) u e in in-order (1 ∷ []) u b (order u b);
     }
   where
-    order : InQueueOrder (1 ∷ []) anyNumber
-    order r m s n s′ a b = subst (λ k. queueOf (1 ∷ []) k ≤ queueOf (1 ∷ []) n) (sym (arc-is r m s a .0)) zero-le
+    -- of one queue, no message is of a later one
+    first : (a : List ℕ) (m : ℕ) (b : List ℕ) → Between 0 1 (a ++ (m ∷ b)) → m ≡ 0
+    first [] m b (message l h _) = omega arith
+    first (k ∷ a) m b (message l h z) = first a m b z
+
+    order : (u : List ℕ) → Between 0 1 u → OutOfOrder (1 ∷ []) u → ⊥
+    order u b o =
+        let z = first (o .before) (o .later) (o .between ++ (o .earlier ∷ o .after)) (subst (Between 0 1) (o .is) b) in
+        let n : queueOf (1 ∷ []) (o .later) ≡ 0 = ap (queueOf (1 ∷ [])) z in
+        omega (arith, o .back)
 
 pub r-never-leaves : (ts : List ℕ) (γ : Configuration) → Mem γ (run modelR ts) → Inside R γ
 r-never-leaves ts γ m = subst (Says R ts) r-closed (two-runs R r-well-formed ts .says) γ m .0

@@ -8,7 +8,7 @@ use borrow.Author.Tests.{lt-ltb}
 use Rattle.tables.specs.Pool.{arcAt}
 use Rattle.tables.specs.Limits.{mostPool, mostMessages}
 use Rattle.tables.specs.Lookup.{alongArc, AlongTo}
-use Rattle.meaning.specs.Tables.{arcOf}
+use Rattle.queue_order.specs.Pool.{arcOf}
 use Rattle.model.specs.Diagram.{along, follow}
 use Rattle.model.specs.Verdict.{Pair, after}
 use Rattle.model.specs.Judge.{pair}

@@ -14,7 +14,7 @@ use Rattle.numbers.specs.Part.{got, refused}
 use Rattle.numbers.specs.Said.{numberOf, placeOf}
 use Rattle.numbers.specs.Laws.Written.{zeros-hold}
 use Rattle.tables.specs.Limits.{mostQueues}
-use Rattle.tables.specs.Valid.{Valid}
+use Rattle.session.specs.Valid.{Valid}
 use Rattle.tables.specs.declared.tables.Tables.{Tables}
 use Rattle.session.specs.File.{readFile, Reads}
 use Rattle.session.specs.Said.{saidAnswer}

@@ -6,7 +6,10 @@ use native.Mathlib.Omega.{arith}
 use lib.ListN.{length-replicate}
 use Rattle.numbers.specs.Laws.Written.{zeros-hold}
 use Rattle.tables.specs.Limits.{mostBad}
-use Rattle.tables.specs.Valid.{Valid, BadValid}
+use Rattle.tables.specs.Valid.{BadValid}
+use Rattle.queue_order.specs.Order.{Root, of-control, of-entry}
+use Rattle.session.specs.File.{setTables}
+use Rattle.session.specs.Valid.{Valid}
 use Rattle.tables.specs.declared.tables.Tables.{Tables}
 use Rattle.meaning.specs.Tables.{sessionOf}
 use Rattle.trace.specs.Replay.{replayed}
@@ -32,10 +35,14 @@ module _ (T : Tables) (v : Valid T) where
         queues = v .queues;
         transitions = v .transitions;
         pool = v .pool;
-        ordered = v .ordered;
         map = v .map;
         bad = none-bad;
+        ordered = λ d. v .ordered (record { root = d .root; listed = listed (d .root) (d .listed); word = d .word; accepted = d .accepted; back = d .back });
       }
+    where
+      listed : (s : ℕ) → Root (setTables (withoutBad T)) s → Root (setTables T) s
+      listed s (of-control c e) = of-control c e
+      listed s (of-entry b l e) = absurd (omega arith)
 
 -- no replay looks at bad entries
 pub without-bad-replayed : (T : Tables) (s : List ℕ) → replayed (sessionOf (withoutBad T)) s ≡ replayed (sessionOf T) s

@@ -27,8 +27,7 @@ use Rattle.session.specs.Map.{readRoots, readMap}
 use Rattle.session.specs.Bad.{readEntries, readBad}
 use Rattle.reading_model.specs.Model.{readModel}
 use Rattle.session.specs.Sets.{readSets}
-use Rattle.reading_pool.specs.Lowest.{inQueueOrder}
-use Rattle.session.specs.File.{readFile}
+use Rattle.session.specs.File.{readFile, joined}
 use Rattle.session.specs.Causes.{FileField, machineStates, startingState, queueMessages, wordMessage, InRange}
 use Rattle.session.specs.Causes.{ToTransitions, ToTransition, ToMove, ToAction, ToWord, ToState, ToArcs, leastAfter, ArcsRead, no-arc, one-arc-more, ToArc, ToSets, ToBad, ToEntry}
 use Rattle.session.specs.Causes.{Comes, to-machine-count, to-states, to-start, to-queue-count, to-messages, to-transition-count, to-machine, to-from, to-to, to-kind, to-queue, to-word-length, to-word, to-pool-count, to-final, to-arc-count, to-arc, to-target, to-root, to-bad-count, to-control, to-bad-root}
@@ -39,9 +38,7 @@ use Rattle.reading_model.specs.Laws.Transitions.{word-rounds, rows-rounds}
 use Rattle.reading_pool.specs.Laws.Pool.{states-rounds}
 use Rattle.session.specs.Laws.Map.{roots-rounds}
 use Rattle.session.specs.Laws.Bad.{entries-rounds}
-use Rattle.reading_pool.specs.Laws.Order.{ordered-is}
-use Rattle.session.specs.Laws.Fields.{fromSets, parts, file-is}
-use Rattle.session.specs.Laws.Valid.{pool-ready}
+use Rattle.session.specs.Laws.Fields.{isOrdered, atEnd, parts, file-is}
 use Rattle.reading_model.specs.Laws.Places.{factor-fair, machines-fair, term-fair, queues-fair, message-fair, transition-fair, transitions-fair, model-fair}
 use Rattle.reading_pool.specs.Laws.Places.{ascending-fair, arc-fair, arcs-fair, state-fair, pool-fair}
 use Rattle.session.specs.Laws.Places.{map-fair, bad-fair, sets-fair}
@@ -429,8 +426,6 @@ refusal-cause s k p e least most =
     let short = past-test s (leb (length s) mostBytes) 1 mostBytes (parts s) (λ n. omega arith) (sym (file-is s) ∙ e) in
     in-turn s 0 (readModel s 0) _ (model-fair s 0 (omega arith)) (model-caused s) (short .1) (λ M p₁ e₁ h₁ g₁.
     in-turn s p₁ (readPool s p₁ (M .queues .sum)) _ (pool-fair s (M .queues .sum) p₁ h₁) (pool-caused s e₁ h₁) g₁ (λ P p₂ e₂ h₂ g₂.
-    let ordered = past-test s (inQueueOrder (M .queues) P) 9 p₂ (fromSets s p₂ M P) (λ n. omega arith) g₂ in
-    let ready = pool-ready (record { short = leb-true (length s) mostBytes (short .0); afterModel = p₁; model = e₁; pool = e₂ }) in
     let to : ToSets s (M .machines .product) (P .count) p₂ =
     record {
       model = M;
@@ -440,10 +435,11 @@ refusal-cause s k p e least most =
       afterModel = p₁;
       first = e₁;
       second = e₂;
-      ordered = ordered-is (M .queues) P (ready .model .queues) (ready .pool) .0 (ordered .0);
     }
     in
     in-turn s p₂ (readSets s p₂ (M .machines .product) (P .count)) _ (sets-fair s (M .machines .product) (P .count) p₂ h₂)
-    (sets-caused s (M .machines .product) (P .count) p₂ to h₂) (ordered .1) (λ D p₃ e₃ h₃ g₃.
-    let end = past-test s (leb (length s) p₃) 10 p₃ _ (λ n. omega arith) g₃ in
+    (sets-caused s (M .machines .product) (P .count) p₂ to h₂) g₂ (λ D p₃ e₃ h₃ g₃.
+    let T = joined M P D in
+    let order = past-test s (isOrdered T) 9 p₃ (atEnd s T p₃) (λ n. omega arith) g₃ in
+    let end = past-test s (leb (length s) p₃) 10 p₃ _ (λ n. omega arith) (order .1) in
     absurd (not-refused (sym (end .1))))))

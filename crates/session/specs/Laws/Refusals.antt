@@ -12,18 +12,17 @@ use native.Mathlib.Omega.{arith}
 use Rattle.numbers.specs.Limits.{mostBytes}
 use Rattle.numbers.specs.Part.{Part, got, refused, provided}
 use Rattle.reading_pool.specs.Pool.{readPool}
-use Rattle.reading_pool.specs.Lowest.{inQueueOrder}
 use Rattle.reading_model.specs.Model.{readModel}
 use Rattle.session.specs.Sets.{readSets}
-use Rattle.session.specs.File.{readFile}
-use Rattle.tables.specs.Order.{QueueOrdered}
-use Rattle.reading_pool.specs.Laws.Order.{ordered-is}
+use Rattle.session.specs.File.{readFile, joined, setTables}
+use Rattle.queue_order.specs.Order.{Disordered}
+use Rattle.numbers.specs.Laws.Parts.{not-refused}
 use Rattle.numbers.specs.Laws.Places.{RefusalPlace, refuses-late, Fair, fair-more, fair-provided, fair-then}
 use Rattle.reading_model.specs.Laws.Places.{model-fair}
 use Rattle.reading_pool.specs.Laws.Places.{pool-fair}
 use Rattle.session.specs.Laws.Places.{sets-fair}
-use Rattle.session.specs.Laws.Fields.{ToPool, to-pool, Fields, to-end, fromSets, parts, file-is, Late, Reached, reached, Ended, ended}
-use Rattle.session.specs.Laws.Valid.{pool-ready}
+use Rattle.session.specs.Laws.Fields.{Fields, isOrdered, atEnd, fromSets, parts, file-is, to-order, to-end, Ended, ended}
+use Rattle.session.specs.Laws.Valid.{fields-ordered, fields-disordered}
 use Rattle.tables.specs.declared.tables.ModelTables.{ModelTables}
 use Rattle.tables.specs.declared.tables.Pool.{Pool}
 use Rattle.tables.specs.declared.tables.Tables.{Tables}
@@ -35,15 +34,15 @@ module _ (s : List ℕ) where
       (fair-more s 8 10 at (readSets s at (M .machines .product) (P .count)) (omega arith)
       (sets-fair s (M .machines .product) (P .count) at h))
       (λ D next h₁.
-      fair-provided s 10 next (leb (length s) next) 10 next _ (refuses-late s next 10 (omega arith) (omega arith) h₁) (omega arith, h₁))
+      fair-provided s 10 next (isOrdered (joined M P D)) 9 next (atEnd s (joined M P D) next) (refuses-late s next 9 (omega arith) (omega arith) h₁)
+      (fair-provided s 10 next (leb (length s) next) 10 next _ (refuses-late s next 10 (omega arith) (omega arith) h₁) (omega arith, h₁)))
 
   pub fields-fair : Fair s 10 0 (parts s)
   fields-fair =
       fair-then s 10 0 (readModel s 0) _ (fair-more s 8 10 0 (readModel s 0) (omega arith) (model-fair s 0 (omega arith))) (λ M p₁ h₁.
       fair-then s 10 p₁ (readPool s p₁ (M .queues .sum)) _
       (fair-more s 8 10 p₁ (readPool s p₁ (M .queues .sum)) (omega arith) (pool-fair s (M .queues .sum) p₁ h₁)) (λ P p₂ h₂.
-      fair-provided s 10 p₂ (inQueueOrder (M .queues) P) 9 p₂ (fromSets s p₂ M P) (refuses-late s p₂ 9 (omega arith) (omega arith) h₂)
-      (sets-on-fair p₂ M P h₂)))
+      sets-on-fair p₂ M P h₂))
 
 -- the two ways to be refused: the file is too long, or a field of it is refused at a place within it
 pub record Overlong (s : List ℕ) (k p : ℕ) : Type 0 where
@@ -106,107 +105,75 @@ fields-refused s k p h e = go (leb (length s) mostBytes) refl (sym (file-is s) �
     go true f g = (leb-true (length s) mostBytes f, g)
     go false f g = let n : 1 ≡ k = cc in absurd (omega arith)
 
--- model and pool are read, up to place p, and the pool is not in queue order
-pub record Disordered (s : List ℕ) (p : ℕ) : Type 0 where
-  pub model : ModelTables
-  pub pool : Pool
-  pub read : ToPool s model pool p
-  pub disordered : QueueOrdered (model .queues) pool → ⊥
+-- all fields are read, up to place p, and a word accepted from a root is out of order
+pub record Misread (s : List ℕ) (p : ℕ) : Type 0 where
+  pub tables : Tables
+  pub read : Fields s tables p
+  pub disordered : Disordered (tables .queues) (tables .pool) (setTables tables)
 
--- all fields are read, up to place p, and bytes follow
+-- all fields are read, up to place p, no such word is out of order, and bytes follow
 pub record Followed (s : List ℕ) (p : ℕ) : Type 0 where
   pub tables : Tables
   pub read : Fields s tables p
+  pub ordered : Disordered (tables .queues) (tables .pool) (setTables tables) → ⊥
   pub further : p < length s
 
--- a refusal of a whole file
-abbrev refusedBy : ℕ → ℕ → Part Tables
-refusedBy k p = refused k p
+-- WHAT COMES of a file whose fields are all read: 9, or 10, or its tables
+pub data Outcome {s : List ℕ} {y : Part Tables} (z : Ended s y) : Type 0 where
+  by-nine : isOrdered (z .tables) ≡ false → y ≡ refused 9 (z .place) → Outcome z
+  by-ten : isOrdered (z .tables) ≡ true → z .place < length s → y ≡ refused 10 (z .place) → Outcome z
+  in-full : y ≡ got (z .tables) (z .place) → Outcome z
 
--- what comes after field 4, and after field 6
-module _ (s : List ℕ) (y : Part Tables) where
-  after-pool : Late y → (r : Reached s y)
-      → ((inQueueOrder (r .model .queues) (r .pool) ≡ false) × (refusedBy 9 (r .place) ≡ y)) ⊎ Ended s y
-  after-pool late r = go (inQueueOrder (r .model .queues) (r .pool)) refl (r .then)
-    where
-      go : (b : Bool) → inQueueOrder (r .model .queues) (r .pool) ≡ b
-          → provided b 9 (r .place) (fromSets s (r .place) (r .model) (r .pool)) ≡ y
-          → ((inQueueOrder (r .model .queues) (r .pool) ≡ false) × (refusedBy 9 (r .place) ≡ y)) ⊎ Ended s y
-      go true f e = inr (ended s (r .model) (r .pool) (r .place) (r .read) f late (r .inside) e)
-      go false f e = inl (f, e)
+outcome : {s : List ℕ} {y : Part Tables} (z : Ended s y) → Outcome z
+outcome {s} {y} z = byOrder (isOrdered (z .tables)) refl (z .then)
+  where
+    byEnd : isOrdered (z .tables) ≡ true → (b : Bool) → leb (length s) (z .place) ≡ b
+        → provided b 10 (z .place) (got (z .tables) (z .place)) ≡ y → Outcome z
+    byEnd o true f e = in-full (sym e)
+    byEnd o false f e = by-ten o (leb-false (length s) (z .place) f) (sym e)
 
-  after-bad : (z : Ended s y) → (got (z .tables) (z .place) ≡ y) ⊎ ((z .place < length s) × (refusedBy 10 (z .place) ≡ y))
-  after-bad z = go (leb (length s) (z .place)) refl (z .then)
-    where
-      go : (b : Bool) → leb (length s) (z .place) ≡ b → provided b 10 (z .place) (got (z .tables) (z .place)) ≡ y
-          → (got (z .tables) (z .place) ≡ y) ⊎ ((z .place < length s) × (refusedBy 10 (z .place) ≡ y))
-      go true f e = inl e
-      go false f e = inr (leb-false (length s) (z .place) f, e)
+    byOrder : (b : Bool) → isOrdered (z .tables) ≡ b → provided b 9 (z .place) (atEnd s (z .tables) (z .place)) ≡ y → Outcome z
+    byOrder true o e = byEnd o (leb (length s) (z .place)) refl e
+    byOrder false o e = by-nine o (sym e)
 
 module _ (s : List ℕ) (p : ℕ) where
-  disordered-reached : (r : Reached s (refused 9 p)) → Disordered s p
-  disordered-reached r = go (after-pool s (refused 9 p) (omega arith) r)
-    where
-      no-end : (z : Ended s (refused 9 p))
-          → (got (z .tables) (z .place) ≡ refused 9 p) ⊎ ((z .place < length s) × (refusedBy 10 (z .place) ≡ refused 9 p)) → ⊥
-      no-end z (inl e) = let n : _≡_ {A = ℕ} 0 1 = cc in omega arith
-      no-end z (inr e) = let n : _≡_ {A = ℕ} 10 9 = cc in omega arith
+  misread-ended : (z : Ended s (refused 9 p)) → Outcome z → Misread s p
+  misread-ended z (by-nine o e) =
+      let n : z .place ≡ p = cc in
+      record { tables = z .tables; read = subst (Fields s (z .tables)) n (z .read); disordered = fields-disordered (z .read) .0 o }
+  misread-ended z (by-ten o l e) = let n : _≡_ {A = ℕ} 9 10 = cc (e) in absurd (omega arith)
+  misread-ended z (in-full e) = absurd (not-refused e)
 
-      go : ((inQueueOrder (r .model .queues) (r .pool) ≡ false) × (refusedBy 9 (r .place) ≡ refused 9 p)) ⊎ Ended s (refused 9 p) → Disordered s p
-      go (inl h) =
-          let n : r .place ≡ p = cc (h .1) in
-          let v = pool-ready (r .read) in
-          record {
-            model = r .model;
-            pool = r .pool;
-            read = subst (ToPool s (r .model) (r .pool)) n (r .read);
-            disordered =
-                λ o.
-                let t = ordered-is (r .model .queues) (r .pool) (v .model .queues) (v .pool) .1 o in
-                let c : _≡_ {A = ℕ} 0 1 = cc (h .0, t) in
-                omega arith;
-          }
-      go (inr z) = absurd (no-end z (after-bad s (refused 9 p) z))
-
-  disordered-refused : Disordered s p → readFile s ≡ refused 9 p
-  disordered-refused d = go (inQueueOrder (d .model .queues) (d .pool)) refl
-    where
-      go : (b : Bool) → inQueueOrder (d .model .queues) (d .pool) ≡ b → readFile s ≡ refused 9 p
-      go true f =
-          let v = pool-ready (d .read) in
-          absurd (d .disordered (ordered-is (d .model .queues) (d .pool) (v .model .queues) (v .pool) .0 f))
-      go false f =
-          to-pool (d .read)
-          ∙ ap (λ b. provided b 9 p (fromSets s p (d .model) (d .pool))) f
-
-  -- 9: POOL NOT IN QUEUE ORDER
-  pub refused-nine : (readFile s ≡ refused 9 p) ↔ Disordered s p
+  -- 9: A WORD ACCEPTED FROM A ROOT OUT OF ORDER
+  pub refused-nine : (readFile s ≡ refused 9 p) ↔ Misread s p
   refused-nine = (
     λ e.
         let g = fields-refused s 9 p (omega arith) e in
-        disordered-reached (reached s (g .0) {y = refused 9 p} (omega arith) (g .1)),
-    disordered-refused,
+        let z = ended s (g .0) {y = refused 9 p} (omega arith) (g .1) in
+        misread-ended z (outcome z),
+    λ d. to-order (d .read) ∙ ap (λ b. provided b 9 p (atEnd s (d .tables) p)) (fields-disordered (d .read) .1 (d .disordered)),
   )
 
-  trailing-reached : (r : Reached s (refused 10 p)) → Followed s p
-  trailing-reached r = go (after-pool s (refused 10 p) (omega arith) r)
-    where
-      end : (z : Ended s (refused 10 p))
-          → (got (z .tables) (z .place) ≡ refused 10 p) ⊎ ((z .place < length s) × (refusedBy 10 (z .place) ≡ refused 10 p)) → Followed s p
-      end z (inl e) = let n : _≡_ {A = ℕ} 0 1 = cc in absurd (omega arith)
-      end z (inr e) =
-          let n : z .place ≡ p = cc (e .1) in
-          record { tables = z .tables; read = subst (Fields s (z .tables)) n (z .read); further = omega (arith, e .0) }
-
-      go : ((inQueueOrder (r .model .queues) (r .pool) ≡ false) × (refusedBy 9 (r .place) ≡ refused 10 p)) ⊎ Ended s (refused 10 p) → Followed s p
-      go (inl h) = let n : _≡_ {A = ℕ} 9 10 = cc (h .1) in absurd (omega arith)
-      go (inr z) = end z (after-bad s (refused 10 p) z)
+  followed-ended : (z : Ended s (refused 10 p)) → Outcome z → Followed s p
+  followed-ended z (by-nine o e) = let n : _≡_ {A = ℕ} 10 9 = cc (e) in absurd (omega arith)
+  followed-ended z (by-ten o l e) =
+      let n : z .place ≡ p = cc in
+      record {
+        tables = z .tables;
+        read = subst (Fields s (z .tables)) n (z .read);
+        ordered = fields-ordered (z .read) .0 o;
+        further = omega arith;
+      }
+  followed-ended z (in-full e) = absurd (not-refused e)
 
   -- 10: BYTES AFTER THE LAST FIELD
   pub refused-ten : (readFile s ≡ refused 10 p) ↔ Followed s p
   refused-ten = (
     λ e.
         let g = fields-refused s 10 p (omega arith) e in
-        trailing-reached (reached s (g .0) {y = refused 10 p} (omega arith) (g .1)),
-    λ t. to-end (t .read) ∙ ap (λ b. provided b 10 p (got (t .tables) p)) (lt-leb (length s) p (t .further)),
+        let z = ended s (g .0) {y = refused 10 p} (omega arith) (g .1) in
+        followed-ended z (outcome z),
+    λ t.
+        to-end (t .read) (fields-ordered (t .read) .1 (t .ordered))
+        ∙ ap (λ b. provided b 10 p (got (t .tables) p)) (lt-leb (length s) p (t .further)),
   )

@@ -13,9 +13,9 @@ use Rattle.tables.specs.Laws.Lookup.{arcs-small}
 use Rattle.model.specs.Model.{Between, Own, number, total}
 use Rattle.model.specs.Laws.Queues.{between-wide, word-between}
 use Rattle.model.specs.Diagram.{follow, word}
-use Rattle.meaning.specs.Tables.{poolOf}
+use Rattle.queue_order.specs.Pool.{poolOf}
 use Rattle.meaning.specs.Laws.Lookup.{along-is, final-is}
-use Rattle.meaning.specs.Laws.Order.{messages-are}
+use Rattle.queue_order.specs.Laws.Tables.{messages-are}
 use Rattle.controls.specs.Controls.{sizesOf}
 use Rattle.following.specs.Follow.{followArcs, FollowsTo}
 use Rattle.following.specs.Laws.Follow.{follow-is}

@@ -52,6 +52,14 @@ module _ (roots : List ℕ) (c root : ℕ) (e : root ≡ getD roots c 0) where
         most = omega arith;
       }
 
+-- an entry that is not 0 is 1 plus the root
+pub root-entry : (roots : List ℕ) (c : ℕ) {s : ℕ} → rootOf roots c ≡ some s → getD roots c 0 ≡ s + 1
+root-entry roots c {s} e = byEntry (eqb (getD roots c 0) 0) refl e
+  where
+    byEntry : (b : Bool) → eqb (getD roots c 0) 0 ≡ b → elim b [ true ↦ none | false ↦ some (getD roots c 0 - 1) ] ≡ some s → getD roots c 0 ≡ s + 1
+    byEntry true f e′ = let z : _≡_ {A = ℕ} 0 1 = cc in absurd (omega arith)
+    byEntry false f e′ = let x : getD roots c 0 - 1 ≡ s = cc in omega (arith, eqb-false (getD roots c 0) 0 f)
+
 -- AN ARC
 -- every state has an entry for every message
 pub entry-within : {arcs : List ℕ} {s m : ℕ} → ArcsSmall arcs → s < mostPool → m < mostMessages → s * mostMessages + m < length arcs

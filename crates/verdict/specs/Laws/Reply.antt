@@ -11,7 +11,7 @@ use Rattle.numbers.specs.Part as Part
 use Rattle.numbers.specs.Said.{numberOf, placeOf}
 use Rattle.session.specs.Said.{saidAnswer}
 use Rattle.session.specs.File.{Reads, readFile}
-use Rattle.tables.specs.Valid.{Valid}
+use Rattle.session.specs.Valid.{Valid}
 use Rattle.session.specs.Laws.Reading.{answer-refused, answer-read, answer-valid}
 use Rattle.session.specs.declared.reading.Reading.{Reading}
 use Rattle.session.specs.declared.reading.Answer.the-variants.{Read, Refused as AnswerRefused}

@@ -6,7 +6,7 @@ use mathlib.Core.List.{List, [], _∷_}
 use Prim.Native.Nat.{ℕ, suc}
 use lib.Dec.{ltb, eqb}
 use Rattle.explore.specs.Search.{searchFrom}
-use Rattle.meaning.specs.Tables.{arcOf}
+use Rattle.queue_order.specs.Pool.{arcOf}
 use Rattle.tables.specs.Lookup.{finalAt}
 use Rattle.model.specs.Diagram.{along, follow, isFinal}
 use Rattle.model.specs.Session.{Session}

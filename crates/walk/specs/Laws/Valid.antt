@@ -4,7 +4,8 @@ use mathlib.Core.List.{List}
 use Prim.Native.Nat.{ℕ, _+_, _*_, _≤_, _<_}
 use native.Mathlib.Omega.{arith}
 use lib.ListN.{length}
-use Rattle.tables.specs.Valid.{QueuesValid, TransitionsValid, Valid}
+use Rattle.tables.specs.Valid.{QueuesValid, TransitionsValid}
+use Rattle.session.specs.Valid.{Valid}
 use Rattle.tables.specs.Laws.Lookup.{arcs-small}
 use Rattle.tables.specs.declared.tables.Machines.{Machines}
 use Rattle.tables.specs.declared.tables.Queues.{Queues}

@@ -1,7 +1,8 @@
 //! Times of replaying, product and reference by turns. Not a test: nothing fails by being slow.
 //!
 //! The product is called as C programs call it, in the library that `rt staticlib capi` writes. The reference is `rings`,
-//! the product's algorithm in safe Rust. Each trace is first replayed by both, and they must leave the same.
+//! the product's algorithm in safe Rust, which is given what was read with `order`, the product's test of queue order. Each
+//! trace is first replayed by both, and they must leave the same.
 
 use std::collections::BTreeMap;
 use std::hint::black_box;
@@ -9,9 +10,10 @@ use std::time::Duration;
 
 use reference_checker::generate::document::{hex, R};
 use reference_checker::generate::plan::{Action, Direction, Plan, PlannedState, PlannedTransition};
-use reference_checker::read::{Refusal, MESSAGES, QUEUES, WORD_LENGTH};
+use reference_checker::read::{read_asking, Refusal, MESSAGES, QUEUES, WORD_LENGTH};
 use reference_checker::replay::{Record, Reply, LONGEST_TRACE, QUEUE_ROOM};
-use reference_checker::rings::replay_in_rings;
+use reference_checker::rings::replay_as_read;
+use swarmbanner_bench::order::in_queue_order;
 use swarmbanner_bench::{report, time_by_turns, Times};
 
 /// What is timed, with the memory and the record that it is lent.
@@ -34,7 +36,8 @@ impl Default for Reference {
 
 impl Subject for Reference {
     fn replays(&mut self, file: &[u8], trace: &[u8]) -> Reply {
-        replay_in_rings(&mut self.record, black_box(file), black_box(trace), &mut self.memory)
+        let read = read_asking(black_box(file), in_queue_order);
+        replay_as_read(&mut self.record, &read, black_box(trace), &mut self.memory)
     }
 
     fn lent(&self) -> (Vec<usize>, &[u8]) {

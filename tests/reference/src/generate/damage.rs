@@ -279,61 +279,6 @@ impl Generator {
         }
     }
 
-    /// A plan with an arc into a state for a later queue and an arc out of it for an earlier one.
-    fn plan_out_of_order(&mut self) -> Plan {
-        loop {
-            let mut plan = self.small_plan();
-            let last = plan.queues.len() - 1;
-            if last == 0 {
-                continue;
-            }
-            let state = self.random.below(plan.pool.len());
-            let from = self.random.below(plan.pool.len());
-            let target = self.random.below(plan.pool.len());
-            let later_queue = self.random.between(1, last);
-            let earlier_queue = self.random.between(0, later_queue - 1);
-            let later = plan.messages_of(later_queue);
-            let earlier = plan.messages_of(earlier_queue);
-            let arc_in = self.random.between(later.start, later.end - 1);
-            let arc_out = self.random.between(earlier.start, earlier.end - 1);
-            plan.pool[from].arcs.insert(arc_in, state);
-            plan.pool[state].arcs.insert(arc_out, target);
-            return plan;
-        }
-    }
-
-    pub(super) fn row_9(&mut self) {
-        for round in 0..150 {
-            let draft = self.plan_out_of_order().draft();
-            let after_pool = draft.place(draft.positions(Role::Root)[0]);
-            let bytes = draft.bytes();
-            match round % 5 {
-                0 => self.refused("row 9: bytes end there", bytes[..after_pool].to_vec(), 9, after_pool),
-                1 => {
-                    let spoilt = [&bytes[..after_pool], &[255, 255, 255]].concat();
-                    self.refused("row 9: the next number is refused too", spoilt, 9, after_pool);
-                }
-                2 => {
-                    let longer = [&bytes[..], &[0]].concat();
-                    self.refused("row 9: bytes after the last field", longer, 9, after_pool);
-                }
-                3 => {
-                    // The last number of field 4 is refused first.
-                    let positions = draft.positions(Role::Root);
-                    let last = positions[0] - 1;
-                    let past = draft.numbers[last].most + 1;
-                    self.refused(
-                        "row 9: 5 in field 4 before 9",
-                        draft.bytes_with(last, &encode(past)),
-                        5,
-                        draft.place(last),
-                    );
-                }
-                _ => self.refused("row 9", bytes, 9, after_pool),
-            }
-        }
-    }
-
     pub(super) fn row_10(&mut self) {
         for round in 0..100 {
             let mut bytes = self.small_plan().bytes();

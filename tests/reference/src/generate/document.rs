@@ -44,7 +44,7 @@ pub fn cases() -> Vec<Worked> {
         worked("j", [&[5], r_after_first].concat(), "refused 5 at 0"),
         worked("k", [&r[..], &[0]].concat(), "refused 10 at 29"),
         worked("l", r_before_last.to_vec(), "refused 3 at 28"),
-        worked("m", s_with(S_TRANSITION, "01 01 02 00 00 01 00"), "refused 9 at 21"),
+        worked("m", s_with(S_TRANSITION, "01 01 02 00 00 01 00"), "refused 9 at 23"),
         worked("n", hex("03 10 10 02"), "refused 6 at 3"),
     ]
 }

@@ -4,7 +4,7 @@ use std::collections::BTreeMap;
 
 use super::plan::{Action, Direction, Plan, PlannedState, PlannedTransition};
 use crate::random::Random;
-use crate::read::{BAD_ENTRIES, CONTROL_STATES, MESSAGES, POOL_STATES, TRANSITIONS, WORD_LENGTH};
+use crate::read::{BAD_ENTRIES, CONTROL_STATES, MESSAGES, POOL_STATES, QUEUES, TRANSITIONS, WORD_LENGTH};
 
 /// The longest file that is read. One queue, so that every state can have an arc for every message; control states
 /// of 128 and above in the bad list, since these take two bytes.
@@ -154,6 +154,24 @@ pub fn with_holes(random: &mut Random, step: StepOf, percent_missing: usize) -> 
         transitions: one_step(1, 2, action),
         pool,
         roots: vec![Some(POOL_STATES - 1), Some(0), Some(1)],
+        bad: vec![],
+    }
+}
+
+/// All arcs for four queues of eight messages, and no final state, so that nothing is accepted in whatever order. From the root
+/// every state is reached by messages of the first queue alone, and then again by each later queue and out of order.
+pub fn longest_test_of_order(random: &mut Random) -> Plan {
+    let mut pool = all_arcs(random, POOL_STATES);
+    for state in &mut pool {
+        state.is_final = false;
+    }
+    Plan {
+        states: vec![1],
+        starts: vec![0],
+        queues: vec![MESSAGES / QUEUES; QUEUES],
+        transitions: vec![],
+        pool,
+        roots: vec![Some(0)],
         bad: vec![],
     }
 }

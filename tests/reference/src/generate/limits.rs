@@ -2,6 +2,7 @@
 
 use super::reading::{reading_cases, Expected};
 use super::replay::Generator;
+use super::row_9::refused_about_order;
 use super::running::Style;
 use super::traces::{Walk, Waves};
 use crate::read::{read, Refusal, Tables};
@@ -91,6 +92,15 @@ impl Generator {
             let memory_length = [0, 1_023, 2_048, 4_096][self.random.below(4)];
             let expected = Some(Reply::FileRefused(Refusal { number, place }));
             self.add("refused file", case.bytes, trace, memory_length, expected);
+        }
+    }
+
+    /// The same for files that are out of order, whether 9 or what comes before it refuses them.
+    pub(super) fn files_out_of_order(&mut self, seed: u64) {
+        for (file, refusal) in refused_about_order(seed + 8, 10) {
+            let trace = (0..self.random.below(6)).map(|_| self.random.byte()).collect();
+            let memory_length = [0, 1_023, 2_048, 4_096][self.random.below(4)];
+            self.add("refused about order", file, trace, memory_length, Some(Reply::FileRefused(refusal)));
         }
     }
 

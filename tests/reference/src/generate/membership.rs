@@ -1,13 +1,16 @@
 //! Questions of membership: every refusal, yes and no, and no for every reason.
 
+use super::disorder::{add_some_harmless, alive, Harmless};
 use super::document;
 use super::plan::{random_plan, Plan, Shape};
-use super::reading::{reading_cases, Expected};
+use super::reading::{reading_cases, Expected, Generator};
+use super::row_9::refused_about_order;
 use crate::random::Random;
+use crate::read::Refusal;
 use crate::stream::Question;
 
 /// What a question was made for.
-#[derive(Clone, Copy, Debug, PartialEq, Eq, PartialOrd, Ord)]
+#[derive(Clone, Copy, Debug, PartialEq, Eq)]
 pub enum Purpose {
     Document,
     /// Contents on a way through the diagram, to a final state if there is one.
@@ -21,8 +24,42 @@ pub enum Purpose {
     MessageTooHigh(usize),
     /// Refused by 13 at the place given.
     OutOfOrder(usize),
+    /// The same, of contents that the arcs of a file that is read lead along.
+    OutOfOrderAlongArcs(usize),
+    /// In the set or not, of a file that is out of order where it does not matter.
+    Harmless,
+    /// Contents of such a file that lead into a dead end.
+    IntoDeadEnd,
+    /// Refused by 9, or by what comes before it in a file that is out of order, whatever is asked.
+    WordOutOfOrder(Refusal),
     RefusedFile,
     Long,
+}
+
+/// What questions about files that are out of order can be.
+pub const ABOUT_ORDER: [&str; 6] = [
+    "yes, of a file out of order where it does not matter",
+    "no, of a file out of order where it does not matter",
+    "no, contents that lead into a dead end",
+    "refused 13, contents that arcs lead along",
+    "refused 9",
+    "refused before 9 is asked",
+];
+
+impl Purpose {
+    /// Which of these a question is, by its reply.
+    pub fn about_order(self, reply: &Result<bool, Refusal>) -> Option<&'static str> {
+        let [yes, no, dead_end, along_arcs, refused, refused_before] = ABOUT_ORDER;
+        match (self, reply) {
+            (Purpose::Harmless, Ok(true)) => Some(yes),
+            (Purpose::Harmless, Ok(false)) => Some(no),
+            (Purpose::IntoDeadEnd, _) => Some(dead_end),
+            (Purpose::OutOfOrderAlongArcs(_), _) => Some(along_arcs),
+            (Purpose::WordOutOfOrder(Refusal { number: 9, .. }), _) => Some(refused),
+            (Purpose::WordOutOfOrder(_), _) => Some(refused_before),
+            _ => None,
+        }
+    }
 }
 
 pub fn questions(seed: u64) -> Vec<(Purpose, Question)> {
@@ -37,8 +74,41 @@ pub fn questions(seed: u64) -> Vec<(Purpose, Question)> {
         questions.extend(out_of_order(&mut random, &plan));
         questions.extend(no_root(&mut random, &plan));
     }
+    questions.extend(about_order(seed));
     questions.extend(refused_files(&mut random, seed));
     questions
+}
+
+/// Files that are out of order somewhere: where it does not matter, or along a word that a root accepts.
+fn about_order(seed: u64) -> Vec<(Purpose, Question)> {
+    let mut files = Generator::new(seed + 7);
+    let mut random = Random::new(seed + 9);
+    let mut questions = vec![];
+    for round in 0..100 {
+        let mut plan = files.harmless_plan(Harmless::ALL[round % Harmless::ALL.len()]);
+        add_some_harmless(&mut random, &mut plan);
+        questions.extend((0..4).find_map(|_| along_arcs(&mut random, &plan)));
+        questions
+            .extend(along(&mut random, &plan, |last, queue| last <= queue).map(|asked| (Purpose::Harmless, asked)));
+    }
+    for (file, refusal) in refused_about_order(seed + 7, 10) {
+        let contents = (0..random.below(3)).map(|_| random.byte()).collect();
+        questions.push((Purpose::WordOutOfOrder(refusal), Question { file, control_state: random.below(4), contents }));
+    }
+    questions
+}
+
+/// Contents that the arcs lead along in any order: refused where they are out of it, else asked if they end in a dead end.
+fn along_arcs(random: &mut Random, plan: &Plan) -> Option<(Purpose, Question)> {
+    let question = along(random, plan, |_, _| true)?;
+    let contents: Vec<usize> = question.contents.iter().map(|&message| message.into()).collect();
+    let is_out_of_order = |&place: &usize| plan.queue_of(contents[place]) < plan.queue_of(contents[place - 1]);
+    if let Some(place) = (1..contents.len()).find(is_out_of_order) {
+        return Some((Purpose::OutOfOrderAlongArcs(place), question));
+    }
+    let root = plan.roots[question.control_state]?;
+    let end = contents.iter().fold(root, |state, message| plan.pool[state].arcs[message]);
+    (!alive(plan).contains(&end)).then_some((Purpose::IntoDeadEnd, question))
 }
 
 fn document_questions() -> Vec<(Purpose, Question)> {
@@ -67,14 +137,20 @@ fn about(plan: &Plan, control_state: usize, contents: &[usize]) -> Question {
 }
 
 fn on_the_way(random: &mut Random, plan: &Plan) -> Option<(Purpose, Question)> {
+    Some((Purpose::OnTheWay, along(random, plan, |_, _| true)?))
+}
+
+/// Contents along arcs from a root, in which a message of one queue may come before one of another.
+fn along(random: &mut Random, plan: &Plan, may_follow: impl Fn(usize, usize) -> bool) -> Option<Question> {
     let rooted: Vec<usize> =
         (0..plan.roots.len()).filter(|&control_state| plan.roots[control_state].is_some()).collect();
     let &control_state = random.pick(&rooted)?;
     let mut state = plan.roots[control_state]?;
     let mut contents = Vec::new();
     for _ in 0..random.between(0, 12) {
-        let arcs: Vec<(usize, usize)> =
-            plan.pool[state].arcs.iter().map(|(&message, &target)| (message, target)).collect();
+        let last = contents.last().map_or(0, |&message| plan.queue_of(message));
+        let arcs = plan.pool[state].arcs.iter().map(|(&message, &target)| (message, target));
+        let arcs: Vec<(usize, usize)> = arcs.filter(|&(message, _)| may_follow(last, plan.queue_of(message))).collect();
         let Some(&(message, target)) = random.pick(&arcs) else { break };
         contents.push(message);
         state = target;
@@ -82,7 +158,7 @@ fn on_the_way(random: &mut Random, plan: &Plan) -> Option<(Purpose, Question)> {
             break;
         }
     }
-    Some((Purpose::OnTheWay, about(plan, control_state, &contents)))
+    Some(about(plan, control_state, &contents))
 }
 
 fn word_in_order(random: &mut Random, plan: &Plan, longest: usize) -> Vec<usize> {

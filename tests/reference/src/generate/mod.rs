@@ -1,6 +1,7 @@
 //! Seeded generators of files, questions and replays. The same seed gives the same stream.
 
 mod damage;
+pub mod disorder;
 pub mod document;
 pub mod draft;
 pub mod large;
@@ -10,6 +11,7 @@ pub mod membership;
 pub mod plan;
 pub mod reading;
 pub mod replay;
+pub mod row_9;
 mod running;
 mod traces;
 pub mod verdicts;

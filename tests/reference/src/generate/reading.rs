@@ -36,7 +36,7 @@ pub struct Generator {
 }
 
 pub fn reading_cases(seed: u64) -> Generator {
-    let mut generator = Generator { random: Random::new(seed), cases: Vec::new(), at_limit: BTreeMap::new() };
+    let mut generator = Generator::new(seed);
     generator.document_files();
     generator.valid_files();
     generator.valid_words();
@@ -55,7 +55,11 @@ pub fn reading_cases(seed: u64) -> Generator {
 }
 
 impl Generator {
-    fn add(&mut self, kind: impl Into<String>, bytes: Vec<u8>, expected: Expected) {
+    pub(crate) fn new(seed: u64) -> Self {
+        Generator { random: Random::new(seed), cases: Vec::new(), at_limit: BTreeMap::new() }
+    }
+
+    pub(super) fn add(&mut self, kind: impl Into<String>, bytes: Vec<u8>, expected: Expected) {
         self.cases.push(Case { kind: kind.into(), bytes, expected });
     }
 
@@ -83,7 +87,11 @@ impl Generator {
     }
 
     pub(super) fn small_plan(&mut self) -> Plan {
-        random_plan(&mut self.random, &Shape::SMALL)
+        self.plan_of_shape(&Shape::SMALL)
+    }
+
+    pub(super) fn plan_of_shape(&mut self, shape: &Shape) -> Plan {
+        random_plan(&mut self.random, shape)
     }
 
     /// A small plan with a word of this length, and the number of its transition.

@@ -1,6 +1,7 @@
 //! Replays: every end and refusal after short and long runs, queues that wrap around their room many times, and what is
 //! lent in every length.
 
+use super::disorder::add_some_harmless;
 use super::document;
 use super::plan::{random_plan, Action, Direction, Plan, PlannedTransition, Shape};
 use super::running::{running_plan, with_all_transitions, Style};
@@ -51,11 +52,13 @@ pub fn replay_cases(seed: u64) -> Vec<Case> {
     generator.wrapped_queues();
     generator.full_queues();
     generator.left_maps();
+    generator.disordered_maps();
     generator.all_transitions();
     generator.no_transitions();
     generator.random_traces();
     generator.long_traces();
     generator.refused_files(seed);
+    generator.files_out_of_order(seed);
     generator.refused_traces();
     generator.refused_memory();
     generator.cases
@@ -133,10 +136,11 @@ impl Generator {
     /// Sessions with random maps, as they are and mended.
     fn random_sessions(&mut self, seed: u64) {
         let mut plans = Plans::new(seed + 4);
-        for round in 0..900 {
-            let plan = match round % 3 {
+        for round in 0..1_200 {
+            let plan = match round % 4 {
                 0 => random_plan(&mut self.random, &Shape::SMALL),
                 1 => plans.small(),
+                2 => plans.disordered(),
                 _ => plans.long_worded(),
             };
             let file = plan.bytes();
@@ -337,6 +341,34 @@ impl Generator {
                 self.start_outside(plan);
             }
         }
+    }
+
+    /// Maps with parts out of order that change no set, so that a run goes as it would without them.
+    fn disordered_maps(&mut self) {
+        for round in 0..12 {
+            for ending in Ending::ALL {
+                let plan = self.disordered_map(round % 2 == 0, ending);
+                if round % 4 == 0 {
+                    self.start_outside(plan);
+                }
+            }
+        }
+        for _ in 0..80 {
+            self.disordered_map(true, Ending::Leaves);
+        }
+    }
+
+    fn disordered_map(&mut self, is_tight: bool, ending: Ending) -> Plan {
+        let style = Style { queues: self.random.between(2, QUEUES), is_tight, ..Style::random(&mut self.random) };
+        let (mut plan, _, _) = self.plan_of(style);
+        add_some_harmless(&mut self.random, &mut plan);
+        let file = plan.bytes();
+        let tables = read(&file).expect("parts that change no set are read");
+        let mut walk = Walk::new(&tables);
+        let steps = self.random.below(40);
+        walk.wander(&mut self.random, steps);
+        self.add_walk("map out of order", &file, walk, ending);
+        plan
     }
 
     /// The root of the start is taken away, or accepts nothing.

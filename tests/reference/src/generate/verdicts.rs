@@ -1,7 +1,8 @@
 //! Files for checking: every verdict and refusal, and files that tell a mistaken checker from a right one.
 
-use std::collections::BTreeMap;
+use std::collections::{BTreeMap, BTreeSet};
 
+use super::disorder::add_some_harmless;
 use super::document;
 use super::large;
 use super::long;
@@ -10,6 +11,7 @@ use super::reading::{reading_cases, Expected};
 use crate::decide::competitors;
 use crate::diagram::follow;
 use crate::long_words;
+use crate::order_features;
 use crate::random::Random;
 use crate::read::{read, Tables, WORD_LENGTH};
 use crate::traps::{verdict_with, Trap};
@@ -42,6 +44,12 @@ impl Plans {
         (tables, verdict)
     }
 
+    fn judged(&mut self, next: impl Fn(&mut Self) -> Plan) -> (Plan, Tables, Verdict) {
+        let plan = next(self);
+        let (tables, verdict) = self.judge(&plan);
+        (plan, tables, verdict)
+    }
+
     /// A small plan.
     pub fn small(&mut self) -> Plan {
         self.mended(&SHAPE)
@@ -58,6 +66,17 @@ impl Plans {
             _ => {
                 let plan = long::along_arcs(&mut self.random, &SHAPE);
                 self.mend_some(plan)
+            }
+        }
+    }
+
+    /// A small plan with parts out of order that change no set.
+    pub fn disordered(&mut self) -> Plan {
+        loop {
+            let mut plan = self.mended(&Shape { pool_states: 4, ..SHAPE });
+            if plan.queues.len() > 1 {
+                add_some_harmless(&mut self.random, &mut plan);
+                return plan;
             }
         }
     }
@@ -81,8 +100,13 @@ impl Plans {
         };
         for round in 0..mends {
             let (tables, verdict) = self.judge(&plan);
-            if !self.mend(&mut plan, &tables, &verdict, round) {
+            let mut mended = plan.clone();
+            if !self.mend(&mut mended, &tables, &verdict, round) {
                 break;
+            }
+            // A set that grows may come to hold a word out of order; then another way is tried in the next round.
+            if read(&mended.bytes()).is_ok() {
+                plan = mended;
             }
         }
         plan
@@ -144,7 +168,7 @@ impl Plans {
         let message = usize::from(after[taken]);
         let target = self.random.below(plan.pool.len());
         plan.pool[state].arcs.insert(message, target);
-        // The new arc may break the queue order; then it is taken back.
+        // With the new arc a word out of order may be accepted; then it is taken back.
         let stays = read(&plan.bytes()).is_ok();
         if !stays {
             plan.pool[state].arcs.remove(&message);
@@ -169,6 +193,7 @@ const REFUSED_OF_EACH_ROW: usize = 130;
 /// Random plans that are looked at.
 const PLANS: usize = 60_000;
 const LONG_WORDED_PLANS: usize = 40_000;
+const DISORDERED_PLANS: usize = 10_000;
 
 /// How many files of each kind are kept.
 fn quota(kind: &str) -> usize {
@@ -195,6 +220,7 @@ pub fn verdict_cases(seed: u64) -> Vec<Case> {
     cases.extend(refused_cases(seed));
     cases.extend(large_cases(seed));
     cases.extend(long_worded_cases(seed));
+    cases.extend(disordered_cases(seed));
 
     let mut plans = Plans::new(seed);
     let mut kept: BTreeMap<String, usize> = BTreeMap::new();
@@ -233,31 +259,63 @@ fn kind_of(tables: &Tables, verdict: &Verdict, wanted: impl Fn(&str) -> bool) ->
     wanted(&kind).then_some(kind)
 }
 
-/// Files that are kept as long as some feature of long words, or a mistake about them, is still too seldom.
-fn long_worded_cases(seed: u64) -> Vec<Case> {
-    let mut plans = Plans::new(seed + 3);
-    let mut missing = long_words::asked();
-    missing.extend(Trap::OF_LONG_WORDS.map(|trap| (format!("{trap:?}"), quota("tells from a trap"))));
-    let mut cases = Vec::new();
-    for _ in 0..LONG_WORDED_PLANS {
-        let plan = plans.long_worded();
-        let (tables, verdict) = plans.judge(&plan);
-        let mut good_for = long_words::features(&tables, &verdict);
-        for trap in Trap::OF_LONG_WORDS {
+/// Files that are kept as long as some feature, or a mistake, is still too seldom.
+struct Wanted<'t> {
+    missing: BTreeMap<String, usize>,
+    features: fn(&Tables, &Verdict) -> BTreeSet<String>,
+    traps: &'t [Trap],
+}
+
+impl<'t> Wanted<'t> {
+    fn new(
+        mut asked: BTreeMap<String, usize>,
+        features: fn(&Tables, &Verdict) -> BTreeSet<String>,
+        traps: &'t [Trap],
+    ) -> Self {
+        asked.extend(traps.iter().map(|trap| (format!("{trap:?}"), quota("tells from a trap"))));
+        Wanted { missing: asked, features, traps }
+    }
+
+    fn takes(&mut self, tables: &Tables, verdict: &Verdict) -> bool {
+        let mut good_for = (self.features)(tables, verdict);
+        for &trap in self.traps {
             let name = format!("{trap:?}");
-            if missing.contains_key(&name) && verdict_with(&tables, Some(trap)) != verdict {
+            if self.missing.contains_key(&name) && verdict_with(tables, Some(trap)) != *verdict {
                 good_for.insert(name);
             }
         }
-        if good_for.iter().any(|feature| missing.contains_key(feature)) {
-            for feature in &good_for {
-                missing.entry(feature.clone()).and_modify(|files| *files -= 1);
+        let takes = good_for.iter().any(|feature| self.missing.contains_key(feature));
+        if takes {
+            for feature in good_for {
+                self.missing.entry(feature).and_modify(|files| *files -= 1);
             }
-            missing.retain(|_, &mut files| files > 0);
-            cases.push(Case { kind: "long words".to_string(), bytes: plan.bytes() });
+            self.missing.retain(|_, &mut files| files > 0);
         }
+        takes
     }
-    cases
+
+    fn cases(mut self, kind: &str, mut next: impl FnMut() -> (Plan, Tables, Verdict), plans: usize) -> Vec<Case> {
+        let mut cases = Vec::new();
+        for _ in 0..plans {
+            let (plan, tables, verdict) = next();
+            if self.takes(&tables, &verdict) {
+                cases.push(Case { kind: kind.to_string(), bytes: plan.bytes() });
+            }
+        }
+        cases
+    }
+}
+
+fn long_worded_cases(seed: u64) -> Vec<Case> {
+    let mut plans = Plans::new(seed + 3);
+    let wanted = Wanted::new(long_words::asked(), long_words::features, &Trap::OF_LONG_WORDS);
+    wanted.cases("long words", || plans.judged(Plans::long_worded), LONG_WORDED_PLANS)
+}
+
+fn disordered_cases(seed: u64) -> Vec<Case> {
+    let mut plans = Plans::new(seed + 6);
+    let wanted = Wanted::new(order_features::asked(), order_features::features, &Trap::OF_QUEUE_ORDER);
+    wanted.cases("out of order", || plans.judged(Plans::disordered), DISORDERED_PLANS)
 }
 
 /// Whether other contents of the same length fail too, so that the lowest must be chosen.
@@ -280,6 +338,7 @@ fn large_cases(seed: u64) -> Vec<Case> {
         large::last_entry_is_bad(),
         large::many_dense_steps(&mut plans.random),
     ];
+    files.push(large::longest_test_of_order(&mut plans.random));
     files.push(large::dense(&mut plans.random, None));
     files.push(large::with_holes(&mut plans.random, None, 50));
     files.push(large::with_holes(&mut plans.random, None, 90));

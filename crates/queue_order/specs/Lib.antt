@@ -1,0 +1,6 @@
+pub mod Pool
+pub mod Order
+pub mod Nodes
+pub mod Search
+pub mod Found
+pub mod Laws
