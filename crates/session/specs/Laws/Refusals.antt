@@ -106,7 +106,7 @@ fields-refused s k p h e = go (leb (length s) mostBytes) refl (sym (file-is s) �
     go false f g = let n : 1 ≡ k = cc in absurd (omega arith)
 
 -- all fields are read, up to place p, and a word accepted from a root is out of order
-pub record Misread (s : List ℕ) (p : ℕ) : Type 0 where
+pub record DisorderedAt (s : List ℕ) (p : ℕ) : Type 0 where
   pub tables : Tables
   pub read : Fields s tables p
   pub disordered : Disordered (tables .queues) (tables .pool) (setTables tables)
@@ -137,20 +137,20 @@ outcome {s} {y} z = byOrder (isOrdered (z .tables)) refl (z .then)
     byOrder false o e = by-nine o (sym e)
 
 module _ (s : List ℕ) (p : ℕ) where
-  misread-ended : (z : Ended s (refused 9 p)) → Outcome z → Misread s p
-  misread-ended z (by-nine o e) =
+  disordered-ended : (z : Ended s (refused 9 p)) → Outcome z → DisorderedAt s p
+  disordered-ended z (by-nine o e) =
       let n : z .place ≡ p = cc in
       record { tables = z .tables; read = subst (Fields s (z .tables)) n (z .read); disordered = fields-disordered (z .read) .0 o }
-  misread-ended z (by-ten o l e) = let n : _≡_ {A = ℕ} 9 10 = cc (e) in absurd (omega arith)
-  misread-ended z (in-full e) = absurd (not-refused e)
+  disordered-ended z (by-ten o l e) = let n : _≡_ {A = ℕ} 9 10 = cc (e) in absurd (omega arith)
+  disordered-ended z (in-full e) = absurd (not-refused e)
 
   -- 9: A WORD ACCEPTED FROM A ROOT OUT OF ORDER
-  pub refused-nine : (readFile s ≡ refused 9 p) ↔ Misread s p
+  pub refused-nine : (readFile s ≡ refused 9 p) ↔ DisorderedAt s p
   refused-nine = (
     λ e.
         let g = fields-refused s 9 p (omega arith) e in
         let z = ended s (g .0) {y = refused 9 p} (omega arith) (g .1) in
-        misread-ended z (outcome z),
+        disordered-ended z (outcome z),
     λ d. to-order (d .read) ∙ ap (λ b. provided b 9 p (atEnd s (d .tables) p)) (fields-disordered (d .read) .1 (d .disordered)),
   )
 

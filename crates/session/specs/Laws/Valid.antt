@@ -4,6 +4,7 @@ use mathlib.Core.Path.{_≡_, subst}
 use mathlib.Core.Logic.{_↔_}
 use mathlib.Core.Bool.{true, false}
 use mathlib.Core.List.{List}
+use lib.ListN.{length}
 use Rattle.numbers.specs.Part.{got}
 use Rattle.numbers.specs.Laws.Parts.{andThen-got, same-value}
 use native.Mathlib.Omega.{arith}
@@ -67,6 +68,14 @@ module _ {s : List ℕ} {T : Tables} {next : ℕ} (r : Fields s T next) where
   fields-disordered =
       let v = fields-valid r in
       disordered-is (T .queues) (T .pool) (T .machines .product) (setTables T) (v .model .queues) (v .pool) (v .sets)
+
+-- A FILE IS READ exactly if its fields are, up to its end, and no word accepted from a root is out of order.
+pub read-exactly : (s : List ℕ) (T : Tables) (next : ℕ)
+    → (readFile s ≡ got T next) ↔ (Fields s T next × (Disordered (T .queues) (T .pool) (setTables T) → ⊥) × (next ≡ length s))
+read-exactly s T next = (
+  λ e. let (f, o, end) = read-is s T next .0 e in (f, fields-ordered f .0 o, end),
+  λ r. read-is s T next .1 (r .0, fields-ordered (r .0) .1 (r .1), r .2),
+)
 
 -- THE TABLES OF A FILE THAT WAS READ
 pub valid : (s : List ℕ) {T : Tables} {next : ℕ} → readFile s ≡ got T next → Valid T
