@@ -224,9 +224,10 @@ fn main() {
 
     bench.time_reading("R", &hex(R));
     for (length, file) in WORD_LENGTHS.into_iter().zip(&maximal) {
-        bench.time_reading(&format!("longest file, words of {length}"), file);
+        bench.time_reading(&format!("long file, words of {length}"), file);
     }
     bench.time_reading("longest test of queue order", &large::longest_test_of_order(&mut random()).bytes());
+    bench.time_reading("longest file, longest test", &large::longest(&mut random()).bytes());
 
     bench.time_checking("R", &hex(R));
     let mut steps = vec![("local".to_string(), None)];

@@ -7,7 +7,7 @@ use std::process::ExitCode;
 use reference_checker::coverage::{membership_coverage, reading_coverage, replay_coverage, verdict_coverage, Coverage};
 use reference_checker::decide::{decide, TooLarge};
 use reference_checker::digest::{reading_line, replay_line};
-use reference_checker::generate::large::maximal_closed;
+use reference_checker::generate::large::longest;
 use reference_checker::generate::membership::questions;
 use reference_checker::generate::reading::reading_cases;
 use reference_checker::generate::replay::replay_cases;
@@ -104,7 +104,7 @@ fn run(arguments: &[String]) -> Result<(), String> {
             println!("{}", line(&check(&file, &mut Scratch::default())));
             Ok(())
         }
-        ["maximal"] => write(&maximal_closed(&mut Random::new(SEED)).bytes()),
+        ["maximal"] => write(&longest(&mut Random::new(SEED)).bytes()),
         ["selftest", seed, count] => {
             let (seed, count) = (number(seed)?, number(count)? as usize);
             let agreement = selftest(seed, count);

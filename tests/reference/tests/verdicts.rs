@@ -247,9 +247,12 @@ fn the_last_items_of_all() {
 
 #[test]
 fn the_longest_file_is_read() {
-    let longest = large::maximal_closed(&mut Random::new(1)).bytes();
-    assert_eq!(longest.len(), 11_661);
+    let longest = large::longest(&mut Random::new(1)).bytes();
+    assert_eq!(longest.len(), 11_664);
     assert!(read(&longest).is_ok());
+    let of_one_queue = large::maximal_closed(&mut Random::new(1)).bytes();
+    assert_eq!(of_one_queue.len(), 11_661);
+    assert!(read(&of_one_queue).is_ok());
     let with_words_of_4 = large::maximal_closed_with_words(&mut Random::new(1), 4).bytes();
     assert_eq!(with_words_of_4.len(), 10_125);
     assert!(read(&with_words_of_4).is_ok());

@@ -6,8 +6,8 @@ use super::plan::{Action, Direction, Plan, PlannedState, PlannedTransition};
 use crate::random::Random;
 use crate::read::{BAD_ENTRIES, CONTROL_STATES, MESSAGES, POOL_STATES, QUEUES, TRANSITIONS, WORD_LENGTH};
 
-/// The longest file that is read. One queue, so that every state can have an arc for every message; control states
-/// of 128 and above in the bad list, since these take two bytes.
+/// The longest file that accepts something from every root. One queue, so that every state can have an arc for every
+/// message; control states of 128 and above in the bad list, since these take two bytes.
 ///
 /// Every step is taken in every control state: the third machine has one state, and all transitions are its own. The
 /// set of every control state is all contents, and the bad diagrams accept nothing, so the file is closed.
@@ -15,7 +15,22 @@ pub fn maximal_closed(random: &mut Random) -> Plan {
     maximal_closed_with_words(random, WORD_LENGTH)
 }
 
-/// The same with shorter words.
+/// The longest file that is read: with four queues it has three bytes more. Every state has an arc for every message and none
+/// is final, so that the test of queue order visits every state in every way, and finds nothing.
+pub fn longest(random: &mut Random) -> Plan {
+    let of_a_queue = MESSAGES / QUEUES;
+    let mut longest = maximal_closed(random);
+    longest.queues = vec![of_a_queue; QUEUES];
+    longest.pool = longest_test_of_order(random).pool;
+    for action in longest.transitions.iter_mut().filter_map(|transition| transition.action.as_mut()) {
+        for message in &mut action.word {
+            *message %= of_a_queue;
+        }
+    }
+    longest
+}
+
+/// The same as `maximal_closed` with shorter words.
 pub fn maximal_closed_with_words(random: &mut Random, length: usize) -> Plan {
     maximal_with_machines(random, vec![16, 16, 1, 1], 2, length)
 }

@@ -7,7 +7,7 @@ use std::collections::BTreeMap;
 
 use super::document;
 use super::draft::{Draft, Role};
-use super::large::maximal_closed;
+use super::large::{longest, maximal_closed};
 use super::long::transition_along_arcs;
 use super::plan::{random_plan, Plan, Shape};
 use crate::random::Random;
@@ -156,6 +156,8 @@ impl Generator {
             let plan = maximal_closed(&mut self.random);
             self.valid("valid maximal", &plan);
         }
+        let plan = longest(&mut Random::new(1));
+        self.valid("valid longest", &plan);
     }
 
     fn valid_words(&mut self) {
