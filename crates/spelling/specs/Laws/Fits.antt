@@ -1,0 +1,190 @@
+-- VALID TABLES SPELL A FILE that is not too long, and all of it is bytes. Two bytes are counted for each number, but one for the message
+-- and for the target of an arc.
+use Prim.Native.Nat.{ℕ, zero, suc, _+_, _-_, _*_, _/_, _%_, _≤_, _<_}
+use mathlib.Core.Path.{_≡_, refl, sym, subst}
+use mathlib.Core.Bool.{Bool, true, false, cond}
+use mathlib.Core.List.{List, [], _∷_, _++_}
+use lib.ListN.{length, getD, length-append}
+use lib.Dec.{ltb, eqb}
+use borrow.Author.Tests.{lt-ltb, ltb-true}
+use native.Mathlib.Nat.{mul-suc}
+use native.Mathlib.Omega.{arith}
+use Rattle.numbers.specs.Limits.{mostBytes}
+use Rattle.tables.specs.Limits.{mostMessages, mostControls}
+use Rattle.tables.specs.Rows.{rowLength, wordEntry, machineAt, fromAt, toAt, kindAt, queueAt, lengthAt}
+use Rattle.tables.specs.Valid.{MachinesValid, QueuesValid, ActionValid, RowValid, TransitionsValid, PoolValid, MapValid, BadValid}
+use Rattle.tables.specs.declared.tables.Machines.{Machines}
+use Rattle.tables.specs.declared.tables.Queues.{Queues}
+use Rattle.tables.specs.declared.tables.Transitions.{Transitions}
+use Rattle.tables.specs.declared.tables.Pool.{Pool}
+use Rattle.tables.specs.declared.tables.Map.{Map}
+use Rattle.tables.specs.declared.tables.BadList.{BadList}
+use Rattle.tables.specs.declared.tables.Tables.{Tables}
+use Rattle.reading_pool.specs.Laws.Arcs.{Ascends}
+use Rattle.session.specs.Valid.{Valid}
+use Rattle.spelling.specs.Spelled.{number, each, entries, machines, queues, action, transition, transitions}
+use Rattle.spelling.specs.Spelled.{arcsOf, arcs, state, pool, map, bad, spelled}
+use Rattle.spelling.specs.Readable.{Bytes}
+use Rattle.spelling.specs.Laws.Arcs.{ascends-few, pool-ascending}
+
+-- at most n, and bytes
+pub record Fits (n : ℕ) (l : List ℕ) : Type 0 where
+  pub short : length l ≤ n
+  pub bytes : Bytes l
+
+bytes-more : (x : ℕ) (l : List ℕ) → x < 256 → Bytes l → Bytes (x ∷ l)
+bytes-more x l h b = record { small = go }
+  where
+    go : (k : ℕ) → getD (x ∷ l) k 0 < 256
+    go zero = h
+    go (suc k) = b .small k
+
+bytes-then : (w u : List ℕ) → Bytes w → Bytes u → Bytes (w ++ u)
+bytes-then [] u a b = b
+bytes-then (x ∷ w) u a b = bytes-more x (w ++ u) (a .small 0) (bytes-then w u (record { small = λ k. a .small (suc k) }) b)
+
+pub fits-none : (n : ℕ) → Fits n []
+fits-none n = record { short = omega arith; bytes = record { small = λ k. omega arith } }
+
+fits-more : {n x : ℕ} {l : List ℕ} → x < 256 → Fits n l → Fits (suc n) (x ∷ l)
+fits-more {n} {x} {l} h f = record { short = omega (arith, f .short); bytes = bytes-more x l h (f .bytes) }
+
+-- one after another, in room that is wide enough
+pub fits-then : {m n room : ℕ} {w u : List ℕ} → m + n ≤ room → Fits m w → Fits n u → Fits room (w ++ u)
+fits-then {w = w} {u = u} h f g =
+    record { short = omega (arith, length-append w u, f .short, g .short); bytes = bytes-then w u (f .bytes) (g .bytes) }
+
+pub fits-wider : {n room : ℕ} {w : List ℕ} → n ≤ room → Fits n w → Fits room w
+fits-wider h f = record { short = omega (arith, f .short); bytes = f .bytes }
+
+-- a number
+pub fits-one : (v : ℕ) → v < 128 → Fits 1 (number v)
+unfolding number
+fits-one v h =
+    subst (λ b. Fits 1 (cond b (v ∷ []) ((128 + v % 128) ∷ (v / 128) ∷ []))) (sym (lt-ltb v 128 h))
+    (fits-more (omega arith) (fits-none 0))
+
+pub fits-two : (v : ℕ) → v < 16384 → Fits 2 (number v)
+unfolding number
+fits-two v h = go (ltb v 128) refl
+  where
+    go : (b : Bool) → ltb v 128 ≡ b → Fits 2 (cond b (v ∷ []) ((128 + v % 128) ∷ (v / 128) ∷ []))
+    go true e = let l = ltb-true v 128 e in fits-more (omega arith) (fits-none 1)
+    go false e = fits-more (omega arith) (fits-more (omega arith) (fits-none 0))
+
+-- so many parts
+pub fits-each : (part : ℕ → List ℕ) (c left i : ℕ) → ((k : ℕ) → i ≤ k → k < i + left → Fits c (part k))
+    → Fits (c * left) (each part left i)
+unfolding each
+fits-each part c zero i f = fits-none (c * 0)
+fits-each part c (suc left) i f =
+    fits-then (omega (arith, mul-suc c left)) (f i (omega arith) (omega arith))
+    (fits-each part c left (i + 1) (λ k h g. f k (omega arith) (omega arith)))
+
+pub fits-entries : (table : List ℕ) (left i : ℕ) → ((k : ℕ) → i ≤ k → k < i + left → getD table k 0 < 16384)
+    → Fits (2 * left) (entries table left i)
+fits-entries table left i f = fits-each (λ k. number (getD table k 0)) 2 left i (λ k h g. fits-two (getD table k 0) (f k h g))
+
+-- THE FIELDS
+fits-machines : {m : Machines} → MachinesValid m → Fits 18 (machines m)
+unfolding machines
+fits-machines {m} z =
+    fits-then (omega (arith, z .most)) (fits-two (m .count) (omega (arith, z .most)))
+    (fits-then {room = 16} (omega (arith, z .most))
+    (fits-entries (m .states) (m .count) 0 (λ k h g. omega (arith, z .states k (omega arith) .1)))
+    (fits-entries (m .starts) (m .count) 0
+    (λ k h g. omega (arith, z .states k (omega arith) .1, z .starts k (omega arith)))))
+
+fits-queues : {q : Queues} → QueuesValid q → Fits 10 (queues q)
+unfolding queues
+fits-queues {q} z =
+    fits-then (omega (arith, z .most)) (fits-two (q .count) (omega (arith, z .most)))
+    (fits-entries (q .messages) (q .count) 0 (λ k h g. omega (arith, z .messages k (omega arith) .1)))
+
+module _ {m : Machines} {q : Queues} (vm : MachinesValid m) (vq : QueuesValid q) (rows : List ℕ) where
+  fits-action : (row : ℕ) → ActionValid q (queueAt rows row) (lengthAt rows row) (wordEntry row) rows → Fits 36 (action rows row)
+  unfolding action
+  fits-action row z =
+      fits-then {n = 34} (omega arith) (fits-two (queueAt rows row) (omega (arith, z .queue, vq .most)))
+      (fits-then (omega (arith, z .most)) (fits-two (lengthAt rows row) (omega (arith, z .most)))
+      (fits-entries rows (lengthAt rows row) (wordEntry row) word))
+    where
+      word : (k : ℕ) → wordEntry row ≤ k → k < wordEntry row + lengthAt rows row → getD rows k 0 < 16384
+      word k h g =
+          let e : wordEntry row + (k - wordEntry row) ≡ k = omega arith in
+          let l : getD rows (wordEntry row + (k - wordEntry row)) 0 < 16384 =
+          omega (arith, z .below (k - wordEntry row) (omega arith), vq .sumMost)
+          in
+          subst (λ i. getD rows i 0 < 16384) e l
+
+  fits-transition : (row : ℕ) → RowValid m q rows row → Fits 44 (transition rows row)
+  unfolding transition
+  fits-transition row z =
+      let states = vm .states (machineAt rows row) (z .move .machine) .1 in
+      fits-then {n = 42} (omega arith) (fits-two (machineAt rows row) (omega (arith, z .move .machine, vm .most)))
+      (fits-then {n = 40} (omega arith) (fits-two (fromAt rows row) (omega (arith, z .move .from)))
+      (fits-then {n = 38} (omega arith) (fits-two (toAt rows row) (omega (arith, z .move .to)))
+      (fits-then {n = 36} (omega arith) (fits-two (kindAt rows row) (omega (arith, z .move .kind)))
+      (go (eqb (kindAt rows row) 0)))))
+    where
+      go : (b : Bool) → Fits 36 (cond b [] (action rows row))
+      go true = fits-none 36
+      go false = fits-action row (z .action)
+
+fits-transitions : {m : Machines} {q : Queues} {τ : Transitions} → MachinesValid m → QueuesValid q → TransitionsValid m q τ
+    → Fits 5634 (transitions τ)
+unfolding transitions
+fits-transitions {τ = τ} vm vq z =
+    fits-then (omega (arith, z .most)) (fits-two (τ .count) (omega (arith, z .most)))
+    (fits-each (λ t. transition (τ .rows) (t * rowLength)) 44 (τ .count) 0
+    (λ t h g. fits-transition vm vq (τ .rows) (t * rowLength) (z .row t (omega arith))))
+
+-- messages and targets of arcs are below 128
+fits-arcs : (n sum least : ℕ) (l : List (ℕ × ℕ)) → n ≤ 128 → sum ≤ 128 → Ascends n sum least l → Fits (2 * length l) (arcs l)
+unfolding arcs Ascends
+fits-arcs n sum least [] h g z = fits-none (2 * 0)
+fits-arcs n sum least (arc ∷ rest) h g z =
+    fits-then {n = 1 + 2 * length rest} (omega arith) (fits-one (arc .0) (omega (arith, z .1)))
+    (fits-then (omega arith) (fits-one (arc .1) (omega (arith, z .2))) (fits-arcs n sum (arc .0 + 1) rest h g (z .3)))
+
+module _ {sum : ℕ} {P : Pool} (few : sum ≤ mostMessages) (z : PoolValid sum P) where
+  fits-state : (i : ℕ) → i < P .count → Fits 68 (state (P .finals) (P .arcs) i)
+  unfolding state
+  fits-state i h =
+      let l = arcsOf (P .arcs) i mostMessages 0 in
+      let up = pool-ascending i z in
+      let short = ascends-few (P .count) sum 0 l (omega arith) up in
+      fits-then {n = 66} (omega arith) (fits-two (getD (P .finals) i 0) (omega (arith, z .finals i h)))
+      (fits-then (omega arith) (fits-two (length l) (omega arith))
+      (fits-arcs (P .count) sum 0 l (omega (arith, z .most)) (omega arith) up))
+
+  fits-pool : Fits 8638 (pool P)
+  unfolding pool
+  fits-pool =
+      fits-then (omega (arith, z .most)) (fits-two (P .count) (omega (arith, z .most)))
+      (fits-each (state (P .finals) (P .arcs)) 68 (P .count) 0 (λ i h g. fits-state i (omega arith)))
+
+fits-map : {product n : ℕ} {R : Map} → product ≤ mostControls → n < 16384 → MapValid product n R → Fits 512 (map product R)
+unfolding map
+fits-map {product} {R = R} h g z =
+    fits-wider (omega arith) (fits-entries (R .roots) product 0 (λ k _ _. omega (arith, z .roots k)))
+
+fits-bad : {product n : ℕ} {B : BadList} → product ≤ mostControls → n < 16384 → BadValid product n B → Fits 258 (bad B)
+unfolding bad
+fits-bad {B = B} h g z =
+    fits-then (omega (arith, z .most)) (fits-two (B .count) (omega (arith, z .most)))
+    (fits-each (λ b. number (getD (B .rows) (b * 2) 0) ++ number (getD (B .rows) (b * 2 + 1) 0)) 4 (B .count) 0
+    (λ b _ l.
+    fits-then (omega arith) (fits-two (getD (B .rows) (b * 2) 0) (omega (arith, z .control b (omega arith))))
+    (fits-two (getD (B .rows) (b * 2 + 1) 0) (omega (arith, z .root b (omega arith))))))
+
+-- THE FILE
+pub fits-spelled : (T : Tables) → Valid T → Fits mostBytes (spelled T)
+unfolding spelled
+fits-spelled T z =
+    fits-then {n = 15052} (omega arith) (fits-machines (z .machines))
+    (fits-then {n = 15042} (omega arith) (fits-queues (z .queues))
+    (fits-then {n = 9408} (omega arith) (fits-transitions (z .machines) (z .queues) (z .transitions))
+    (fits-then {n = 770} (omega arith) (fits-pool (z .queues .sumMost) (z .pool))
+    (fits-then (omega arith) (fits-map (z .machines .productMost) (omega (arith, z .pool .most)) (z .map))
+    (fits-bad (z .machines .productMost) (omega (arith, z .pool .most)) (z .bad))))))
