@@ -1,0 +1,6 @@
+-- The laws of putting fields into a buffer, each proved once.
+pub mod Texts
+pub mod Numbers
+pub mod Loops
+pub mod Kinds
+pub mod Arcs

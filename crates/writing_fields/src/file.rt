@@ -1,0 +1,51 @@
+// All fields of a session file, put into a buffer one after the other.
+use crate::moves::put_machines;
+use crate::moves::put_queues;
+use crate::moves::put_transitions;
+use crate::parts::Head;
+use crate::pool::put_pool;
+use crate::sets::put_bad;
+use crate::sets::put_map;
+ghost use Prim.Native.Nat.{_+_, _≤_};
+ghost use Rattle.tables.specs.Limits.{mostControls};
+ghost use Rattle.numbers.specs.Put.{Put};
+ghost use Rattle.spelling.specs.Spelled.{spelled};
+ghost use Rattle.writing_fields.specs.Parts.{joined, diagrams};
+
+// Fields 4 to 6.
+fn put_diagrams(
+    s: &mut [u8],
+    at: usize,
+    h: Head,
+    finals: &[u8],
+    arcs: &[u8],
+    roots: &[u8],
+    entries: &[u8],
+) -> usize
+    requires { ⌜ at + 35196 ≤ 1000000 ⌝ }
+    requires { ⌜ h .machines .product ≤ mostControls ⌝ }
+    ensures { λ r. ⌜ Put (now (s .entry)) at 35196 (diagrams h (now (finals .entry)) (now (arcs .entry)) (now (roots .entry)) (now (entries .entry))) (now (s .exit)) r ⌝ }
+{
+    let map = put_pool(s, at, h.states, finals, arcs);
+    let bad = put_map(s, map, h.machines.product, roots);
+    put_bad(s, bad, h.bad, entries)
+}
+
+// Answers the file's length, whether the buffer has room for it or not.
+pub fn put_tables(
+    s: &mut [u8],
+    h: Head,
+    rows: &[u8],
+    finals: &[u8],
+    arcs: &[u8],
+    roots: &[u8],
+    entries: &[u8],
+) -> usize
+    requires { ⌜ h .machines .product ≤ mostControls ⌝ }
+    ensures { λ r. ⌜ Put (now (s .entry)) 0 1000000 (spelled (joined h (now (rows .entry)) (now (finals .entry)) (now (arcs .entry)) (now (roots .entry)) (now (entries .entry)))) (now (s .exit)) r ⌝ }
+{
+    let queues = put_machines(s, 0, h.machines);
+    let transitions = put_queues(s, queues, h.queues);
+    let pool = put_transitions(s, transitions, h.transitions, rows);
+    put_diagrams(s, pool, h, finals, arcs, roots, entries)
+}

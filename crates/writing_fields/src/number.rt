@@ -1,0 +1,52 @@
+// Bytes, numbers and entries of tables, each put into a buffer from a place on. Each function answers the place after what it put.
+use numbers::number::entry;
+ghost use Prim.Native.Nat.{_+_, _*_, _≤_};
+ghost use mathlib.Core.List.{_∷_, []};
+ghost use Rattle.numbers.specs.Put.{Put};
+ghost use Rattle.spelling.specs.Spelled.{number, entries};
+
+// Past the end of the buffer there is nothing to change, and the place goes on all the same.
+pub(crate) fn put_byte(s: &mut [u8], at: usize, b: u8) -> usize
+    requires { ⌜ at + 1 ≤ 1000000 ⌝ }
+    ensures { λ r. ⌜ Put (now (s .entry)) at 1 (b ∷ []) (now (s .exit)) r ⌝ }
+{
+    if s.len() <= at {
+        return at + 1;
+    }
+    s[at] = b;
+    at + 1
+}
+
+// A byte from 128 on is its own low group with the top bit set, and its high group is 1.
+pub(crate) fn put_number(s: &mut [u8], at: usize, v: u8) -> usize
+    requires { ⌜ at + 2 ≤ 1000000 ⌝ }
+    ensures { λ r. ⌜ Put (now (s .entry)) at 2 (number v) (now (s .exit)) r ⌝ }
+{
+    if v < 128 {
+        return put_byte(s, at, v);
+    }
+    let high = put_byte(s, at, v);
+    put_byte(s, high, 1)
+}
+
+// So many entries of a table, from entry first on.
+pub(crate) fn put_entries(
+    s: &mut [u8],
+    at: usize,
+    table: &[u8],
+    first: usize,
+    count: usize,
+) -> usize
+    requires { ⌜ at + 2 * count ≤ 1000000 ⌝ }
+    requires { ⌜ first + count ≤ 1000000 ⌝ }
+    ensures { λ r. ⌜ Put (now (s .entry)) at (2 * count) (entries (now (table .entry)) count first) (now (s .exit)) r ⌝ }
+{
+    let end = first + count;
+    let mut next = at;
+    let mut i = first;
+    while i < end {
+        next = put_number(s, next, entry(table, i));
+        i += 1;
+    }
+    next
+}

@@ -1,0 +1,74 @@
+// Field 4, put into a buffer from a place on.
+use crate::number::put_number;
+use numbers::number::entry;
+use tables::tables::ARCS;
+ghost use Prim.Native.Nat.{ℕ, _+_, _≤_, _<_};
+ghost use mathlib.Core.Path.{_≡_};
+ghost use lib.ListN.{length};
+ghost use Rattle.tables.specs.Limits.{mostMessages};
+ghost use Rattle.numbers.specs.Put.{Put};
+ghost use Rattle.spelling.specs.Spelled.{arcsOf, arcs, state, pool};
+
+// How many arcs a state has.
+fn count_arcs(table: &[u8], i: usize) -> u8
+    requires { ⌜ i < 256 ⌝ }
+    ensures { λ r. ⌜ r ≡ length {A = ℕ × ℕ} (arcsOf (now (table .entry)) i mostMessages 0) ⌝ }
+{
+    let row = i * ARCS;
+    let mut count: u8 = 0;
+    let mut m: usize = 0;
+    while m < ARCS {
+        if entry(table, row + m) == 0 {
+            m += 1;
+            continue;
+        }
+        count += 1;
+        m += 1;
+    }
+    count
+}
+
+// The arcs of a state, each with its message and its target.
+fn put_arcs(s: &mut [u8], at: usize, table: &[u8], i: usize) -> usize
+    requires { ⌜ at + 128 ≤ 1000000 ⌝ }
+    requires { ⌜ i < 256 ⌝ }
+    ensures { λ r. ⌜ Put (now (s .entry)) at 128 (arcs (arcsOf (now (table .entry)) i mostMessages 0)) (now (s .exit)) r ⌝ }
+{
+    let row = i * ARCS;
+    let mut next = at;
+    let mut m: usize = 0;
+    while m < ARCS {
+        let arc = entry(table, row + m);
+        if arc == 0 {
+            m += 1;
+            continue;
+        }
+        next = put_number(s, next, m as u8);
+        next = put_number(s, next, arc - 1);
+        m += 1;
+    }
+    next
+}
+
+fn put_state(s: &mut [u8], at: usize, finals: &[u8], arcs: &[u8], i: usize) -> usize
+    requires { ⌜ at + 132 ≤ 1000000 ⌝ }
+    requires { ⌜ i < 256 ⌝ }
+    ensures { λ r. ⌜ Put (now (s .entry)) at 132 (state (now (finals .entry)) (now (arcs .entry)) i) (now (s .exit)) r ⌝ }
+{
+    let second = put_number(s, at, entry(finals, i));
+    let third = put_number(s, second, count_arcs(arcs, i));
+    put_arcs(s, third, arcs, i)
+}
+
+pub(crate) fn put_pool(s: &mut [u8], at: usize, count: u8, finals: &[u8], arcs: &[u8]) -> usize
+    requires { ⌜ at + 33662 ≤ 1000000 ⌝ }
+    ensures { λ r. ⌜ Put (now (s .entry)) at 33662 (pool (record { count = count; finals = now (finals .entry); arcs = now (arcs .entry) })) (now (s .exit)) r ⌝ }
+{
+    let mut next = put_number(s, at, count);
+    let mut i: usize = 0;
+    while i < (count as usize) {
+        next = put_state(s, next, finals, arcs, i);
+        i += 1;
+    }
+    next
+}
