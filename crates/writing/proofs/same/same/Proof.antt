@@ -1,0 +1,74 @@
+use Rattle.writing.proofs.same.same.Statement.{statement}
+use Rattle.writing.proofs.same.same.Tie as tie
+use Rattle.writing.proofs.same.same.Reads as reads
+use Rattle.writing.proofs.same.same.Lts as lts
+use Rattle.writing.proofs.same.apart.Reads as apart-reads
+use borrow.Author.Needs.{needs}
+use native.Mathlib.Omega.{arith}
+use mathlib.Core.Path.{sym, ap}
+use lib.ListN.{length}
+use Prim.Native.Nat.{_-_, _≤_}
+use Rattle.writing.specs.Laws.Same.{Comparing, comparing-none, comparing-more, comparing-done, same-not}
+
+abbrev Inv-loop : tie.InvT-loop
+Inv-loop a b differ₀ i₀ differ i = Comparing a b i differ × (i ≤ length a)
+
+abbrev μ-loop : tie.MeasureT-loop
+μ-loop a b differ₀ i₀ differ i = length a - i
+
+-- src/same.rt:30:9
+returns : tie.Need-returns Inv-loop μ-loop
+returns c = sym (same-not _ _ (λ e. c .if1 .taken (ap length e)))
+
+-- src/same.rt:34:5
+loop-holds : tie.Need-loop-holds Inv-loop μ-loop
+loop-holds c = (comparing-none _ _ (c .if1 .left), omega arith)
+
+-- src/same.rt:35:25
+shared-slice-read-apart : tie.Need-shared-slice-read-apart Inv-loop μ-loop
+shared-slice-read-apart c = search needs
+
+-- src/same.rt:35:31
+shared-slice-read-apart-2 : tie.Need-shared-slice-read-apart-2 Inv-loop μ-loop
+shared-slice-read-apart-2 c = omega (arith, c .before .before .before .loop .inv .0 .long, c .before .before .loop-test .taken)
+
+-- src/same.rt:35:19
+apart-requires : tie.Need-apart-requires Inv-loop μ-loop
+apart-requires c κs = search needs
+
+-- src/same.rt:35:9
+add-differ : tie.Need-add-differ Inv-loop μ-loop
+add-differ c = omega (arith, c .before .before .before .before .loop .inv .0 .few, c .apart .ensures .most)
+
+-- src/same.rt:36:9
+add-i : tie.Need-add-i Inv-loop μ-loop
+add-i c = omega arith
+
+-- src/same.rt:34:5
+loop-less : tie.Need-loop-less Inv-loop μ-loop
+loop-less c = omega arith
+
+-- src/same.rt:34:5
+loop-again : tie.Need-loop-again Inv-loop μ-loop
+loop-again c = (comparing-more (c .before .before .before .before .loop .inv .0) (c .apart .ensures), omega (arith, c .before .before .before .loop-test .taken))
+
+-- src/same.rt:26:1
+returns-2 : tie.Need-returns-2 Inv-loop μ-loop
+returns-2 c = comparing-done (c .before .loop .inv .0) (c .loop-test .left)
+
+pub same-spec : {M : Type 1} → statement M
+same-spec =
+    tie.close
+    (tie.spec
+    Inv-loop
+    μ-loop
+    returns
+    loop-holds
+    shared-slice-read-apart
+    shared-slice-read-apart-2
+    apart-requires
+    add-differ
+    add-i
+    loop-less
+    loop-again
+    returns-2)

@@ -1,0 +1,27 @@
+-- WHAT `restored` MEANS: some byte string is read into these tables. There is no search in it.
+use mathlib.Core.Path.{_≡_, refl, sym, ap, _∙_}
+use mathlib.Core.Logic.{_↔_}
+use mathlib.Core.Bool.{Bool, true, false}
+use Rattle.tables.specs.declared.tables.Tables.{Tables}
+use Rattle.session.specs.Laws.Valid.{valid}
+use Rattle.spelling.specs.Spelled.{spelled}
+use Rattle.spelling.specs.Readable.{Readable}
+use Rattle.spelling.specs.Laws.Whole.{readable-exactly, written-then-read}
+use Rattle.writing.specs.Write.{gives, restored}
+use Rattle.writing.specs.Laws.Same.{not-both, tables-same}
+use Rattle.writing.specs.Laws.Writing.{restored-read}
+
+readable-restored : (T : Tables) → Readable T → restored T ≡ true
+unfolding restored
+readable-restored T r = ap (λ x. gives x T) (written-then-read T (readable-exactly T .0 r)) ∙ tables-same T
+
+pub restored-exactly : (T : Tables) → (restored T ≡ true) ↔ Readable T
+restored-exactly T = (λ e. readable-exactly T .1 (valid (spelled T) (restored-read T e .1)), readable-restored T)
+
+-- and where they are not, none is
+pub unrestored-exactly : (T : Tables) → (restored T ≡ false) ↔ (Readable T → ⊥)
+unrestored-exactly T = (λ e r. not-both (restored-exactly T .1 r) e, λ h. go (restored T) refl h)
+  where
+    go : (b : Bool) → restored T ≡ b → (Readable T → ⊥) → b ≡ false
+    go true e h = absurd (h (restored-exactly T .0 e))
+    go false e h = refl

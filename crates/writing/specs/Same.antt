@@ -1,0 +1,45 @@
+-- Are two tables the same, entry by entry? `Laws.Same.same-tables` says that this is equality.
+use Prim.Native.Nat.{ℕ, _≤_}
+use mathlib.Core.Path.{_≡_}
+use mathlib.Core.Bool.{Bool, true, false, _&&_, cond}
+use mathlib.Core.List.{List, [], _∷_}
+use lib.Dec.{eqb}
+use Rattle.tables.specs.declared.tables.Machines.{Machines}
+use Rattle.tables.specs.declared.tables.Queues.{Queues}
+use Rattle.tables.specs.declared.tables.Tables.{Tables}
+
+-- 0 for two entries that are the same, else 1
+pub record Apart (x y r : ℕ) : Type 0 where
+  pub is : r ≡ cond (eqb x y) 0 1
+  pub most : r ≤ 1
+
+unfoldable pub same : List ℕ → List ℕ → Bool
+same [] [] = true
+same [] (b ∷ m) = false
+same (a ∷ l) [] = false
+same (a ∷ l) (b ∷ m) = eqb a b && same l m
+
+abbrev pub sameMachines : Machines → Machines → Bool
+sameMachines m n =
+    eqb (m .count) (n .count) && (eqb (m .product) (n .product) && (same (m .states) (n .states) && same (m .starts) (n .starts)))
+
+abbrev pub sameQueues : Queues → Queues → Bool
+sameQueues q p = eqb (q .count) (p .count) && (eqb (q .sum) (p .sum) && same (q .messages) (p .messages))
+
+-- all but the large tables: machines, queues, and how many transitions, pool states and bad entries
+abbrev pub sameHeads : Machines → Queues → ℕ → ℕ → ℕ → Machines → Queues → ℕ → ℕ → ℕ → Bool
+sameHeads m q transitions states bad n p transitions′ states′ bad′ =
+    sameMachines m n && (sameQueues q p && (eqb transitions transitions′ && (eqb states states′ && eqb bad bad′)))
+
+-- the large tables
+abbrev pub sameLarge : Tables → Tables → Bool
+sameLarge T U =
+    same (T .transitions .rows) (U .transitions .rows)
+    && (same (T .pool .finals) (U .pool .finals)
+    && (same (T .pool .arcs) (U .pool .arcs) && (same (T .map .roots) (U .map .roots) && same (T .bad .rows) (U .bad .rows))))
+
+abbrev pub sameTables : Tables → Tables → Bool
+sameTables T U =
+    sameHeads (T .machines) (T .queues) (T .transitions .count) (T .pool .count) (T .bad .count) (U .machines) (U .queues)
+    (U .transitions .count) (U .pool .count) (U .bad .count)
+    && sameLarge T U

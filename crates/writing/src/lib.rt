@@ -1,0 +1,3 @@
+// Writing: from tables to the bytes of a session file, or to a refusal.
+mod same;
+pub mod write;
