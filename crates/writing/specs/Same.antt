@@ -1,17 +1,11 @@
 -- Are two tables the same, entry by entry? `Laws.Same.same-tables` says that this is equality.
-use Prim.Native.Nat.{ℕ, _≤_}
-use mathlib.Core.Path.{_≡_}
-use mathlib.Core.Bool.{Bool, true, false, _&&_, cond}
+use Prim.Native.Nat.{ℕ}
+use mathlib.Core.Bool.{Bool, true, false, _&&_}
 use mathlib.Core.List.{List, [], _∷_}
 use lib.Dec.{eqb}
 use Rattle.tables.specs.declared.tables.Machines.{Machines}
 use Rattle.tables.specs.declared.tables.Queues.{Queues}
 use Rattle.tables.specs.declared.tables.Tables.{Tables}
-
--- 0 for two entries that are the same, else 1
-pub record Apart (x y r : ℕ) : Type 0 where
-  pub is : r ≡ cond (eqb x y) 0 1
-  pub most : r ≤ 1
 
 unfoldable pub same : List ℕ → List ℕ → Bool
 same [] [] = true

@@ -5,32 +5,34 @@ use tables::tables::Machines;
 use tables::tables::Map;
 use tables::tables::Queues;
 use writing_fields::parts::Head;
+ghost use mathlib.Core.Bool.{cond};
 ghost use mathlib.Core.Path.{_≡_};
+ghost use lib.Dec.{eqb};
 ghost use Rattle.session.specs.Lent.{lentReading};
 ghost use Rattle.writing_fields.specs.Parts.{joined};
-ghost use Rattle.writing.specs.Same.{Apart, same, sameMachines, sameQueues, sameHeads, sameTables};
+ghost use Rattle.writing.specs.Same.{same, sameMachines, sameQueues, sameHeads, sameTables};
 
-// 0 where two entries are the same.
-fn apart(x: u8, y: u8) -> usize
-    ensures { λ r. ⌜ Apart x y r ⌝ }
+// Whether a difference was found, one more entry of each looked at.
+fn differs(x: u8, y: u8, before: u8) -> u8
+    ensures { λ r. ⌜ r ≡ cond (eqb x y) before 1 ⌝ }
 {
     if x == y {
-        return 0;
+        return before;
     }
     1
 }
 
-// Looks at all entries: a loop that stops at the first difference is not widened, and mostly there is none.
+// Looks at all entries, with a byte for what was found: such a loop is widened, and one that stops at a difference is not. Mostly there is none.
 fn same(a: &[u8], b: &[u8]) -> bool
     ensures { λ r. ⌜ r ≡ same (now (a .entry)) (now (b .entry)) ⌝ }
 {
     if a.len() != b.len() {
         return false;
     }
-    let mut differ: usize = 0;
+    let mut differ: u8 = 0;
     let mut i = 0;
     while i < a.len() {
-        differ += apart(a[i], b[i]);
+        differ = differs(a[i], b[i], differ);
         i += 1;
     }
     differ == 0

@@ -13,7 +13,7 @@ use Rattle.numbers.specs.Laws.Written.{at-or-other}
 use Rattle.tables.specs.declared.tables.Machines.{Machines}
 use Rattle.tables.specs.declared.tables.Queues.{Queues}
 use Rattle.tables.specs.declared.tables.Tables.{Tables}
-use Rattle.writing.specs.Same.{Apart, same, sameMachines, sameQueues, sameHeads, sameLarge, sameTables}
+use Rattle.writing.specs.Same.{same, sameMachines, sameQueues, sameHeads, sameLarge, sameTables}
 
 -- true is not false
 pub not-both : {b : Bool} → b ≡ true → b ≡ false → ⊥
@@ -47,36 +47,33 @@ same-not l m h = go (same l m) refl
     go true e = absurd (h (same-is l m e))
     go false e = refl
 
--- THE LOOP: so many of the first i entries differ
+-- THE LOOP: whether the first i entries differ
 pub record Comparing (a b : List ℕ) (i differ : ℕ) : Type 0 where
   pub long : length a ≡ length b
-  pub few : differ ≤ i
   pub none : (differ ≡ 0) ↔ ((k : ℕ) → k < i → getD a k 0 ≡ getD b k 0)
 
 pub comparing-none : (a b : List ℕ) → length a ≡ length b → Comparing a b 0 0
-comparing-none a b e = record { long = e; few = omega arith; none = (λ _ k h. absurd (omega arith), λ _. refl) }
+comparing-none a b e = record { long = e; none = (λ _ k h. absurd (omega arith), λ _. refl) }
 
-pub comparing-more : {a b : List ℕ} {i differ d : ℕ} → Comparing a b i differ → Apart (getD a i 0) (getD b i 0) d
-    → Comparing a b (i + 1) (differ + d)
+pub comparing-more : {a b : List ℕ} {i differ d : ℕ} → Comparing a b i differ → d ≡ cond (eqb (getD a i 0) (getD b i 0)) differ 1
+    → Comparing a b (i + 1) d
 comparing-more {a} {b} {i} {differ} {d} c e = go (eqb (getD a i 0) (getD b i 0)) refl
   where
-    go : (t : Bool) → eqb (getD a i 0) (getD b i 0) ≡ t → Comparing a b (i + 1) (differ + d)
+    go : (t : Bool) → eqb (getD a i 0) (getD b i 0) ≡ t → Comparing a b (i + 1) d
     go true f =
-        let z : d ≡ 0 = e .is ∙ ap (λ t. cond t 0 1) f in
+        let z : d ≡ differ = e ∙ ap (λ t. cond t differ 1) f in
         let here = eqb-true (getD a i 0) (getD b i 0) f in
         record {
           long = c .long;
-          few = omega (arith, c .few);
           none = (
             λ n k h. at-or-other (λ j. j < i + 1 → getD a j 0 ≡ getD b j 0) i k (λ _. here) (λ o g. c .none .0 (omega arith) k (omega arith)) h,
             λ g. let n : differ ≡ 0 = c .none .1 (λ k h. g k (omega arith)) in omega arith,
           );
         }
     go false f =
-        let z : d ≡ 1 = e .is ∙ ap (λ t. cond t 0 1) f in
+        let z : d ≡ 1 = e ∙ ap (λ t. cond t differ 1) f in
         record {
           long = c .long;
-          few = omega (arith, c .few);
           none = (λ n. absurd (omega arith), λ g. absurd (eqb-false (getD a i 0) (getD b i 0) f (g i (omega arith))));
         }
 

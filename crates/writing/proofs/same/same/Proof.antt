@@ -2,13 +2,13 @@ use Rattle.writing.proofs.same.same.Statement.{statement}
 use Rattle.writing.proofs.same.same.Tie as tie
 use Rattle.writing.proofs.same.same.Reads as reads
 use Rattle.writing.proofs.same.same.Lts as lts
-use Rattle.writing.proofs.same.apart.Reads as apart-reads
 use borrow.Author.Needs.{needs}
 use native.Mathlib.Omega.{arith}
+use Prim.Native.Nat.{_-_, _≤_}
 use mathlib.Core.Path.{sym, ap}
 use lib.ListN.{length}
-use Prim.Native.Nat.{_-_, _≤_}
 use Rattle.writing.specs.Laws.Same.{Comparing, comparing-none, comparing-more, comparing-done, same-not}
+use Rattle.writing.proofs.same.differs.Reads as differs-reads
 
 abbrev Inv-loop : tie.InvT-loop
 Inv-loop a b differ₀ i₀ differ i = Comparing a b i differ × (i ≤ length a)
@@ -24,21 +24,17 @@ returns c = sym (same-not _ _ (λ e. c .if1 .taken (ap length e)))
 loop-holds : tie.Need-loop-holds Inv-loop μ-loop
 loop-holds c = (comparing-none _ _ (c .if1 .left), omega arith)
 
--- src/same.rt:35:25
-shared-slice-read-apart : tie.Need-shared-slice-read-apart Inv-loop μ-loop
-shared-slice-read-apart c = search needs
+-- src/same.rt:35:26
+shared-slice-read-differs : tie.Need-shared-slice-read-differs Inv-loop μ-loop
+shared-slice-read-differs c = search needs
 
--- src/same.rt:35:31
-shared-slice-read-apart-2 : tie.Need-shared-slice-read-apart-2 Inv-loop μ-loop
-shared-slice-read-apart-2 c = omega (arith, c .before .before .before .loop .inv .0 .long, c .before .before .loop-test .taken)
-
--- src/same.rt:35:19
-apart-requires : tie.Need-apart-requires Inv-loop μ-loop
-apart-requires c κs = search needs
+-- src/same.rt:35:32
+shared-slice-read-differs-2 : tie.Need-shared-slice-read-differs-2 Inv-loop μ-loop
+shared-slice-read-differs-2 c = omega (arith, c .before .before .before .loop .inv .0 .long, c .before .before .loop-test .taken)
 
 -- src/same.rt:35:9
-add-differ : tie.Need-add-differ Inv-loop μ-loop
-add-differ c = omega (arith, c .before .before .before .before .loop .inv .0 .few, c .apart .ensures .most)
+differs-requires : tie.Need-differs-requires Inv-loop μ-loop
+differs-requires c κs = search needs
 
 -- src/same.rt:36:9
 add-i : tie.Need-add-i Inv-loop μ-loop
@@ -50,7 +46,7 @@ loop-less c = omega arith
 
 -- src/same.rt:34:5
 loop-again : tie.Need-loop-again Inv-loop μ-loop
-loop-again c = (comparing-more (c .before .before .before .before .loop .inv .0) (c .apart .ensures), omega (arith, c .before .before .before .loop-test .taken))
+loop-again c = (comparing-more (c .before .before .before .before .loop .inv .0) (c .differs .ensures), omega (arith, c .before .before .before .loop-test .taken))
 
 -- src/same.rt:26:1
 returns-2 : tie.Need-returns-2 Inv-loop μ-loop
@@ -64,10 +60,9 @@ same-spec =
     μ-loop
     returns
     loop-holds
-    shared-slice-read-apart
-    shared-slice-read-apart-2
-    apart-requires
-    add-differ
+    shared-slice-read-differs
+    shared-slice-read-differs-2
+    differs-requires
     add-i
     loop-less
     loop-again
