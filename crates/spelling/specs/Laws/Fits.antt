@@ -1,5 +1,5 @@
--- VALID TABLES SPELL A FILE that is not too long, and all of it is bytes. Two bytes are counted for each number, but one for the message
--- and for the target of an arc.
+-- VALID TABLES SPELL A FILE of at most 11,664 bytes. One byte is counted for each number, but two for the number of transitions and for the
+-- control state of a bad entry: no others pass 127.
 use Prim.Native.Nat.{ℕ, zero, suc, _+_, _-_, _*_, _/_, _%_, _≤_, _<_}
 use mathlib.Core.Path.{_≡_, refl, sym, subst}
 use mathlib.Core.Bool.{Bool, true, false, cond}
@@ -9,7 +9,6 @@ use lib.Dec.{ltb, eqb}
 use borrow.Author.Tests.{lt-ltb, ltb-true}
 use native.Mathlib.Nat.{mul-suc}
 use native.Mathlib.Omega.{arith}
-use Rattle.numbers.specs.Limits.{mostBytes}
 use Rattle.tables.specs.Limits.{mostMessages, mostControls}
 use Rattle.tables.specs.Rows.{rowLength, wordEntry, machineAt, fromAt, toAt, kindAt, queueAt, lengthAt}
 use Rattle.tables.specs.Valid.{MachinesValid, QueuesValid, ActionValid, RowValid, TransitionsValid, PoolValid, MapValid, BadValid}
@@ -81,62 +80,62 @@ fits-each part c (suc left) i f =
     fits-then (omega (arith, mul-suc c left)) (f i (omega arith) (omega arith))
     (fits-each part c left (i + 1) (λ k h g. f k (omega arith) (omega arith)))
 
-pub fits-entries : (table : List ℕ) (left i : ℕ) → ((k : ℕ) → i ≤ k → k < i + left → getD table k 0 < 16384)
-    → Fits (2 * left) (entries table left i)
-fits-entries table left i f = fits-each (λ k. number (getD table k 0)) 2 left i (λ k h g. fits-two (getD table k 0) (f k h g))
+pub fits-entries : (table : List ℕ) (left i : ℕ) → ((k : ℕ) → i ≤ k → k < i + left → getD table k 0 < 128)
+    → Fits (1 * left) (entries table left i)
+fits-entries table left i f = fits-each (λ k. number (getD table k 0)) 1 left i (λ k h g. fits-one (getD table k 0) (f k h g))
 
 -- THE FIELDS
-fits-machines : {m : Machines} → MachinesValid m → Fits 18 (machines m)
+fits-machines : {m : Machines} → MachinesValid m → Fits 9 (machines m)
 unfolding machines
 fits-machines {m} z =
-    fits-then (omega (arith, z .most)) (fits-two (m .count) (omega (arith, z .most)))
-    (fits-then {room = 16} (omega (arith, z .most))
+    fits-then (omega (arith, z .most)) (fits-one (m .count) (omega (arith, z .most)))
+    (fits-then {room = 8} (omega (arith, z .most))
     (fits-entries (m .states) (m .count) 0 (λ k h g. omega (arith, z .states k (omega arith) .1)))
     (fits-entries (m .starts) (m .count) 0
     (λ k h g. omega (arith, z .states k (omega arith) .1, z .starts k (omega arith)))))
 
-fits-queues : {q : Queues} → QueuesValid q → Fits 10 (queues q)
+fits-queues : {q : Queues} → QueuesValid q → Fits 5 (queues q)
 unfolding queues
 fits-queues {q} z =
-    fits-then (omega (arith, z .most)) (fits-two (q .count) (omega (arith, z .most)))
+    fits-then (omega (arith, z .most)) (fits-one (q .count) (omega (arith, z .most)))
     (fits-entries (q .messages) (q .count) 0 (λ k h g. omega (arith, z .messages k (omega arith) .1)))
 
 module _ {m : Machines} {q : Queues} (vm : MachinesValid m) (vq : QueuesValid q) (rows : List ℕ) where
-  fits-action : (row : ℕ) → ActionValid q (queueAt rows row) (lengthAt rows row) (wordEntry row) rows → Fits 36 (action rows row)
+  fits-action : (row : ℕ) → ActionValid q (queueAt rows row) (lengthAt rows row) (wordEntry row) rows → Fits 18 (action rows row)
   unfolding action
   fits-action row z =
-      fits-then {n = 34} (omega arith) (fits-two (queueAt rows row) (omega (arith, z .queue, vq .most)))
-      (fits-then (omega (arith, z .most)) (fits-two (lengthAt rows row) (omega (arith, z .most)))
+      fits-then {n = 17} (omega arith) (fits-one (queueAt rows row) (omega (arith, z .queue, vq .most)))
+      (fits-then (omega (arith, z .most)) (fits-one (lengthAt rows row) (omega (arith, z .most)))
       (fits-entries rows (lengthAt rows row) (wordEntry row) word))
     where
-      word : (k : ℕ) → wordEntry row ≤ k → k < wordEntry row + lengthAt rows row → getD rows k 0 < 16384
+      word : (k : ℕ) → wordEntry row ≤ k → k < wordEntry row + lengthAt rows row → getD rows k 0 < 128
       word k h g =
           let e : wordEntry row + (k - wordEntry row) ≡ k = omega arith in
-          let l : getD rows (wordEntry row + (k - wordEntry row)) 0 < 16384 =
+          let l : getD rows (wordEntry row + (k - wordEntry row)) 0 < 128 =
           omega (arith, z .below (k - wordEntry row) (omega arith), vq .sumMost)
           in
-          subst (λ i. getD rows i 0 < 16384) e l
+          subst (λ i. getD rows i 0 < 128) e l
 
-  fits-transition : (row : ℕ) → RowValid m q rows row → Fits 44 (transition rows row)
+  fits-transition : (row : ℕ) → RowValid m q rows row → Fits 22 (transition rows row)
   unfolding transition
   fits-transition row z =
       let states = vm .states (machineAt rows row) (z .move .machine) .1 in
-      fits-then {n = 42} (omega arith) (fits-two (machineAt rows row) (omega (arith, z .move .machine, vm .most)))
-      (fits-then {n = 40} (omega arith) (fits-two (fromAt rows row) (omega (arith, z .move .from)))
-      (fits-then {n = 38} (omega arith) (fits-two (toAt rows row) (omega (arith, z .move .to)))
-      (fits-then {n = 36} (omega arith) (fits-two (kindAt rows row) (omega (arith, z .move .kind)))
+      fits-then {n = 21} (omega arith) (fits-one (machineAt rows row) (omega (arith, z .move .machine, vm .most)))
+      (fits-then {n = 20} (omega arith) (fits-one (fromAt rows row) (omega (arith, z .move .from)))
+      (fits-then {n = 19} (omega arith) (fits-one (toAt rows row) (omega (arith, z .move .to)))
+      (fits-then {n = 18} (omega arith) (fits-one (kindAt rows row) (omega (arith, z .move .kind)))
       (go (eqb (kindAt rows row) 0)))))
     where
-      go : (b : Bool) → Fits 36 (cond b [] (action rows row))
-      go true = fits-none 36
+      go : (b : Bool) → Fits 18 (cond b [] (action rows row))
+      go true = fits-none 18
       go false = fits-action row (z .action)
 
 fits-transitions : {m : Machines} {q : Queues} {τ : Transitions} → MachinesValid m → QueuesValid q → TransitionsValid m q τ
-    → Fits 5634 (transitions τ)
+    → Fits 2818 (transitions τ)
 unfolding transitions
 fits-transitions {τ = τ} vm vq z =
     fits-then (omega (arith, z .most)) (fits-two (τ .count) (omega (arith, z .most)))
-    (fits-each (λ t. transition (τ .rows) (t * rowLength)) 44 (τ .count) 0
+    (fits-each (λ t. transition (τ .rows) (t * rowLength)) 22 (τ .count) 0
     (λ t h g. fits-transition vm vq (τ .rows) (t * rowLength) (z .row t (omega arith))))
 
 -- messages and targets of arcs are below 128
@@ -148,43 +147,43 @@ fits-arcs n sum least (arc ∷ rest) h g z =
     (fits-then (omega arith) (fits-one (arc .1) (omega (arith, z .2))) (fits-arcs n sum (arc .0 + 1) rest h g (z .3)))
 
 module _ {sum : ℕ} {P : Pool} (few : sum ≤ mostMessages) (z : PoolValid sum P) where
-  fits-state : (i : ℕ) → i < P .count → Fits 68 (state (P .finals) (P .arcs) i)
+  fits-state : (i : ℕ) → i < P .count → Fits 66 (state (P .finals) (P .arcs) i)
   unfolding state
   fits-state i h =
       let l = arcsOf (P .arcs) i mostMessages 0 in
       let up = pool-ascending i z in
       let short = ascends-few (P .count) sum 0 l (omega arith) up in
-      fits-then {n = 66} (omega arith) (fits-two (getD (P .finals) i 0) (omega (arith, z .finals i h)))
-      (fits-then (omega arith) (fits-two (length l) (omega arith))
+      fits-then {n = 65} (omega arith) (fits-one (getD (P .finals) i 0) (omega (arith, z .finals i h)))
+      (fits-then (omega arith) (fits-one (length l) (omega arith))
       (fits-arcs (P .count) sum 0 l (omega (arith, z .most)) (omega arith) up))
 
-  fits-pool : Fits 8638 (pool P)
+  fits-pool : Fits 8383 (pool P)
   unfolding pool
   fits-pool =
-      fits-then (omega (arith, z .most)) (fits-two (P .count) (omega (arith, z .most)))
-      (fits-each (state (P .finals) (P .arcs)) 68 (P .count) 0 (λ i h g. fits-state i (omega arith)))
+      fits-then (omega (arith, z .most)) (fits-one (P .count) (omega (arith, z .most)))
+      (fits-each (state (P .finals) (P .arcs)) 66 (P .count) 0 (λ i h g. fits-state i (omega arith)))
 
-fits-map : {product n : ℕ} {R : Map} → product ≤ mostControls → n < 16384 → MapValid product n R → Fits 512 (map product R)
+fits-map : {product n : ℕ} {R : Map} → product ≤ mostControls → n < 128 → MapValid product n R → Fits 256 (map product R)
 unfolding map
 fits-map {product} {R = R} h g z =
     fits-wider (omega arith) (fits-entries (R .roots) product 0 (λ k _ _. omega (arith, z .roots k)))
 
-fits-bad : {product n : ℕ} {B : BadList} → product ≤ mostControls → n < 16384 → BadValid product n B → Fits 258 (bad B)
+fits-bad : {product n : ℕ} {B : BadList} → product ≤ mostControls → n < 128 → BadValid product n B → Fits 193 (bad B)
 unfolding bad
 fits-bad {B = B} h g z =
-    fits-then (omega (arith, z .most)) (fits-two (B .count) (omega (arith, z .most)))
-    (fits-each (λ b. number (getD (B .rows) (b * 2) 0) ++ number (getD (B .rows) (b * 2 + 1) 0)) 4 (B .count) 0
+    fits-then (omega (arith, z .most)) (fits-one (B .count) (omega (arith, z .most)))
+    (fits-each (λ b. number (getD (B .rows) (b * 2) 0) ++ number (getD (B .rows) (b * 2 + 1) 0)) 3 (B .count) 0
     (λ b _ l.
     fits-then (omega arith) (fits-two (getD (B .rows) (b * 2) 0) (omega (arith, z .control b (omega arith))))
-    (fits-two (getD (B .rows) (b * 2 + 1) 0) (omega (arith, z .root b (omega arith))))))
+    (fits-one (getD (B .rows) (b * 2 + 1) 0) (omega (arith, z .root b (omega arith))))))
 
 -- THE FILE
-pub fits-spelled : (T : Tables) → Valid T → Fits mostBytes (spelled T)
+pub fits-spelled : (T : Tables) → Valid T → Fits 11664 (spelled T)
 unfolding spelled
 fits-spelled T z =
-    fits-then {n = 15052} (omega arith) (fits-machines (z .machines))
-    (fits-then {n = 15042} (omega arith) (fits-queues (z .queues))
-    (fits-then {n = 9408} (omega arith) (fits-transitions (z .machines) (z .queues) (z .transitions))
-    (fits-then {n = 770} (omega arith) (fits-pool (z .queues .sumMost) (z .pool))
+    fits-then {n = 11655} (omega arith) (fits-machines (z .machines))
+    (fits-then {n = 11650} (omega arith) (fits-queues (z .queues))
+    (fits-then {n = 8832} (omega arith) (fits-transitions (z .machines) (z .queues) (z .transitions))
+    (fits-then {n = 449} (omega arith) (fits-pool (z .queues .sumMost) (z .pool))
     (fits-then (omega arith) (fits-map (z .machines .productMost) (omega (arith, z .pool .most)) (z .map))
     (fits-bad (z .machines .productMost) (omega (arith, z .pool .most)) (z .bad))))))

@@ -89,7 +89,7 @@ read-then-written s b {T} {next} e =
 pub written-then-read : (T : Tables) → Valid T → readFile (spelled T) ≡ got T (length (spelled T))
 written-then-read T v =
     read-is (spelled T) T (length (spelled T)) .1
-    (fields-back (spelled T) T (fits-spelled T v .short) (valid-fields v) (whole-here (spelled T)), valid-ordered T v, refl)
+    (fields-back (spelled T) T (omega (arith, fits-spelled T v .short)) (valid-fields v) (whole-here (spelled T)), valid-ordered T v, refl)
 
 -- A FILE IS READ INTO TABLES exactly if they are valid and it is the bytes that they spell.
 pub read-exactly : (s : List ℕ) → Bytes s → (T : Tables) (next : ℕ) → (readFile s ≡ got T next) ↔ (Valid T × (s ≡ spelled T) × (next ≡ length s))
@@ -105,6 +105,10 @@ readable-exactly T = (
   λ r. valid (r .file) (r .read),
   λ v. record { file = spelled T; bytes = fits-spelled T v .bytes; end = length (spelled T); read = written-then-read T v },
 )
+
+-- No file that is read has more than 11,664 bytes.
+pub read-short : (s : List ℕ) → Bytes s → {T : Tables} {next : ℕ} → readFile s ≡ got T next → length s ≤ 11664
+read-short s b {T} e = subst (λ u. length u ≤ 11664) (sym (read-then-written s b e)) (fits-spelled T (valid s e) .short)
 
 -- Two files with the same tables are the same bytes.
 pub same-tables-same-bytes : (s u : List ℕ) → Bytes s → Bytes u → {T : Tables} {p q : ℕ} → readFile s ≡ got T p → readFile u ≡ got T q → s ≡ u
