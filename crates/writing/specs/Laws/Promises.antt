@@ -1,6 +1,7 @@
 -- What writing promises in each case.
 use Prim.Native.Nat.{ℕ, _≤_, _<_}
 use mathlib.Core.Path.{_≡_, refl, sym, ap, subst, _∙_}
+use mathlib.Core.Logic.{_↔_}
 use mathlib.Core.Bool.{Bool, true, false, cond}
 use mathlib.Core.List.{List, _++_}
 use lib.ListN.{length, drop}
@@ -22,11 +23,14 @@ abbrev numbered : WriteReply → ℕ
 numbered (wrote n) = 0
 numbered (refusal k p) = k
 
--- 16 is replied to tables that are not read again, and to no others
-sixteen-only : (b c : Bool) (n : ℕ) → cond b (cond c (wrote n) (refusal 17 0)) (refusal 16 0) ≡ refusal 16 0 → b ≡ false
-sixteen-only true true n e = let z : _≡_ {A = ℕ} 0 16 = ap numbered e in absurd (omega arith)
-sixteen-only true false n e = let z : _≡_ {A = ℕ} 17 16 = ap numbered e in absurd (omega arith)
-sixteen-only false c n e = refl
+-- 16 IS REPLIED to tables that are not read again, and to no others
+pub sixteen-exactly : (b : Bool) (w buffer : List ℕ) → (writeReply b w buffer ≡ refusal 16 0) ↔ (b ≡ false)
+sixteen-exactly b w buffer = (only b (leb (length w) (length buffer)), λ e. ap (λ c. writeReply c w buffer) e)
+  where
+    only : (b c : Bool) → cond b (cond c (wrote (length w)) (refusal 17 0)) (refusal 16 0) ≡ refusal 16 0 → b ≡ false
+    only true true e = let z : _≡_ {A = ℕ} 0 16 = ap numbered e in absurd (omega arith)
+    only true false e = let z : _≡_ {A = ℕ} 17 16 = ap numbered e in absurd (omega arith)
+    only false c e = refl
 
 module _ (T : Tables) (buffer : List ℕ) where
   abbrev replyIf : Bool → WriteReply
@@ -40,8 +44,8 @@ module _ (T : Tables) (buffer : List ℕ) where
         reply = e;
         buffer = f;
         unread = (
-          λ g. unrestored-exactly T .0 (sixteen-only (restored T) (leb (length (spelled T)) (length buffer)) (length (spelled T)) (sym e ∙ g)),
-          λ h. e ∙ ap replyIf (unrestored-exactly T .1 h),
+          λ g. unrestored-exactly T .0 (sixteen-exactly (restored T) (spelled T) buffer .0 (sym e ∙ g)),
+          λ h. e ∙ sixteen-exactly (restored T) (spelled T) buffer .1 (unrestored-exactly T .1 h),
         );
       }
 
