@@ -12,8 +12,12 @@ use Rattle.tables.specs.declared.tables.Tables.{Tables}
 use Rattle.meaning.specs.Checking.{checkOf}
 use Rattle.diagram.specs.Member.{memberOf}
 use Rattle.replay.specs.Reply.{Outcome, replayOf}
-use Rattle.capi.specs.Told.{NO-ROOM, toldReply, toldAnswer, toldMember, replyAfter}
-use Rattle.capi.specs.Flat.{flat, tablesLeast}
+use Rattle.spelling.specs.Spelled.{spelled}
+use Rattle.writing.specs.Write.{bufferAfter}
+use Rattle.flat.specs.Flat.{flat, tablesLeast}
+use Rattle.flat.specs.Taken.{tablesAt}
+use Rattle.flat.specs.Written.{writeReplyAt}
+use Rattle.capi.specs.Told.{NO-ROOM, toldReply, toldAnswer, toldMember, toldWritten, replyAfter}
 use Rattle.capi.specs.Replays.{toldReplay, runAfter, recordLeast, blank}
 use Rattle.capi.specs.declared.told.Told.{Told}
 
@@ -39,6 +43,11 @@ pub record ReadCall (file space₀ reply₀ : List ℕ) (r : ℕ) (space₁ repl
   pub kind : r ≡ kindIf (leb tablesLeast (length space₀) && replyFits reply₀) (toldAnswer (readReplyOf (readFile file)))
   pub space : space₁ ≡ keepUnless (leb tablesLeast (length space₀) && replyFits reply₀) (spaceAfter (readFile file) space₀) space₀
   pub reply : reply₁ ≡ keepUnless (leb tablesLeast (length space₀) && replyFits reply₀) (replyAfter (toldAnswer (readReplyOf (readFile file))) reply₀) reply₀
+
+pub record WriteCall (tables buffer₀ reply₀ : List ℕ) (r : ℕ) (buffer₁ reply₁ : List ℕ) : Type 0 where
+  pub kind : r ≡ kindIf (replyFits reply₀) (toldWritten (writeReplyAt tables buffer₀))
+  pub reply : reply₁ ≡ keepUnless (replyFits reply₀) (replyAfter (toldWritten (writeReplyAt tables buffer₀)) reply₀) reply₀
+  pub buffer : buffer₁ ≡ keepUnless (replyFits reply₀) (bufferAfter (writeReplyAt tables buffer₀) (spelled (tablesAt tables)) buffer₀) buffer₀
 
 pub record MemberCall (file : List ℕ) (control : ℕ) (contents reply₀ : List ℕ) (r : ℕ) (reply₁ : List ℕ) : Type 0 where
   pub kind : r ≡ kindIf (replyFits reply₀) (toldMember (memberOf file control contents))

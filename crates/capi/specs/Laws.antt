@@ -1,9 +1,9 @@
--- Laws of what is told, of tables that are put one after the other, and of each call.
+-- Laws of what is told, and of each call.
 use Prim.Native.Nat.{ℕ, _+_, _*_, _≤_, _<_}
 use mathlib.Core.Path.{_≡_, refl, sym, ap, ap₂, subst, _∙_}
 use mathlib.Core.Bool.{Bool, true, false, _&&_}
 use mathlib.Core.List.{List, [], _∷_, _++_}
-use lib.ListN.{length, drop, set, getD, length-append}
+use lib.ListN.{length, drop, set, getD}
 use lib.Seq.{sets, sets-eq}
 use lib.Dec.{leb}
 use borrow.Author.Tests.{le-leb, lt-leb}
@@ -24,7 +24,6 @@ use Rattle.diagram.specs.Said.{saidMember}
 use Rattle.diagram.specs.Laws.Asking.{read-valid}
 use Rattle.diagram.specs.declared.reply.Member.{Member}
 use Rattle.numbers.specs.Put.{Put}
-use Rattle.numbers.specs.Laws.Put.{put-then, put-front}
 use Rattle.line.specs.Said.{said, shownBy}
 use Rattle.line.specs.declared.verdict.Verdict.{Verdict as Line}
 use Rattle.line.specs.declared.verdict.Verdict.the-variants.{Closed, Outside, Leaves, Bad, Refused}
@@ -34,35 +33,17 @@ use Rattle.replay.specs.Reply.{Reply, Outcome, lentTo, replayTo, replayOf, said
 use Rattle.replay.specs.declared.progress.Ended.{Ended}
 use Rattle.answer.specs.Printed.{printedOf}
 use Rattle.answer.specs.Laws.{counted-by}
-use Rattle.capi.specs.Told.{NO-ROOM, toldOf, toldReply, toldAnswer, toldMember, toldLine, replyAfter, Tells}
-use Rattle.capi.specs.Flat.{countsOf, small, large, flat, smallLong, largeLong, tablesLeast}
+use Rattle.spelling.specs.Spelled.{spelled}
+use Rattle.writing.specs.Write.{bufferAfter, saidWritten}
+use Rattle.writing.specs.declared.write.Written.{Written}
+use Rattle.flat.specs.Flat.{flat, tablesLeast}
+use Rattle.flat.specs.Taken.{tablesAt}
+use Rattle.flat.specs.Written.{writeReplyAt, WritesFlat}
+use Rattle.flat.specs.Laws.Put.{flat-front}
+use Rattle.capi.specs.Told.{NO-ROOM, toldOf, toldReply, toldAnswer, toldMember, toldWritten, toldLine, replyAfter, Tells}
 use Rattle.capi.specs.Replays.{toldReplay, recordOut, recordLeast, runAfter, blank}
-use Rattle.capi.specs.Calls.{replyFits, kindIf, keepUnless, spaceAfter, outcomeOf, replayTold, replayFits, ReadCall, MemberCall, CheckCall, ReplayCall}
+use Rattle.capi.specs.Calls.{replyFits, kindIf, keepUnless, spaceAfter, outcomeOf, replayTold, replayFits, ReadCall, WriteCall, MemberCall, CheckCall, ReplayCall}
 use Rattle.capi.specs.declared.told.Told.{Told}
-
--- TABLES ONE AFTER THE OTHER
-module _ (T : Tables) (v : Valid T) where
-  pub put-flat : {s₀ s₁ s₂ s₃ : List ℕ} {p q r : ℕ} → Put s₀ 0 smallLong (small T) s₁ p → Put s₁ p largeLong (large T) s₂ q
-      → Put s₂ q (length (T .bad .rows)) (T .bad .rows) s₃ r → Put s₀ 0 tablesLeast (flat T) s₃ r
-  put-flat a b c =
-      put-then {m = smallLong + largeLong} {k = length (T .bad .rows)} (put-then {m = smallLong} {k = largeLong} a b (omega arith)) c
-      (omega (arith, v .bad .long))
-
-  small-long : length (small T) ≡ smallLong
-  small-long =
-      omega (arith, length-append ((countsOf T ++ T .machines .states) ++ T .machines .starts) (T .queues .messages), length-append (countsOf T ++ T .machines .states) (T .machines .starts), length-append (countsOf T) (T .machines .states), v .machines .statesLong, v .machines .startsLong, v .queues .long)
-
-  large-long : length (large T) ≡ largeLong
-  large-long =
-      omega (arith, length-append ((T .transitions .rows ++ T .pool .finals) ++ T .pool .arcs) (T .map .roots), length-append (T .transitions .rows ++ T .pool .finals) (T .pool .arcs), length-append (T .transitions .rows) (T .pool .finals), v .transitions .long, v .pool .finalsLong, v .pool .arcsLong, v .map .long)
-
-  flat-long : length (flat T) ≡ tablesLeast
-  flat-long =
-      omega (arith, length-append (small T ++ large T) (T .bad .rows), length-append (small T) (large T), small-long, large-long, v .bad .long)
-
-  flat-front : {space exit : List ℕ} {r : ℕ} → tablesLeast ≤ length space → Put space 0 tablesLeast (flat T) exit r
-      → exit ≡ flat T ++ drop tablesLeast space
-  flat-front {space} h w = put-front w (omega (arith, flat-long)) ∙ ap (λ (k : ℕ). flat T ++ drop k space) flat-long
 
 -- three numbers stored one by one
 pub told-stored : (reply : List ℕ) (x y z : ℕ) → 3 ≤ length reply → set (set (set reply 0 x) 1 y) 2 z ≡ x ∷ y ∷ z ∷ drop 3 reply
@@ -148,6 +129,34 @@ module _ {file space reply reply₁ : List ℕ} {t : Told} {r : ℕ} (h : tables
   read-filled e w =
       let answered = sym e ∙ reads .reply in
       called (filled (readFile file) (x .tables) (read-valid file answered (reads .tables)) (reads .tables) answered h w)
+
+-- WRITING
+module _ (tables buffer reply : List ℕ) where
+  abbrev written : Told
+  written = toldWritten (writeReplyAt tables buffer)
+
+  abbrev bufferThen : List ℕ
+  bufferThen = bufferAfter (writeReplyAt tables buffer) (spelled (tablesAt tables)) buffer
+
+  pub write-unheard : length reply < 3 → WriteCall tables buffer reply NO-ROOM buffer reply
+  write-unheard h =
+      let e = lt-leb 3 (length reply) h in
+      record {
+        kind = kind-none (replyFits reply) written e;
+        reply = kept (replyFits reply) reply (replyAfter written reply) e;
+        buffer = kept (replyFits reply) buffer bufferThen e;
+      }
+
+  pub write-told : {buffer₁ reply₁ : List ℕ} {r : ℕ} {t : Told} → 3 ≤ length reply → (w : Written) → WritesFlat tables buffer w buffer₁
+      → t ≡ toldWritten (saidWritten w) → Tells t reply reply₁ r → WriteCall tables buffer reply r buffer₁ reply₁
+  write-told h w writes told tells =
+      let e = le-leb 3 (length reply) h in
+      let same = told ∙ ap toldWritten (writes .reply) in
+      record {
+        kind = tells-kind (replyFits reply) e same tells;
+        reply = tells-reply (replyFits reply) e same tells;
+        buffer = writes .buffer ∙ changed (replyFits reply) buffer bufferThen e;
+      }
 
 -- MEMBERSHIP
 module _ (file : List ℕ) (control : ℕ) (contents reply : List ℕ) where

@@ -7,9 +7,14 @@ use Rattle.session.specs.Said as Session
 use Rattle.model.specs.Verdict.{closed, outside, leaves, bad}
 use Rattle.meaning.specs.Reply.{FileReply, refused, verdict}
 use Rattle.diagram.specs.Member as Member
+use Rattle.writing.specs.Write as Write
 use Rattle.line.specs.declared.verdict.Verdict.{Verdict as Line}
 use Rattle.line.specs.declared.verdict.Verdict.the-variants.{Closed, Outside, Leaves, Bad, Refused}
 use Rattle.capi.specs.declared.told.Told.{Told}
+
+-- THE NUMBER OF THE LAYOUT: a layout of tables that differs in any entry, or another reply, has another. 1 had words of four messages
+abbrev pub layout : ℕ
+layout = 2
 
 -- the kinds
 abbrev pub CLOSED : ℕ
@@ -39,6 +44,9 @@ YES = 7
 abbrev pub NO : ℕ
 NO = 8
 
+abbrev pub WRITTEN : ℕ
+WRITTEN = 14
+
 abbrev pub toldOf : ℕ → ℕ → ℕ → ℕ → Told
 toldOf kind a b c = record { kind = kind; first = a; second = b; third = c }
 
@@ -62,6 +70,11 @@ abbrev pub toldMember : Member.MemberReply → Told
 toldMember Member.yes = toldOf YES 0 0 0
 toldMember Member.no = toldOf NO 0 0 0
 toldMember (Member.refusal k p) = toldRefusal k p
+
+-- of writing: how many bytes
+abbrev pub toldWritten : Write.WriteReply → Told
+toldWritten (Write.wrote n) = toldOf WRITTEN n 0 0
+toldWritten (Write.refusal k p) = toldRefusal k p
 
 -- the same of a verdict by value, which has how many messages are shown
 abbrev pub toldLine : Line → Told

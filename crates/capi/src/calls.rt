@@ -1,10 +1,8 @@
 // What C calls. A call whose output space is too short answers NO_ROOM and touches nothing.
-use crate::flat::LAYOUT;
-use crate::flat::TABLES_LEAST;
-use crate::flat::put_tables;
 use crate::replays::RECORD_LEAST;
 use crate::replays::put_run;
 use crate::replays::tell_replay;
+use crate::told::LAYOUT;
 use crate::told::NO_ROOM;
 use crate::told::READ;
 use crate::told::REPLY_LEAST;
@@ -13,8 +11,12 @@ use crate::told::put_told;
 use crate::told::tell_member;
 use crate::told::tell_refusal;
 use crate::told::tell_verdict;
+use crate::told::tell_written;
 use answer::printed;
 use diagram::member::member;
+use flat::places::TABLES_LEAST;
+use flat::put::put_tables;
+use flat::write::write_flat;
 use replay::run::replay_from;
 use session::reading::Answer;
 use session::reading::read;
@@ -23,8 +25,8 @@ use tables::tables::MOST_MACHINES;
 use tables::tables::MOST_QUEUES;
 use verdict::check::check;
 ghost use mathlib.Core.Path.{_≡_};
-ghost use Rattle.capi.specs.Flat.{layout};
-ghost use Rattle.capi.specs.Calls.{ReadCall, MemberCall, CheckCall, ReplayCall};
+ghost use Rattle.capi.specs.Told.{layout};
+ghost use Rattle.capi.specs.Calls.{ReadCall, WriteCall, MemberCall, CheckCall, ReplayCall};
 
 // The number of the library's layout, for a program to compare with that of the header it was built with.
 #[no_mangle]
@@ -55,6 +57,18 @@ pub extern "C" fn swarmbanner_read(file: &[u8], space: &mut [u8], reply: &mut [u
             put_told(reply, bare(READ))
         }
     }
+}
+
+// Writes the file that is read into these tables, which lie as `swarmbanner_read` puts them. After a refusal the buffer is as it was.
+#[no_mangle]
+pub extern "C" fn swarmbanner_write(tables: &[u8], buffer: &mut [u8], reply: &mut [usize]) -> usize
+    ensures { λ r. ⌜ WriteCall (now (tables .entry)) (now (buffer .entry)) (now (reply .entry)) r (now (buffer .exit)) (now (reply .exit)) ⌝ }
+{
+    if reply.len() < REPLY_LEAST {
+        return NO_ROOM;
+    }
+    let written = write_flat(tables, buffer);
+    put_told(reply, tell_written(written))
 }
 
 // Do these contents belong to this control state of the file?

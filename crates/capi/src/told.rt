@@ -4,12 +4,17 @@ use line::verdict::Verdict;
 use numbers::refusal::Refusal;
 use numbers::refusal::number;
 use numbers::refusal::place;
+use writing::write::Written;
 ghost use mathlib.Core.Path.{_≡_};
 ghost use Prim.Native.Nat.{_≤_};
 ghost use lib.ListN.{length};
 ghost use Rattle.numbers.specs.Said.{numberOf, placeOf};
 ghost use Rattle.diagram.specs.Said.{saidMember};
-ghost use Rattle.capi.specs.Told.{toldOf, toldLine, toldMember, toldRefusal, Tells};
+ghost use Rattle.writing.specs.Write.{saidWritten};
+ghost use Rattle.capi.specs.Told.{toldOf, toldLine, toldMember, toldWritten, toldRefusal, Tells};
+
+// The number of the layout.
+pub const LAYOUT: usize = 2;
 
 // The kinds, as the header names them.
 pub const CLOSED: usize = 0;
@@ -29,6 +34,8 @@ pub const READ: usize = 6;
 pub const YES: usize = 7;
 
 pub const NO: usize = 8;
+
+pub const WRITTEN: usize = 14;
 
 // Entries that the reply's space needs.
 pub const REPLY_LEAST: usize = 3;
@@ -106,6 +113,21 @@ pub(crate) fn tell_member(m: Member) -> Told
         Member::NoControl => refused(11, 0),
         Member::NoMessage(at) => refused(12, at),
         Member::EarlierQueue(at) => refused(13, at),
+    }
+}
+
+pub(crate) fn tell_written(w: Written) -> Told
+    ensures { λ r. ⌜ r ≡ toldWritten (saidWritten w) ⌝ }
+{
+    match w {
+        Written::Length(length) => Told {
+            kind: WRITTEN,
+            first: length,
+            second: 0,
+            third: 0,
+        },
+        Written::NotReadable => refused(16, 0),
+        Written::TooShort => refused(17, 0),
     }
 }
 

@@ -9,7 +9,7 @@ use Rattle.capi.proofs.calls.swarmbanner_read.Statement.{statement}
 use Rattle.capi.proofs.calls.swarmbanner_read.Tie as tie
 use Rattle.capi.proofs.calls.swarmbanner_read.Reads as reads
 use Rattle.capi.proofs.calls.swarmbanner_read.Lts as lts
-use Rattle.capi.proofs.flat.put_tables.Reads as put-tables-reads
+use Rattle.flat.proofs.put.put_tables.Reads as put-tables-reads
 use Rattle.capi.proofs.told.bare.Reads as bare-reads
 use Rattle.capi.proofs.told.put_told.Reads as put-told-reads
 use Rattle.capi.proofs.told.tell_refusal.Reads as tell-refusal-reads

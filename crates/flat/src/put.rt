@@ -1,31 +1,12 @@
-// The tables of a file that was read, one after the other in lent bytes.
+// Putting the tables of a file into lent bytes, one after the other.
 use numbers::put::put_four;
 use numbers::put::put_word;
-use tables::kinds::DiagramState;
-use tables::tables::ENTRIES;
-use tables::tables::MOST_CONTROLS;
-use tables::tables::MOST_MACHINES;
-use tables::tables::MOST_QUEUES;
-use tables::tables::POOL_ARCS;
-use tables::tables::ROWS;
 use tables::tables::Tables;
 ghost use Prim.Native.Nat.{_+_, _≤_};
 ghost use lib.ListN.{length};
 ghost use Rattle.numbers.specs.Put.{Put};
-ghost use Rattle.capi.specs.Flat.{smallLong, largeLong, tablesLeast, small, large, flat};
+ghost use Rattle.flat.specs.Flat.{smallLong, largeLong, tablesLeast, small, large, flat};
 ghost use Rattle.session.specs.Valid.{Valid};
-
-// Bytes of the counts with the tables of machines and queues, of the large tables, and of all.
-const COUNTS: usize = 6;
-
-const SMALL: usize = COUNTS + 2 * MOST_MACHINES as usize + MOST_QUEUES as usize;
-
-const LARGE: usize = ROWS + DiagramState::LIMIT + POOL_ARCS + MOST_CONTROLS;
-
-pub const TABLES_LEAST: usize = SMALL + LARGE + ENTRIES;
-
-// The number of this layout.
-pub const LAYOUT: usize = 2;
 
 // The counts, and the tables of four entries.
 fn put_small(space: &mut [u8], t: Tables) -> usize
@@ -70,7 +51,7 @@ fn put_large(space: &mut [u8], at: usize, t: Tables) -> usize
 }
 
 // All tables, at the front of the space. Returns how many bytes that is.
-pub(crate) fn put_tables(space: &mut [u8], t: Tables) -> usize
+pub fn put_tables(space: &mut [u8], t: Tables) -> usize
     requires { ⌜ Valid t ⌝ }
     requires { ⌜ tablesLeast ≤ length (now space) ⌝ }
     ensures { λ r. ⌜ Put (now (space .entry)) 0 tablesLeast (flat t) (now (space .exit)) r ⌝ }

@@ -25,15 +25,14 @@ abbrev pub flat : Tables → List ℕ
 flat T = (small T ++ large T) ++ T .bad .rows
 
 -- so many bytes
+abbrev pub countsLong : ℕ
+countsLong = 6
+
 abbrev pub smallLong : ℕ
-smallLong = 6 + 2 * mostMachines + mostQueues
+smallLong = countsLong + 2 * mostMachines + mostQueues
 
 abbrev pub largeLong : ℕ
 largeLong = rowsLength + mostPool + poolArcs + mostControls
 
 abbrev pub tablesLeast : ℕ
 tablesLeast = smallLong + largeLong + mostBad * 2
-
--- THE NUMBER OF THIS LAYOUT: a layout that differs in any entry, or in what a reply tells, has another. 1 had words of four messages
-abbrev pub layout : ℕ
-layout = 2

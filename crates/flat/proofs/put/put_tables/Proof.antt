@@ -1,34 +1,34 @@
-use Rattle.capi.specs.Laws.{put-flat}
+use Rattle.flat.specs.Laws.Put.{put-flat}
 use borrow.Author.Needs.{needs}
-use Rattle.capi.proofs.flat.put_tables.Statement.{statement}
-use Rattle.capi.proofs.flat.put_tables.Tie as tie
-use Rattle.capi.proofs.flat.put_tables.Reads as reads
-use Rattle.capi.proofs.flat.put_tables.Lts as lts
-use Rattle.capi.proofs.flat.put_large.Reads as put-large-reads
-use Rattle.capi.proofs.flat.put_small.Reads as put-small-reads
+use Rattle.flat.proofs.put.put_tables.Statement.{statement}
+use Rattle.flat.proofs.put.put_tables.Tie as tie
+use Rattle.flat.proofs.put.put_tables.Reads as reads
+use Rattle.flat.proofs.put.put_tables.Lts as lts
+use Rattle.flat.proofs.put.put_large.Reads as put-large-reads
+use Rattle.flat.proofs.put.put_small.Reads as put-small-reads
 use Rattle.numbers.proofs.put.put_word.Reads as put-word-reads
 
--- src/flat.rt:74:9
+-- src/put.rt:74:9
 put-small-requires : tie.Need-put-small-requires
 put-small-requires c κs = search needs
 
--- src/flat.rt:75:9
+-- src/put.rt:75:9
 put-large-requires : tie.Need-put-large-requires
 put-large-requires c κs = search needs
 
--- src/flat.rt:76:28
+-- src/put.rt:76:28
 slice-aggregate-put-word : tie.Need-slice-aggregate-put-word
 slice-aggregate-put-word c = search needs
 
--- src/flat.rt:76:5
+-- src/put.rt:76:5
 put-word-requires : tie.Need-put-word-requires
 put-word-requires c κs = search needs
 
--- src/flat.rt:67:1
+-- src/put.rt:67:1
 same-length : tie.Need-same-length
 same-length c = search needs
 
--- src/flat.rt:67:1
+-- src/put.rt:67:1
 returns : tie.Need-returns
 returns c = put-flat (c .before .before .before .before .before .before .before .before .before .before .before .before .before .before .before .before .args .t) (c .before .before .before .before .before .before .before .before .before .before .before .before .before .before .before .before .pre .0) (c .before .before .before .before .before .before .before .before .before .before .before .put-small .ensures) (c .before .before .before .before .before .before .before .put-large .ensures) (c .before .before .put-word .ensures)
 
