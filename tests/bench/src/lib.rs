@@ -1,6 +1,7 @@
 //! Taking times, and the lines that report them.
 
 pub mod order;
+pub mod spelling;
 
 use std::time::{Duration, Instant};
 

@@ -1,4 +1,5 @@
-//! What the generated files, questions and replays hit: rows, boundaries, verdicts, ends, and mistakes they would tell.
+//! What the generated files, questions, replays and writings hit: rows, boundaries, verdicts, ends, damage, and mistakes they
+//! would tell.
 
 use std::collections::{BTreeMap, BTreeSet};
 
@@ -8,6 +9,7 @@ use crate::generate::reading::{Expected, Generator};
 use crate::generate::replay as replays;
 use crate::generate::row_9;
 use crate::generate::verdicts;
+use crate::generate::writing as writings;
 use crate::long_words::{self, has_long_word};
 use crate::membership::{membership, membership_line};
 use crate::order_features::{self, OrderHits};
@@ -16,10 +18,13 @@ use crate::replay::{replay, Answer};
 use crate::replay_features;
 use crate::replay_traps::{replay_with, ReplayTrap};
 use crate::rings::replay_in_rings;
-use crate::stream::{Question, Replay};
+use crate::stream::{Question, Replay, Writing};
 use crate::traps::{verdict_with, Trap};
 use crate::verdict::{line, Verdict};
 use crate::walk::{check, Scratch};
+use crate::write::write;
+use crate::writing_features;
+use crate::writing_traps::{ReadBack, WritingTrap};
 
 /// Each row from 3 to 10 is hit at least this often.
 const ENOUGH: usize = 50;
@@ -398,4 +403,86 @@ pub fn replay_coverage(cases: &[replays::Case]) -> Coverage {
         report += &format!("replays whose line would change by {trap:?}: {count}\n");
     }
     Coverage { report: report + &of_order.report(), complaints }
+}
+
+/// Each mistake changes the line of at least this many writings.
+const ENOUGH_WRITINGS_TOLD: usize = 10;
+/// Mistakes are tried on files up to this many bytes, which can have any count at its most. Those about order are searched
+/// for plainly, on small files.
+const SHORT_FILE: usize = 2_000;
+
+/// The reply to a writing, and the buffer afterwards.
+type Written = (Result<usize, Refusal>, Vec<u8>);
+
+/// Lends the buffer that the writing asks for.
+fn lent(asked: &Writing, call: impl FnOnce(&mut [u8]) -> Result<usize, Refusal>) -> Written {
+    let mut buffer = asked.buffer();
+    let reply = call(&mut buffer);
+    (reply, buffer)
+}
+
+/// What a writing was made for: the reply, and that all other bytes are kept.
+fn is_as_made(case: &writings::Case, (reply, buffer): &Written) -> bool {
+    let mut kept = case.writing.buffer();
+    let is_reply = match &case.expected {
+        writings::Expected::Open => true,
+        writings::Expected::Refused(number) => *reply == Err(Refusal { number: *number, place: 0 }),
+        writings::Expected::File(file) => *reply == Ok(file.len()) && buffer.starts_with(file),
+    };
+    if let Ok(length) = *reply {
+        kept[..length].copy_from_slice(&buffer[..length]);
+    }
+    is_reply && kept == *buffer
+}
+
+pub fn writing_coverage(cases: &[writings::Case]) -> Coverage {
+    let asked = writing_features::asked();
+    let mut features: BTreeMap<String, usize> = asked.keys().map(|feature| (feature.clone(), 0)).collect();
+    let mut told: BTreeMap<WritingTrap, usize> = WritingTrap::all().map(|trap| (trap, 0)).collect();
+    let mut kinds: BTreeMap<&str, usize> = BTreeMap::new();
+    let mut complaints = Vec::new();
+    for (index, case) in cases.iter().enumerate() {
+        let (kind, writing) = (case.kind, &case.writing);
+        let (flat, product) = writing.tables();
+        let answer = lent(writing, |buffer| write(&flat, product, buffer));
+        *kinds.entry(kind).or_default() += 1;
+        if !is_as_made(case, &answer) {
+            complaints.push(format!("writing {index} ({kind}): made for {:?}, but {:?}", case.expected, answer.0));
+        }
+        let read_back = ReadBack::new(&flat, product);
+        let other = lent(writing, |buffer| read_back.write(buffer, None));
+        if other != answer {
+            complaints.push(format!("writing {index} ({kind}): {:?}, but read back {:?}", answer.0, other.0));
+        }
+        for feature in writing_features::features(writing, answer.0) {
+            features.entry(feature).and_modify(|count| *count += 1);
+        }
+        if writing.file.len() <= SHORT_FILE {
+            let is_small = writing.file.len() <= SMALL_FILE;
+            for (&trap, count) in told.iter_mut().filter(|(trap, _)| is_small || !trap.is_about_order()) {
+                *count += usize::from(lent(writing, |buffer| read_back.write(buffer, Some(trap))) != answer);
+            }
+        }
+    }
+    for (feature, &enough) in &asked {
+        let count = features[feature];
+        if count < enough {
+            complaints.push(format!("only {count} writings have: {feature}"));
+        }
+    }
+    for (trap, &count) in told.iter().filter(|(_, &count)| count < ENOUGH_WRITINGS_TOLD) {
+        complaints.push(format!("only {count} writings tell {trap:?}"));
+    }
+    let bytes: usize = cases.iter().map(|case| case.writing.file.len()).sum();
+    let mut report = format!("{} writings, {bytes} bytes of files\n", cases.len());
+    for (kind, count) in &kinds {
+        report += &format!("made as {kind}: {count}\n");
+    }
+    for (feature, count) in &features {
+        report += &format!("{feature}: {count}\n");
+    }
+    for (trap, count) in &told {
+        report += &format!("writings whose line would change by {trap:?}: {count}\n");
+    }
+    Coverage { report, complaints }
 }

@@ -1,5 +1,5 @@
-//! One number over all entries of the tables, used or not, or over all bytes of a replay's memory, and the lines that
-//! reading and replaying are compared by.
+//! One number over all entries of the tables, used or not, or over all bytes of lent memory, and the lines that reading,
+//! replaying and writing are compared by.
 
 use crate::read::{Refusal, Tables};
 use crate::replay::Answer;
@@ -87,4 +87,13 @@ pub fn memory_digest(memory: &[u8]) -> u64 {
 pub fn replay_line(answer: &Answer) -> String {
     let record: Vec<String> = answer.lent.record.numbers().map(|number| number.to_string()).collect();
     format!("{} | {} | {}", answer.reply, record.join(" "), memory_digest(&answer.lent.memory))
+}
+
+/// `wrote N H` or `refused K at 0 H`, with the digest of the whole buffer.
+pub fn writing_line(reply: Result<usize, Refusal>, buffer: &[u8]) -> String {
+    let digest = memory_digest(buffer);
+    match reply {
+        Ok(length) => format!("wrote {length} {digest}"),
+        Err(refusal) => format!("{refusal} {digest}"),
+    }
 }

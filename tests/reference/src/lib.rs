@@ -1,11 +1,12 @@
 //! An independent reference for Swarmbanner, written from its documents alone: reading, membership, verdicts, replays,
-//! and generators of files to compare by.
+//! writing, and generators of files to compare by.
 
 pub mod arcs;
 pub mod coverage;
 pub mod decide;
 pub mod diagram;
 pub mod digest;
+pub mod flat;
 pub mod generate;
 pub mod long_words;
 pub mod membership;
@@ -23,3 +24,6 @@ pub mod stream;
 pub mod traps;
 pub mod verdict;
 pub mod walk;
+pub mod write;
+pub mod writing_features;
+pub mod writing_traps;

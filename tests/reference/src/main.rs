@@ -1,25 +1,29 @@
-//! Streams of files, questions and replays, and the lines that answer them.
+//! Streams of files, questions, replays and writings, and the lines that answer them.
 
 use std::cell::Cell;
 use std::io::{self, BufWriter, Read, Write};
 use std::process::ExitCode;
 
-use reference_checker::coverage::{membership_coverage, reading_coverage, replay_coverage, verdict_coverage, Coverage};
+use reference_checker::coverage::{
+    membership_coverage, reading_coverage, replay_coverage, verdict_coverage, writing_coverage, Coverage,
+};
 use reference_checker::decide::{decide, TooLarge};
-use reference_checker::digest::{reading_line, replay_line};
+use reference_checker::digest::{reading_line, replay_line, writing_line};
 use reference_checker::generate::large::longest;
 use reference_checker::generate::membership::questions;
 use reference_checker::generate::reading::reading_cases;
 use reference_checker::generate::replay::replay_cases;
 use reference_checker::generate::verdicts::verdict_cases;
+use reference_checker::generate::writing::writing_cases;
 use reference_checker::membership::{membership, membership_line};
 use reference_checker::random::Random;
 use reference_checker::read::read;
 use reference_checker::replay::replay;
-use reference_checker::selftest::{selftest, selftest_order, Agreement};
-use reference_checker::stream::{put_file, put_question, put_replay, Question, Records};
+use reference_checker::selftest::{selftest, selftest_order, selftest_writing, Agreement};
+use reference_checker::stream::{put_file, put_question, put_replay, put_writing, Question, Records};
 use reference_checker::verdict::{line, Reply};
 use reference_checker::walk::{check, Scratch};
+use reference_checker::write::write as write_tables;
 
 /// The seed of every stream that is kept.
 const SEED: u64 = 20_261_115;
@@ -38,7 +42,10 @@ usage: reference COMMAND
   generate-replay        write the stream of replays
   replay                 answer such a stream on standard input, one line a replay
   coverage-replay        say what that stream hits, and which mistakes it would tell
-  selftest SEED COUNT    compare all ways to the verdict, and to row 9, on random small files
+  generate-writing       write the stream of writings
+  writing                answer such a stream on standard input, one line a writing
+  coverage-writing       say what that stream hits, and which mistakes it would tell
+  selftest SEED COUNT    compare all ways to the verdict, to row 9, and to 16, on random small files
   check                  check one file on standard input, by walking
   maximal                write the longest file that is read";
 
@@ -99,6 +106,15 @@ fn run(arguments: &[String]) -> Result<(), String> {
         }
         ["replay"] => answer_replays(),
         ["coverage-replay"] => tell(replay_coverage(&replay_cases(SEED))),
+        ["generate-writing"] => {
+            let mut stream = Vec::new();
+            for case in writing_cases(SEED) {
+                put_writing(&mut stream, &case.writing);
+            }
+            write(&stream)
+        }
+        ["writing"] => answer_writings(),
+        ["coverage-writing"] => tell(writing_coverage(&writing_cases(SEED))),
         ["check"] => {
             let file = standard_input()?;
             println!("{}", line(&check(&file, &mut Scratch::default())));
@@ -112,7 +128,10 @@ fn run(arguments: &[String]) -> Result<(), String> {
             let of_order = selftest_order(seed, count);
             println!("row 9: {} in order, {} out of order", of_order.in_order, of_order.out_of_order);
             println!("disagreements: {}", of_order.disagreements.len());
-            fail_on(&[agreement.disagreements, of_order.disagreements].concat())
+            let of_writing = selftest_writing(seed, count);
+            println!("tables: {} of a file, {} of none", of_writing.of_a_file, of_writing.of_none);
+            println!("disagreements: {}", of_writing.disagreements.len());
+            fail_on(&[agreement.disagreements, of_order.disagreements, of_writing.disagreements].concat())
         }
         _ => Err(USAGE.to_string()),
     }
@@ -183,6 +202,20 @@ fn answer_replays() -> Result<(), String> {
         let asked = asked?;
         let line = replay_line(&replay(&asked.file, &asked.trace, &asked.lent()));
         writeln!(lines, "{line}").map_err(|error| error.to_string())?;
+    }
+    lines.flush().map_err(|error| error.to_string())
+}
+
+fn answer_writings() -> Result<(), String> {
+    let stream = standard_input()?;
+    let mut records = Records(&stream);
+    let mut lines = BufWriter::new(io::stdout().lock());
+    while let Some(asked) = records.writing() {
+        let asked = asked?;
+        let (flat, product) = asked.tables();
+        let mut buffer = asked.buffer();
+        let reply = write_tables(&flat, product, &mut buffer);
+        writeln!(lines, "{}", writing_line(reply, &buffer)).map_err(|error| error.to_string())?;
     }
     lines.flush().map_err(|error| error.to_string())
 }

@@ -1,16 +1,20 @@
-//! The ways to a verdict, and those to row 9, against each other on random small files.
+//! The ways to a verdict, those to row 9, and those to a file from tables, against each other on random small files.
 
 use std::collections::BTreeMap;
 
 use crate::decide::{confirm, decide};
+use crate::flat::Flat;
 use crate::generate::reading::Generator;
 use crate::generate::verdicts::Plans;
+use crate::generate::writing::random_writings;
 use crate::long_words::has_long_word;
 use crate::order::{in_queue_order, in_queue_order_by_words};
 use crate::order_traps::read_with;
-use crate::read::{read, read_asking};
+use crate::read::{read, read_asking, Refusal};
 use crate::traps::verdict_with;
 use crate::verdict::{line, Verdict};
+use crate::write::{write, NO_FILE};
+use crate::writing_traps::write_with;
 
 #[derive(Default)]
 pub struct Agreement {
@@ -93,6 +97,34 @@ pub fn selftest_order(seed: u64, count: usize) -> OrderAgreement {
             agreement.disagreements.push(format!("by sets: {in_order}; by words: {by_words}; file {hex}"));
         }
         *if in_order { &mut agreement.in_order } else { &mut agreement.out_of_order } += 1;
+    }
+    agreement
+}
+
+#[derive(Default)]
+pub struct WritingAgreement {
+    pub of_a_file: usize,
+    pub of_none: usize,
+    pub disagreements: Vec<String>,
+}
+
+/// Whether some file is read into tables, and which one: asked of each entry, and by writing them whatever they are, reading
+/// what was written and comparing. The tables are of small files, most of them damaged in a few entries.
+pub fn selftest_writing(seed: u64, count: usize) -> WritingAgreement {
+    let mut agreement = WritingAgreement::default();
+    for asked in random_writings(seed, count) {
+        let (flat, product) = asked.tables();
+        let [mut buffer, mut other_buffer] = [asked.buffer(), asked.buffer()];
+        let reply = write(&flat, product, &mut buffer);
+        let other = write_with(&flat, product, &mut other_buffer, None);
+        let is_read = reply.is_err() || read(&buffer[..reply.unwrap_or(0)]).map(|tables| Flat::of(&tables)) == Ok(flat);
+        if (reply, buffer) != (other, other_buffer) || !is_read {
+            agreement.disagreements.push(format!("entry by entry: {reply:?}; read back: {other:?}; {asked:?}"));
+        }
+        match reply {
+            Err(Refusal { number: NO_FILE, .. }) => agreement.of_none += 1,
+            _ => agreement.of_a_file += 1,
+        }
     }
     agreement
 }

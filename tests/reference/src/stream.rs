@@ -1,5 +1,7 @@
-//! Records of files, questions and replays, one after the other in one run of bytes.
+//! Records of files, questions, replays and writings, one after the other in one run of bytes.
 
+use crate::flat::{Flat, SPACE};
+use crate::read::read;
 use crate::replay::{Lent, Record};
 
 /// A file record: its length in three bytes, low byte first, then its bytes.
@@ -37,14 +39,19 @@ pub struct Replay {
 impl Replay {
     /// What the memory and the record hold before the call.
     pub fn lent(&self) -> Lent {
-        let (m, k) = (usize::from(self.memory_from), usize::from(self.record_from));
+        let k = usize::from(self.record_from);
         let record = Record {
             states: [0, 1, 2, 3].map(|i| (k + i) as u8),
             heads: [0, 1, 2, 3].map(|i| 1000 * k + i),
             lengths: [0, 1, 2, 3].map(|i| 2000 * k + i),
         };
-        Lent { record, memory: (0..self.memory_length).map(|i| (m + 7 * i) as u8).collect() }
+        Lent { record, memory: filled(self.memory_length, self.memory_from) }
     }
+}
+
+/// What lent memory holds before a call.
+fn filled(length: usize, from: u8) -> Vec<u8> {
+    (0..length).map(|i| (usize::from(from) + 7 * i) as u8).collect()
 }
 
 /// A file record, a record of the trace like it, the length of the memory in two bytes, and the two bytes that what is
@@ -54,6 +61,81 @@ pub fn put_replay(stream: &mut Vec<u8>, replay: &Replay) {
     put_file(stream, &replay.trace);
     put_length(stream, replay.memory_length, 2);
     stream.extend([replay.memory_from, replay.record_from]);
+}
+
+/// A value stored in an entry of flat tables.
+#[derive(Clone, Copy, Debug, PartialEq, Eq)]
+pub struct Edit {
+    pub place: usize,
+    pub value: u8,
+}
+
+/// What becomes of the tables of a file before they are written.
+#[derive(Clone, Debug, PartialEq, Eq)]
+pub enum Handed {
+    /// These values are stored in turn; the product is that of the states then.
+    Edited(Vec<Edit>),
+    /// They stay, and this product is handed in beside them.
+    Product(usize),
+}
+
+/// Tables of a file, damaged or not, and the buffer that they are written to.
+#[derive(Clone, Debug, PartialEq, Eq)]
+pub struct Writing {
+    pub file: Vec<u8>,
+    pub buffer_length: usize,
+    pub buffer_from: u8,
+    pub handed: Handed,
+}
+
+impl Writing {
+    /// What the buffer holds before the call.
+    pub fn buffer(&self) -> Vec<u8> {
+        filled(self.buffer_length, self.buffer_from)
+    }
+
+    /// What the file is read into; all 0 if it is refused.
+    pub fn read(&self) -> Flat {
+        read(&self.file).map_or_else(|_| Flat::zero(), |tables| Flat::of(&tables))
+    }
+
+    /// The tables that are written, and the product beside them.
+    pub fn tables(&self) -> (Flat, usize) {
+        let mut flat = self.read();
+        match &self.handed {
+            Handed::Product(product) => (flat, *product),
+            Handed::Edited(edits) => {
+                for edit in edits {
+                    flat.0[edit.place] = edit.value;
+                }
+                let product = flat.product();
+                (flat, product)
+            }
+        }
+    }
+}
+
+/// A file record, then a record like it of the question: the buffer's length in two bytes, the byte it is made from, then
+/// a byte 0 and three bytes for each edit, its place and its value, or a byte 1 and the product in three bytes.
+pub fn put_writing(stream: &mut Vec<u8>, writing: &Writing) {
+    put_file(stream, &writing.file);
+    let mut question = Vec::new();
+    put_length(&mut question, writing.buffer_length, 2);
+    question.push(writing.buffer_from);
+    match &writing.handed {
+        Handed::Edited(edits) => {
+            question.push(0);
+            for edit in edits {
+                put_length(&mut question, edit.place, 2);
+                question.push(edit.value);
+            }
+        }
+        Handed::Product(product) => {
+            question.push(1);
+            put_length(&mut question, *product, 3);
+        }
+    }
+    put_file(stream, &question);
 }
 
 fn put_length(stream: &mut Vec<u8>, length: usize, bytes: usize) {
@@ -112,5 +194,40 @@ impl<'a> Records<'a> {
         let memory_length = self.number(2)?;
         let [memory_from, record_from] = [self.number(1)? as u8, self.number(1)? as u8];
         Ok(Replay { file: file.to_vec(), trace, memory_length, memory_from, record_from })
+    }
+
+    /// None at the end of the stream.
+    pub fn writing(&mut self) -> Option<Result<Writing, String>> {
+        let file = self.file()?;
+        Some(file.and_then(|file| self.rest_of_writing(file)))
+    }
+
+    fn rest_of_writing(&mut self, file: &[u8]) -> Result<Writing, String> {
+        let length = self.number(3)?;
+        let mut question = Records(self.take(length)?);
+        let buffer_length = question.number(2)?;
+        let buffer_from = question.number(1)? as u8;
+        let handed = match question.number(1)? {
+            0 => Handed::Edited(question.edits()?),
+            1 => Handed::Product(question.number(3)?),
+            mode => return Err(format!("a writing of mode {mode}")),
+        };
+        if !question.0.is_empty() {
+            return Err(format!("{} bytes are left of a writing", question.0.len()));
+        }
+        Ok(Writing { file: file.to_vec(), buffer_length, buffer_from, handed })
+    }
+
+    /// All that is left.
+    fn edits(&mut self) -> Result<Vec<Edit>, String> {
+        let mut edits = Vec::new();
+        while !self.0.is_empty() {
+            let edit = Edit { place: self.number(2)?, value: self.number(1)? as u8 };
+            if edit.place >= SPACE {
+                return Err(format!("an edit at place {}", edit.place));
+            }
+            edits.push(edit);
+        }
+        Ok(edits)
     }
 }

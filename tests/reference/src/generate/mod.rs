@@ -1,4 +1,4 @@
-//! Seeded generators of files, questions and replays. The same seed gives the same stream.
+//! Seeded generators of files, questions, replays and writings. The same seed gives the same stream.
 
 mod damage;
 pub mod disorder;
@@ -15,3 +15,5 @@ pub mod row_9;
 mod running;
 mod traces;
 pub mod verdicts;
+pub mod writing;
+mod writing_damage;

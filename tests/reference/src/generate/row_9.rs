@@ -83,7 +83,7 @@ impl Generator {
     }
 
     /// A plan of several queues with a root and a used state that lacks an arc, so that something can be added.
-    fn plan_of_queues(&mut self) -> Plan {
+    pub(super) fn plan_of_queues(&mut self) -> Plan {
         loop {
             let plan = self.small_plan();
             let lacks = |state: usize| plan.pool[state].arcs.len() < plan.message_sum();
