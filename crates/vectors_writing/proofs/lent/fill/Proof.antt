@@ -1,0 +1,73 @@
+use borrow.Author.Needs.{needs}
+use Prim.Native.Nat.{_≤_, _-_}
+use mathlib.Core.Path.{_≡_}
+use lib.ListN.{length}
+use Rattle.vectors_writing.proofs.lent.fill.Statement.{statement}
+use Rattle.vectors_writing.proofs.lent.fill.Tie as tie
+use Rattle.vectors_writing.proofs.lent.fill.Reads as reads
+use Rattle.vectors_writing.proofs.lent.fill.Lts as lts
+use Rattle.numbers.proofs.number.wide.Reads as wide-reads
+use Rattle.vectors_writing.proofs.lent.low.Reads as low-reads
+
+abbrev Inv-loop : tie.InvT-loop
+Inv-loop buffer₀ m byte₀ i₀ buffer byte i = (i ≤ length buffer₀) × (length buffer ≡ length buffer₀)
+
+abbrev μ-loop : tie.MeasureT-loop
+μ-loop buffer₀ m byte₀ i₀ buffer byte i = length buffer₀ - i
+
+-- src/lent.rt:12:5
+loop-holds : tie.Need-loop-holds Inv-loop μ-loop
+loop-holds c = search needs
+
+-- src/lent.rt:13:9
+slice-write-buffer : tie.Need-slice-write-buffer Inv-loop μ-loop
+slice-write-buffer c = search needs
+
+-- src/lent.rt:14:20
+wide-requires : tie.Need-wide-requires Inv-loop μ-loop
+wide-requires c κs = search needs
+
+-- src/lent.rt:14:20
+add-low : tie.Need-add-low Inv-loop μ-loop
+add-low c = search needs
+
+-- src/lent.rt:14:9
+low-requires : tie.Need-low-requires Inv-loop μ-loop
+low-requires c κs = search needs
+
+-- src/lent.rt:15:9
+add-i : tie.Need-add-i Inv-loop μ-loop
+add-i c = search needs
+
+-- src/lent.rt:12:5
+loop-less : tie.Need-loop-less Inv-loop μ-loop
+loop-less c = search needs
+
+-- src/lent.rt:12:5
+loop-again : tie.Need-loop-again Inv-loop μ-loop
+loop-again c = search needs
+
+-- src/lent.rt:9:1
+same-length : tie.Need-same-length Inv-loop μ-loop
+same-length c = search needs
+
+-- src/lent.rt:9:1
+returns : tie.Need-returns Inv-loop μ-loop
+returns c = search needs
+
+pub fill-spec : {M : Type 1} → statement M
+fill-spec =
+    tie.close
+    (tie.spec
+    Inv-loop
+    μ-loop
+    loop-holds
+    slice-write-buffer
+    wide-requires
+    add-low
+    low-requires
+    add-i
+    loop-less
+    loop-again
+    same-length
+    returns)
