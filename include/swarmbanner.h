@@ -1,8 +1,8 @@
 /*
- * Swarmbanner for C and C++: reading session files, membership, checking, and replaying traces.
+ * Swarmbanner for C and C++: reading and writing session files, membership, checking, and replaying traces.
  *
- * Each of the four takes any bytes as the file, also broken ones, and any lengths. It returns the kind of its reply, and
- * three numbers that go with it fill the front of `reply`; entries after these keep their values.
+ * Each of the five takes any bytes as the file or as the tables, also broken ones, and any lengths. It returns the kind of
+ * its reply, and three numbers that go with it fill the front of `reply`; entries after these keep their values.
  *
  *   kind                          reply[0]        reply[1]        reply[2]
  *   SWARMBANNER_CLOSED            pairs visited   0               0
@@ -15,6 +15,7 @@
  *   SWARMBANNER_STEP_REFUSED      number          place           steps taken
  *   SWARMBANNER_TRACE_REFUSED     1               16384           0
  *   SWARMBANNER_MEMORY_REFUSED    2               0               0
+ *   SWARMBANNER_WRITTEN           bytes written   0               0
  *   SWARMBANNER_NO_ROOM           nothing is written, here or elsewhere
  *
  * A program asks swarmbanner_fits() before its first other call: is the library of the layout that it was built for?
@@ -48,6 +49,7 @@ extern "C" {
 #define SWARMBANNER_STEP_REFUSED 11u
 #define SWARMBANNER_TRACE_REFUSED 12u
 #define SWARMBANNER_MEMORY_REFUSED 13u
+#define SWARMBANNER_WRITTEN 14u
 
 /* Numbers of a refusal. */
 #define SWARMBANNER_REFUSED_LONG 1u          /* more than 16,384 bytes, of a file or a trace; the place is 16,384 */
@@ -65,6 +67,8 @@ extern "C" {
 #define SWARMBANNER_REFUSED_EARLIER 13u      /* membership: message of an earlier queue than the one before it */
 #define SWARMBANNER_REFUSED_IMPOSSIBLE 14u   /* replaying: machine in another state, or queue without the word in front */
 #define SWARMBANNER_REFUSED_FULL 15u         /* replaying: a queue would pass 1,024 messages */
+#define SWARMBANNER_REFUSED_TABLES 16u       /* writing: tables that no file is read into; the place is 0 */
+#define SWARMBANNER_REFUSED_BUFFER 17u       /* writing: the buffer is shorter than the file; the place is 0 */
 
 /* The least that a call needs, in entries of the type that is lent. */
 #define SWARMBANNER_REPLY_LEAST 3u
@@ -162,6 +166,21 @@ static inline int swarmbanner_fits(void)
 size_t swarmbanner_read(const uint8_t *file, size_t file_len,
                         uint8_t *space, size_t space_len,
                         size_t *reply, size_t reply_len);
+
+/*
+ * Writes the session file that has these tables, which are as `swarmbanner_read` gives them: the first
+ * SWARMBANNER_SPACE_LEAST bytes of `tables`. What follows these is of no account. There is one such file at most, so reading
+ * and then writing gives back the bytes, and writing and then reading gives back the tables. No file has more than 11,664
+ * bytes, as far as is known; a buffer of SWARMBANNER_FILE_MOST bytes, 16,384, always suffices.
+ *
+ * WRITTEN: the file fills the front of `buffer`, the rest of it keeps its bytes.
+ * REFUSED, 16: no file is read into these tables, whatever is wrong with them; or `tables` has under SWARMBANNER_SPACE_LEAST
+ *   bytes. 17: `buffer` is shorter than the file. 16 is told before 17, and `buffer` is as it was.
+ * NO_ROOM: `reply` has under SWARMBANNER_REPLY_LEAST entries.
+ */
+size_t swarmbanner_write(const uint8_t *tables, size_t tables_len,
+                         uint8_t *buffer, size_t buffer_len,
+                         size_t *reply, size_t reply_len);
 
 /*
  * Do these contents, one byte for each message and queue after queue, belong to the set of this control state?

@@ -1,5 +1,5 @@
 /*
- * One input: all four calls on it, held to each other and to the definitions, on memory as `lend.h` lends it.
+ * One input: all five calls on it, held to each other and to the definitions, on memory as `lend.h` lends it.
  *
  * `fuzz.h` says what an input is. libFuzzer calls it, or `fuzz_loop.c`.
  */
@@ -7,6 +7,7 @@
 
 #include "fuzz.h"
 #include "lend.h"
+#include "spell.h"
 #include "swarmbanner.h"
 
 #define MORE 40
@@ -16,7 +17,7 @@
 #define MEMORY_ROOM (SWARMBANNER_QUEUES_MOST * SWARMBANNER_QUEUE_LEAST + MORE)
 
 static struct lend file_lend, asked_lend, trace_lend, space_lend, seen_lend, queue_lend, contents_lend, memory_lend,
-    record_lend, reply_lend;
+    record_lend, tables_lend, buffer_lend, reply_lend;
 
 #ifdef SWARMBANNER_LIBFUZZER
 #include "generate.h"
@@ -51,10 +52,10 @@ size_t LLVMFuzzerCustomMutator(uint8_t *data, size_t size, size_t most, unsigned
 
 static void reach(size_t kind, size_t first, size_t second)
 {
-    /* One refused file in many is enough to build upon, and one length of a replay. */
+    /* One refused file in many is enough to build upon, and one length of a replay or of a file written. */
     if (kind == SWARMBANNER_REFUSED || kind == SWARMBANNER_STEP_REFUSED)
         second /= 64;
-    if (kind == SWARMBANNER_END || kind == SWARMBANNER_LEFT)
+    if (kind == SWARMBANNER_END || kind == SWARMBANNER_LEFT || kind == SWARMBANNER_WRITTEN)
         first /= 64;
     reached[(kind * 911 + first * 131 + second) % sizeof reached] = 1;
 }
@@ -68,13 +69,16 @@ static void reach(size_t kind, size_t first, size_t second)
 #endif
 
 /* How often each kind of reply was met, so that a run that tries too little is seen to. */
-static unsigned long met[SWARMBANNER_MEMORY_REFUSED + 1];
+static unsigned long met[SWARMBANNER_WRITTEN + 1];
 
 /* Of files with a word of sixteen: how often they were closed, and left by sending or receiving one (1 and 2). */
 static unsigned long long_closed, long_left[3];
 
 /* How often a step was refused by each number, and how often a queue went round its bytes. */
 static unsigned long step_refused[SWARMBANNER_REFUSED_FULL + 1], went_round;
+
+/* How often writing refused by each number, and how often tables that were changed are those of another file. */
+static unsigned long write_refused[SWARMBANNER_REFUSED_BUFFER + 1], written_changed;
 
 static int has_met(unsigned long times, const char *what)
 {
@@ -92,21 +96,25 @@ int fuzz_met_enough(void)
            has_met(met[SWARMBANNER_MEMORY_REFUSED], "queue memory too short") & has_met(step_refused[3], "step refused by 3") &
            has_met(step_refused[4], "step refused by 4") & has_met(step_refused[5], "step refused by 5") &
            has_met(step_refused[14], "step refused by 14") & has_met(step_refused[15], "step refused by 15") &
-           has_met(went_round, "a queue that goes round");
+           has_met(went_round, "a queue that goes round") & has_met(met[SWARMBANNER_WRITTEN], "a file written") &
+           has_met(write_refused[16], "tables refused by 16") & has_met(write_refused[17], "a buffer refused by 17") &
+           has_met(written_changed, "tables changed and written");
 }
 
 static void report(void)
 {
     static const char *const names[] = {"closed", "outside", "leaves", "bad", "refused", "no room", "read", "yes", "no",
-                                        "end", "left", "step refused", "trace refused", "memory refused"};
+                                        "end", "left", "step refused", "trace refused", "memory refused", "written"};
     size_t kind;
 
-    for (kind = 0; kind <= SWARMBANNER_MEMORY_REFUSED; kind++)
-        printf("%s %lu%s", names[kind], met[kind], kind < SWARMBANNER_MEMORY_REFUSED ? ", " : "\n");
+    for (kind = 0; kind <= SWARMBANNER_WRITTEN; kind++)
+        printf("%s %lu%s", names[kind], met[kind], kind < SWARMBANNER_WRITTEN ? ", " : "\n");
     printf("words of %u: closed %lu, left by sending %lu, by receiving %lu\n", SWARMBANNER_WORD_MOST, long_closed,
            long_left[1], long_left[2]);
     printf("steps refused: by 3 %lu, 4 %lu, 5 %lu, 14 %lu, 15 %lu; queues that went round %lu\n", step_refused[3],
            step_refused[4], step_refused[5], step_refused[14], step_refused[15], went_round);
+    printf("tables changed and written %lu; writing refused: by 16 %lu, 17 %lu\n", written_changed, write_refused[16],
+           write_refused[17]);
 }
 
 static void must(int holds, const char *what)
@@ -134,11 +142,12 @@ static int is(const struct told *told, size_t kind, size_t first, size_t second)
 /* How much is lent of what. Mostly enough; else one of them is one short, or much shorter. */
 struct lengths {
     size_t space, seen, queue, contents, record, reply;
-    size_t memory_less, memory_more; /* than the queues of the file want */
+    size_t memory_less, tables_less, buffer_less; /* than the queues of the file, the tables and the file want */
+    size_t more;                                  /* than these */
 };
 
 static const struct lengths enough = {SWARMBANNER_SPACE_LEAST, SWARMBANNER_TABLE_LEAST, SWARMBANNER_TABLE_LEAST,
-                                      SWARMBANNER_CONTENTS_LEAST, SWARMBANNER_RECORD_LEAST, SWARMBANNER_REPLY_LEAST, 0, 0};
+                                      SWARMBANNER_CONTENTS_LEAST, SWARMBANNER_RECORD_LEAST, SWARMBANNER_REPLY_LEAST, 0, 0, 0, 0};
 
 static struct lengths lengths_of(uint8_t choice)
 {
@@ -147,6 +156,8 @@ static struct lengths lengths_of(uint8_t choice)
     size_t more = choice % MORE;
 
     switch (choice / 16) {
+    case 7: n.tables_less = less; break;
+    case 8: n.buffer_less = less; break;
     case 9: n.memory_less = less * 300; break;
     case 10: n.record -= less; break;
     case 11: n.space -= less; break;
@@ -161,7 +172,7 @@ static struct lengths lengths_of(uint8_t choice)
         n.contents += more;
         n.record += more;
         n.reply += more;
-        n.memory_more = more;
+        n.more = more;
     }
     return n;
 }
@@ -176,7 +187,7 @@ static struct told told_of(size_t kind, const struct lengths *n)
 {
     struct told told = {kind, {0, 0, 0}};
 
-    must(kind <= SWARMBANNER_MEMORY_REFUSED, "no kind of reply");
+    must(kind <= SWARMBANNER_WRITTEN, "no kind of reply");
     met[kind]++;
     if (!has_room(n)) {
         must(kind == SWARMBANNER_NO_ROOM, "a reply without room");
@@ -544,7 +555,7 @@ static void call_replay(const struct lengths *n, const struct told *read)
 {
     static struct run run;
     size_t queues = read->kind == SWARMBANNER_READ ? tables[SWARMBANNER_AT_COUNTS + 1] : 1;
-    size_t wanted = queues * SWARMBANNER_QUEUE_LEAST, length = wanted + n->memory_more - n->memory_less;
+    size_t wanted = queues * SWARMBANNER_QUEUE_LEAST, length = wanted + n->more - n->memory_less;
     uint8_t *memory = lend_bytes(&memory_lend, length);
     size_t *record = lend_bytes(&record_lend, n->record * sizeof(size_t));
     size_t expected_record[SWARMBANNER_RECORD_LEAST] = {0};
@@ -589,6 +600,104 @@ static void call_replay(const struct lengths *n, const struct told *read)
         went_round += run.sent[i] > SWARMBANNER_QUEUE_LEAST;
     }
     must(lend_kept_from(&memory_lend, wanted), "memory after the queues has changed");
+}
+
+/* The length of the file with these tables, or 0 where there is none: they are spelled, and read again. */
+static size_t expected_file(const uint8_t *wanted, uint8_t *bytes)
+{
+    static uint8_t again[SWARMBANNER_SPACE_LEAST];
+    size_t reply[SWARMBANNER_REPLY_LEAST], length = spell_file(wanted, bytes);
+    size_t kind = swarmbanner_read(bytes, length, again, sizeof again, reply, SWARMBANNER_REPLY_LEAST);
+
+    return kind == SWARMBANNER_READ && memcmp(again, wanted, sizeof again) == 0 ? length : 0;
+}
+
+/* Lends tables, cut short or with dirt after them. */
+static const uint8_t *lend_tables(const uint8_t *wanted, size_t length)
+{
+    uint8_t *lent = lend_bytes(&tables_lend, length);
+
+    memcpy(lent, wanted, length < SWARMBANNER_SPACE_LEAST ? length : SWARMBANNER_SPACE_LEAST);
+    return lent;
+}
+
+/* Writing these tables says what it must, and leaves the buffer as it must. */
+static struct told call_write(const struct lengths *n, const uint8_t *wanted)
+{
+    static uint8_t bytes[SPELLED_MOST];
+    size_t length = expected_file(wanted, bytes), tables_len = SWARMBANNER_SPACE_LEAST + n->more - n->tables_less;
+    /* where there is no file, any length will do */
+    size_t room = (length > 0 ? length : SWARMBANNER_SPACE_LEAST) + n->more - n->buffer_less;
+    const uint8_t *lent = lend_tables(wanted, tables_len);
+    uint8_t *buffer = lend_bytes(&buffer_lend, room);
+    struct told expected = {SWARMBANNER_REFUSED, {0, 0, 0}};
+    struct told told = told_of(swarmbanner_write(lent, tables_len, buffer, room, lend_reply(n), n->reply), n);
+
+    if (!has_room(n)) {
+        must(lend_kept(&buffer_lend), "the buffer has changed without room for a reply");
+        return told;
+    }
+    if (tables_len < SWARMBANNER_SPACE_LEAST || length == 0) {
+        expected.number[0] = SWARMBANNER_REFUSED_TABLES;
+    } else if (room < length) {
+        expected.number[0] = SWARMBANNER_REFUSED_BUFFER;
+    } else {
+        expected.kind = SWARMBANNER_WRITTEN;
+        expected.number[0] = length;
+    }
+    must(same(&told, &expected), "writing says something else");
+    reach(told.kind, told.number[0], 0);
+    if (told.kind == SWARMBANNER_REFUSED) {
+        write_refused[told.number[0]]++;
+        must(lend_kept(&buffer_lend), "the buffer has changed after a refusal");
+        return told;
+    }
+    must(memcmp(buffer, bytes, length) == 0, "another file is written");
+    must(lend_kept_from(&buffer_lend, length), "the rest of the buffer has changed");
+    return told;
+}
+
+/* Changes an entry of tables, mostly one that is in use: which table, where in it, and how is said by a byte each. */
+static void damage(uint8_t *damaged, const uint8_t *how)
+{
+    static const size_t at[] = {SWARMBANNER_AT_COUNTS, SWARMBANNER_AT_STATES, SWARMBANNER_AT_STARTS,
+                                SWARMBANNER_AT_MESSAGES, SWARMBANNER_AT_TRANSITIONS, SWARMBANNER_AT_FINALS,
+                                SWARMBANNER_AT_ARCS, SWARMBANNER_AT_ROOTS, SWARMBANNER_AT_BAD, SWARMBANNER_SPACE_LEAST};
+    size_t table = how[0] % 9, size = at[table + 1] - at[table], place;
+    int is_near = how[0] < 128;
+
+    if (is_near && size > MORE)
+        size = MORE;
+    place = at[table] + (how[1] * 31u + how[2]) % size;
+    damaged[place] = (uint8_t)(is_near ? damaged[place] + how[2] % 3 - 1u : how[2]);
+}
+
+/*
+ * The tables of a file that is read are written as the file; damaged as the pattern says, as another file or not at all. A file
+ * that is refused is put in the place of tables, for bytes of any kind.
+ */
+static void calls_of_writing(const struct lengths *n, int is_read, const uint8_t *pattern, size_t count)
+{
+    static uint8_t damaged[SWARMBANNER_SPACE_LEAST];
+    struct told told;
+    size_t i;
+
+    if (is_read) {
+        memcpy(damaged, tables, sizeof damaged);
+        told = call_write(n, damaged);
+        if (told.kind == SWARMBANNER_WRITTEN)
+            must(told.number[0] == file_len && memcmp(lend_at(&buffer_lend), file, file_len) == 0,
+                 "what is written is not what was read");
+    } else {
+        memset(damaged, 0, sizeof damaged);
+        memcpy(damaged, file, file_len < sizeof damaged ? file_len : sizeof damaged);
+    }
+    for (i = 0; i < 6 && i + 3 <= count; i += 3) {
+        damage(damaged, pattern + i);
+        if (call_write(&enough, damaged).kind == SWARMBANNER_WRITTEN)
+            written_changed += is_read && memcmp(damaged, tables, sizeof damaged) != 0;
+    }
+    call_write(n, damaged);
 }
 
 /* A verdict means what it says, as far as it can be seen from here. */
@@ -649,6 +758,7 @@ static void calls_agree(const struct lengths *n, const uint8_t *head, const uint
 
     make_trace(pattern, pattern_len, head[INPUT_TRACE], read.kind == SWARMBANNER_READ);
     call_replay(n, &read);
+    calls_of_writing(n, read.kind == SWARMBANNER_READ, pattern, pattern_len);
 
     member = call_member(control, asked, count, n);
     expected = read.kind == SWARMBANNER_REFUSED ? read : expected_member(control, asked, count);
@@ -681,6 +791,8 @@ static void make_room(void)
     lend_make(&contents_lend, SWARMBANNER_CONTENTS_LEAST + MORE);
     lend_make(&memory_lend, MEMORY_ROOM);
     lend_make(&record_lend, (SWARMBANNER_RECORD_LEAST + MORE) * sizeof(size_t));
+    lend_make(&tables_lend, SWARMBANNER_SPACE_LEAST + MORE);
+    lend_make(&buffer_lend, SWARMBANNER_FILE_MOST + MORE);
     lend_make(&reply_lend, (SWARMBANNER_REPLY_LEAST + MORE) * sizeof(size_t));
     atexit(report);
 }

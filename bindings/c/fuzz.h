@@ -1,4 +1,7 @@
-/* What an input of `fuzz.c` is made of: a head, the messages asked about, a pattern for the trace, and the file. */
+/*
+ * What an input of `fuzz.c` is made of: a head, the messages asked about, a pattern for the trace and for what is changed in
+ * the tables, and the file.
+ */
 #ifndef FUZZ_H
 #define FUZZ_H
 

@@ -1,6 +1,6 @@
 /*
  * Stands in for a library of another layout: each call answers what a program that does not ask first would print as
- * `closed 0` or `end 0`.
+ * `closed 0`, `end 0` or `written 0`.
  */
 #include "swarmbanner.h"
 
@@ -46,4 +46,11 @@ size_t swarmbanner_replay(const uint8_t *file, size_t file_len, const uint8_t *t
 {
     (void)file, (void)file_len, (void)trace, (void)trace_len, (void)memory, (void)memory_len, (void)record, (void)record_len;
     return answer(SWARMBANNER_END, reply, reply_len);
+}
+
+size_t swarmbanner_write(const uint8_t *tables, size_t tables_len, uint8_t *buffer, size_t buffer_len,
+                         size_t *reply, size_t reply_len)
+{
+    (void)tables, (void)tables_len, (void)buffer, (void)buffer_len;
+    return answer(SWARMBANNER_WRITTEN, reply, reply_len);
 }

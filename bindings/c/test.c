@@ -1,18 +1,12 @@
 /*
- * What the header promises, call by call: the fourteen cases of document 01, long words, replays worked out by hand, and
- * what is done to lent memory.
+ * What the header promises, call by call: the fourteen cases of document 01, long words, replays worked out by hand, files
+ * written back and tables that no file has, and what is done to lent memory.
  */
 #define _DEFAULT_SOURCE
 
-#include "lend.h"
-#include "swarmbanner.h"
-
-#define R_HEAD "020101000001010200000001000100010000020001 00"
-#define R R_HEAD "01 01 01 00 00 01 00"
-#define S_HEAD "01010002010101"
-#define S_SEND "00000001000100"
-#define S_POOL "02 01 02 00 00 01 01 01 01 01 01"
-#define S S_HEAD S_SEND S_POOL "01 00"
+#include "calls.h"
+#include "files.h"
+#include "test_write.h"
 
 /* Two states, messages 1 to 16 in queue 1; sent in that order, received in the other. */
 #define W_HEAD "01 02 00 02 01 10 "
@@ -25,135 +19,6 @@
 #define RECEIVED W_HEAD "01 000101 0201 10" UP "13 0100" \
     "00010002 00010103 00010204 00010305 00010406 00010507 00010608 00010709 0001080a" \
     "0001090b 00010a0c 00010b0d 00010c0e 00010d0f 00010e10 00010f11 00011012 0100" "01 02 00"
-
-/*
- * One machine of three states, two queues with messages 0, 1 and 2, 3; anything may wait. Transitions: 0 goes from 0 to 1
- * and sends 0 1, 1 from 1 to 2 and sends 3 2, 2 from 2 to 0 and receives 0, 3 from 0 to 0 and receives 1, 4 from 0 to 0 and
- * receives 3 2, 5 from 0 to 2, 6 from 0 to 0 and receives nothing from queue 1.
- */
-#define M "01 03 00 02 02 02 07 000001 01 00 02 0001 000102 01 01 02 0302 000200 02 00 01 00" \
-    "000000 02 00 01 01 000000 02 01 02 0302 000002 00 000000 02 01 00" \
-    "02 01 04 00 00 01 00 02 01 03 01 01 02 02 01 03 01 01 01 01 00"
-
-#define MORE 1000
-
-static struct lend file_lend, member_lend, space_lend, seen_lend, queue_lend, contents_lend, reply_lend;
-static struct lend trace_lend, memory_lend, record_lend;
-static unsigned tests, failures;
-
-static void expect(int holds, const char *what, const char *name)
-{
-    tests++;
-    if (!holds) {
-        failures++;
-        printf("FAILED: %s (%s)\n", what, name);
-    }
-}
-
-/* How many entries of each kind are lent. */
-struct lengths {
-    size_t space, seen, queue, contents, memory, record, reply;
-};
-
-#define MEMORY_LEAST (SWARMBANNER_QUEUES_MOST * SWARMBANNER_QUEUE_LEAST)
-
-static const struct lengths least = {SWARMBANNER_SPACE_LEAST, SWARMBANNER_TABLE_LEAST, SWARMBANNER_TABLE_LEAST,
-                                     SWARMBANNER_CONTENTS_LEAST, MEMORY_LEAST, SWARMBANNER_RECORD_LEAST,
-                                     SWARMBANNER_REPLY_LEAST};
-
-static struct lengths plenty(void)
-{
-    struct lengths more = least;
-
-    more.space += MORE;
-    more.seen += MORE;
-    more.queue += 2 * MORE;
-    more.contents += MORE;
-    more.memory += MORE;
-    more.record += 7;
-    more.reply += 5;
-    return more;
-}
-
-/* A null pointer where nothing is lent. */
-static void *lend_or_null(struct lend *lend, size_t bytes)
-{
-    void *lent = lend_bytes(lend, bytes);
-
-    return bytes == 0 ? NULL : lent;
-}
-
-static size_t *lend_reply(struct lengths n)
-{
-    return lend_or_null(&reply_lend, n.reply * sizeof(size_t));
-}
-
-static size_t call_read(const uint8_t *file, size_t length, struct lengths n)
-{
-    return swarmbanner_read(file, length, lend_or_null(&space_lend, n.space), n.space, lend_reply(n), n.reply);
-}
-
-static size_t call_check(const uint8_t *file, size_t length, struct lengths n)
-{
-    uint16_t *seen = lend_or_null(&seen_lend, n.seen * sizeof(uint16_t));
-    uint16_t *queue = lend_or_null(&queue_lend, n.queue * sizeof(uint16_t));
-    uint8_t *contents = lend_or_null(&contents_lend, n.contents);
-
-    return swarmbanner_check(file, length, seen, n.seen, queue, n.queue, contents, n.contents, lend_reply(n), n.reply);
-}
-
-static size_t call_replay(const uint8_t *file, size_t length, const uint8_t *trace, size_t trace_length, struct lengths n)
-{
-    uint8_t *memory = lend_or_null(&memory_lend, n.memory);
-    size_t *record = lend_or_null(&record_lend, n.record * sizeof(size_t));
-
-    return swarmbanner_replay(file, length, trace, trace_length, memory, n.memory, record, n.record, lend_reply(n),
-                              n.reply);
-}
-
-static int replied(size_t first, size_t second, size_t third)
-{
-    size_t reply[SWARMBANNER_REPLY_LEAST];
-
-    memcpy(reply, lend_at(&reply_lend), sizeof reply);
-    return reply[0] == first && reply[1] == second && reply[2] == third && lend_kept_from(&reply_lend, sizeof reply);
-}
-
-static int memory_kept(void)
-{
-    return lend_kept(&seen_lend) && lend_kept(&queue_lend) && lend_kept(&contents_lend);
-}
-
-static int run_kept(void)
-{
-    return lend_kept(&memory_lend) && lend_kept(&record_lend);
-}
-
-static int digit(char c)
-{
-    return c <= '9' ? c - '0' : c - 'a' + 10;
-}
-
-/* The bytes of a text in hex, spaces left out, so placed that their end is the end of a page. */
-static const uint8_t *hex_in(struct lend *lend, const char *text, size_t *length)
-{
-    static uint8_t bytes[256];
-    size_t digits = 0;
-
-    for (; *text != '\0'; text++) {
-        if (*text == ' ')
-            continue;
-        bytes[digits / 2] = (uint8_t)(bytes[digits / 2] * 16 + digit(*text));
-        digits++;
-    }
-    *length = digits / 2;
-    return lend_copy(lend, bytes, *length);
-}
-
-static const uint8_t *hex(const char *text, size_t *length)
-{
-    return hex_in(&file_lend, text, length);
-}
 
 struct worked {
     const char *name, *file;
@@ -247,6 +112,9 @@ static void no_room(void)
         expect(lend_kept(&reply_lend), "member without room touches nothing", names[n.reply]);
         expect(call_replay(file, length, NULL, 0, n) == SWARMBANNER_NO_ROOM, "replay has no room", names[n.reply]);
         expect(run_kept() && lend_kept(&reply_lend), "replay without room touches nothing", names[n.reply]);
+        /* tables that no file has; more of this is with writing */
+        expect(call_write(NULL, 0, n) == SWARMBANNER_NO_ROOM, "write has no room", names[n.reply]);
+        expect(lend_kept(&buffer_lend) && lend_kept(&reply_lend), "write without room touches nothing", names[n.reply]);
     }
     n = least;
     n.space = SWARMBANNER_SPACE_LEAST - 1;
@@ -289,7 +157,7 @@ static void short_memory(void)
 static void long_files(void)
 {
     static uint8_t bytes[SWARMBANNER_FILE_MOST + 1];
-    struct lengths none = {0, 0, 0, 0, 0, SWARMBANNER_RECORD_LEAST, SWARMBANNER_REPLY_LEAST};
+    struct lengths none = {0, 0, 0, 0, 0, SWARMBANNER_RECORD_LEAST, 0, SWARMBANNER_REPLY_LEAST};
     const uint8_t *file;
 
     memset(bytes, 5, sizeof bytes);
@@ -311,6 +179,8 @@ static void null_with_nothing(void)
                replied(3, 0, 0), "no file", "member");
     expect(call_replay(NULL, 0, NULL, 0, least) == SWARMBANNER_REFUSED && replied(3, 0, 0), "no file", "replay");
     expect(run_kept(), "record and memory are kept", "no file");
+    expect(call_write(NULL, 0, least) == SWARMBANNER_REFUSED && replied(16, 0, 0), "no tables", "write");
+    expect(lend_kept(&buffer_lend), "the buffer is kept", "no tables");
 }
 
 static size_t ask(const char *text, size_t control, const uint8_t *contents, size_t count)
@@ -608,12 +478,16 @@ int main(void)
     lend_make(&trace_lend, SWARMBANNER_TRACE_MOST + 1);
     lend_make(&memory_lend, most.memory);
     lend_make(&record_lend, most.record * sizeof(size_t));
+    lend_make(&tables_lend, SWARMBANNER_SPACE_LEAST + MORE);
+    lend_make(&buffer_lend, most.buffer);
     lend_make(&reply_lend, most.reply * sizeof(size_t));
     for (i = 0; i < CASES; i++) {
         check_case(&cases[i], least);
         check_case(&cases[i], plenty());
         read_case(&cases[i], least);
         read_case(&cases[i], plenty());
+        if (cases[i].kind != SWARMBANNER_REFUSED)
+            write_text(cases[i].name, cases[i].file);
     }
     for (i = 0; i < sizeof replays / sizeof *replays; i++) {
         replay_case(&replays[i], least);
@@ -632,6 +506,7 @@ int main(void)
     full_queue();
     queue_goes_round();
     same_bytes();
+    writing();
     printf("%u tests, %u failures\n", tests, failures);
     return failures > 0;
 }

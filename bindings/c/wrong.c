@@ -4,6 +4,8 @@
  */
 #include "swarmbanner.h"
 
+#include <string.h>
+
 #define SPACE_ARGUMENTS file, file_len, space, space_len, reply, reply_len
 #define MEMBER_ARGUMENTS file, file_len, control, contents, contents_len, reply, reply_len
 #define CHECK_ARGUMENTS file, file_len, seen, seen_len, queue, queue_len, contents, contents_len, reply, reply_len
@@ -19,6 +21,11 @@
     size_t name(const uint8_t *file, size_t file_len, uint16_t *seen, size_t seen_len, uint16_t *queue, size_t queue_len, \
                 uint8_t *contents, size_t contents_len, size_t *reply, size_t reply_len)
 
+#define WRITE_ARGUMENTS tables, tables_len, buffer, buffer_len, reply, reply_len
+#define WRITE(name) \
+    size_t name(const uint8_t *tables, size_t tables_len, uint8_t *buffer, size_t buffer_len, size_t *reply, \
+                size_t reply_len)
+
 #define REPLAY(name) \
     size_t name(const uint8_t *file, size_t file_len, const uint8_t *trace, size_t trace_len, uint8_t *memory, \
                 size_t memory_len, size_t *record, size_t record_len, size_t *reply, size_t reply_len)
@@ -33,6 +40,8 @@ CHECK(__real_swarmbanner_check);
 CHECK(__wrap_swarmbanner_check);
 REPLAY(__real_swarmbanner_replay);
 REPLAY(__wrap_swarmbanner_replay);
+WRITE(__real_swarmbanner_write);
+WRITE(__wrap_swarmbanner_write);
 
 size_t __wrap_swarmbanner_layout(void)
 {
@@ -192,6 +201,132 @@ REPLAY(__wrap_swarmbanner_replay)
         reply[SWARMBANNER_REPLY_LEAST] = 0;
     /* the byte after the trace */
     if (FAULT == 43 && trace_len > 0 && ((const volatile uint8_t *)trace)[trace_len] == 0)
+        return kind;
+    return kind;
+}
+
+/* Puts tables right in one way, so that what is wrong with them so is not seen. */
+static void mend(uint8_t *tables)
+{
+    uint8_t *counts = tables + SWARMBANNER_AT_COUNTS, *finals = tables + SWARMBANNER_AT_FINALS;
+    size_t i;
+
+    /* a mark of 2; then what is beyond the bad entries, the roots of a machine's control states, and the transitions */
+    for (i = 0; FAULT == 44 && i < SWARMBANNER_POOL_STATES_MOST; i++)
+        finals[i] = finals[i] > 0;
+    if (FAULT == 45 && counts[5] <= SWARMBANNER_BAD_ENTRIES_MOST)
+        memset(tables + SWARMBANNER_AT_BAD + counts[5] * SWARMBANNER_BAD_ROW, 0,
+               (SWARMBANNER_BAD_ENTRIES_MOST - counts[5]) * SWARMBANNER_BAD_ROW);
+    if (FAULT == 46 && counts[0] == 1)
+        memset(tables + SWARMBANNER_AT_ROOTS + tables[SWARMBANNER_AT_STATES], 0,
+               SWARMBANNER_CONTROL_STATES_MOST - tables[SWARMBANNER_AT_STATES]);
+    if (FAULT == 47 && counts[3] <= SWARMBANNER_TRANSITIONS_MOST)
+        memset(tables + SWARMBANNER_AT_TRANSITIONS + counts[3] * SWARMBANNER_TRANSITION_ROW, 0,
+               (SWARMBANNER_TRANSITIONS_MOST - counts[3]) * SWARMBANNER_TRANSITION_ROW);
+    /* a local transition with a queue or a word; the rest of a word */
+    for (i = 0; i < SWARMBANNER_TRANSITIONS_MOST; i++) {
+        uint8_t *row = tables + SWARMBANNER_AT_TRANSITIONS + i * SWARMBANNER_TRANSITION_ROW;
+
+        if (FAULT == 48 && row[3] == 0)
+            memset(row + 4, 0, SWARMBANNER_TRANSITION_ROW - 4);
+        if (FAULT == 49 && row[5] <= SWARMBANNER_WORD_MOST)
+            memset(row + SWARMBANNER_TRANSITION_WORD + row[5], 0, SWARMBANNER_WORD_MOST - row[5]);
+    }
+    /* the sum of the messages, and queue order */
+    if (FAULT == 50)
+        counts[2] = (uint8_t)(tables[SWARMBANNER_AT_MESSAGES] + tables[SWARMBANNER_AT_MESSAGES + 1]);
+    if (FAULT == 51)
+        memset(finals, 0, SWARMBANNER_POOL_STATES_MOST);
+}
+
+/* Exchanges from and to of the first transition, or the marks of the first two pool states. */
+static void exchange(uint8_t *tables)
+{
+    uint8_t *at = tables + (FAULT == 52 ? SWARMBANNER_AT_TRANSITIONS + 1 : SWARMBANNER_AT_FINALS);
+    uint8_t first = at[0];
+
+    if (FAULT == 53 && tables[SWARMBANNER_AT_COUNTS + 4] < 2)
+        return;
+    at[0] = at[1];
+    at[1] = first;
+}
+
+/* Does something to what was written, or to the reply that says so. */
+static void spoil_file(uint8_t *buffer, size_t buffer_len, size_t *reply)
+{
+    size_t length = reply[0];
+
+    if (FAULT == 54)
+        reply[0]--;
+    if (FAULT == 55)
+        reply[1] = length;
+    if (FAULT == 56)
+        reply[2] = 1;
+    if (FAULT == 57 && buffer_len > length)
+        buffer[length] = 0;
+    if (FAULT == 58 && buffer_len > length)
+        buffer[buffer_len - 1] = 0;
+    if (FAULT == 59)
+        buffer[-1] = 0;
+    if (FAULT == 60)
+        buffer[length - 1] ^= 1;
+}
+
+WRITE(__wrap_swarmbanner_write)
+{
+    static uint8_t other[SWARMBANNER_SPACE_LEAST], room[SWARMBANNER_FILE_MOST];
+    size_t kind = __real_swarmbanner_write(WRITE_ARGUMENTS);
+
+    if (kind == SWARMBANNER_REFUSED && tables_len >= sizeof other && reply[0] == SWARMBANNER_REFUSED_TABLES) {
+        memcpy(other, tables, sizeof other);
+        mend(other);
+        kind = __real_swarmbanner_write(other, sizeof other, buffer, buffer_len, reply, reply_len);
+    }
+    if ((FAULT == 52 || FAULT == 53) && kind == SWARMBANNER_WRITTEN) {
+        memcpy(other, tables, sizeof other);
+        exchange(other);
+        __real_swarmbanner_write(other, sizeof other, room, sizeof room, reply, reply_len);
+        if (reply[0] <= buffer_len)
+            memcpy(buffer, room, reply[0]);
+    }
+    if (kind == SWARMBANNER_WRITTEN)
+        spoil_file(buffer, buffer_len, reply);
+    if (FAULT == 61 && kind == SWARMBANNER_REFUSED && reply[0] == SWARMBANNER_REFUSED_TABLES && buffer_len == 0)
+        reply[0] = SWARMBANNER_REFUSED_BUFFER;
+    if (FAULT == 62 && kind == SWARMBANNER_REFUSED && reply[0] == SWARMBANNER_REFUSED_TABLES && buffer_len > 0)
+        buffer[0] = 0;
+    if (FAULT == 63 && kind == SWARMBANNER_REFUSED && reply[0] == SWARMBANNER_REFUSED_BUFFER && buffer_len > 0)
+        buffer[0] = tables[0];
+    if (FAULT == 64 && kind == SWARMBANNER_REFUSED)
+        reply[1] = SWARMBANNER_SPACE_LEAST;
+    if (FAULT == 65 && kind == SWARMBANNER_REFUSED && reply[0] == SWARMBANNER_REFUSED_BUFFER) {
+        /* what there is room for */
+        __real_swarmbanner_write(tables, tables_len, room, sizeof room, reply, reply_len);
+        memcpy(buffer, room, buffer_len);
+        kind = SWARMBANNER_WRITTEN;
+    }
+    if (FAULT == 66 && tables_len == SWARMBANNER_SPACE_LEAST - 1 && kind == SWARMBANNER_REFUSED) {
+        memcpy(other, tables, tables_len);
+        other[tables_len] = 0;
+        kind = __real_swarmbanner_write(other, sizeof other, buffer, buffer_len, reply, reply_len);
+    }
+    if (FAULT == 67 && kind == SWARMBANNER_WRITTEN && tables_len > SWARMBANNER_SPACE_LEAST) {
+        reply[0] = SWARMBANNER_REFUSED_TABLES;
+        kind = SWARMBANNER_REFUSED;
+    }
+    if (FAULT == 68 && kind == SWARMBANNER_NO_ROOM && reply_len > 0)
+        reply[0] = 0;
+    if (FAULT == 69 && kind == SWARMBANNER_NO_ROOM && buffer_len > 0)
+        buffer[0] = 0;
+    if (FAULT == 70 && kind != SWARMBANNER_NO_ROOM && reply_len > SWARMBANNER_REPLY_LEAST)
+        reply[SWARMBANNER_REPLY_LEAST] = 0;
+    /* refuses what a file has: more than 127 transitions */
+    if (FAULT == 71 && kind == SWARMBANNER_WRITTEN && tables[SWARMBANNER_AT_COUNTS + 3] == SWARMBANNER_TRANSITIONS_MOST) {
+        reply[0] = SWARMBANNER_REFUSED_TABLES;
+        kind = SWARMBANNER_REFUSED;
+    }
+    /* the byte after the tables */
+    if (FAULT == 72 && tables_len > 0 && ((const volatile uint8_t *)tables)[tables_len] == 0)
         return kind;
     return kind;
 }

@@ -1,4 +1,4 @@
-//! One file: all four calls, with lengths and dirt chosen for it, beside the reference.
+//! One file: all five calls, with lengths and dirt chosen for it, beside the reference.
 
 use reference_checker::membership::membership;
 use reference_checker::random::Random;
@@ -14,9 +14,10 @@ use crate::lend::Lent;
 use crate::tally::Tally;
 use crate::traces::trace;
 use crate::typed::{same_run, same_session};
+use crate::writing::Writer;
 
 /// Most entries that are lent beyond the least.
-const MORE: usize = 70;
+pub const MORE: usize = 70;
 /// Most bytes of queue memory that are lent.
 pub const MEMORY_MOST: usize = 2 * QUEUES * QUEUE_LEAST;
 /// More of a trace is not shown in a complaint.
@@ -34,6 +35,7 @@ pub struct Comparer {
     reply: Lent<usize>,
     checker: Checker,
     replayer: Replayer,
+    writer: Writer,
     scratch: Scratch,
     pub tally: Tally,
 }
@@ -41,7 +43,7 @@ pub struct Comparer {
 /// A kind and the three numbers that go with it.
 type Told = (usize, [usize; 3]);
 
-fn refused(refusal: &Refusal) -> Told {
+pub fn refused(refusal: &Refusal) -> Told {
     (lent::REFUSED, [usize::from(refusal.number), refusal.place, 0])
 }
 
@@ -76,7 +78,7 @@ fn shown(reply: &Reply) -> &[u8] {
     }
 }
 
-fn demand(holds: bool, what: &str) -> Result<(), String> {
+pub fn demand(holds: bool, what: &str) -> Result<(), String> {
     if holds {
         Ok(())
     } else {
@@ -85,7 +87,7 @@ fn demand(holds: bool, what: &str) -> Result<(), String> {
 }
 
 /// The least or a little more, and now and then too little.
-fn length(random: &mut Random, least: usize) -> usize {
+pub fn length(random: &mut Random, least: usize) -> usize {
     match random.below(50) {
         0 => least - 1,
         1 => random.below(least),
@@ -108,6 +110,7 @@ impl Comparer {
             reply: Lent::new(REPLY_LEAST + MORE, || random.between(1, usize::MAX - 1)),
             checker: Checker::new(),
             replayer: Replayer::new(),
+            writer: Writer::new(&mut random),
             scratch: Scratch::default(),
             tally: Tally::default(),
         }
@@ -117,6 +120,7 @@ impl Comparer {
     pub fn compare(&mut self, file: &[u8], random: &mut Random, checks: bool) -> Result<(), String> {
         let tables = read(file);
         self.compare_reading(file, &tables, random)?;
+        self.writer.compare(file, &tables, random, &mut self.tally)?;
         for _ in 0..2 {
             self.compare_membership(file, &tables, random)?;
         }
@@ -321,7 +325,10 @@ impl Comparer {
 
 fn compare_session(file: &[u8], tables: &Result<Tables, Refusal>) -> Result<(), String> {
     match (swarmbanner::read(file), tables) {
-        (Ok(session), Ok(tables)) => demand(same_session(&session, tables), "read: the typed session differs"),
+        (Ok(session), Ok(tables)) => {
+            demand(same_session(&session, tables), "read: the typed session differs")?;
+            demand(session.write().as_deref() == Ok(file), "write: the typed session is not written back")
+        }
         (Err(one), Err(other)) => demand(one.to_string() == other.to_string(), "read: the typed refusal differs"),
         _ => Err("read: only one side refuses".to_string()),
     }

@@ -1,12 +1,15 @@
 //! The library that C calls, beside the reference, on generated and damaged files.
 
 mod compare;
+mod damage;
 mod files;
 mod flat;
 mod lend;
 mod tally;
 mod traces;
 mod typed;
+mod write;
+mod writing;
 
 use std::process::ExitCode;
 use std::sync::atomic::{AtomicBool, AtomicU64, Ordering};

@@ -6,6 +6,8 @@ use reference_checker::read::{read, Kind, Tables, Transition, WORD_LENGTH};
 use reference_checker::replay::{Answer, Reply as Replayed, QUEUE_ROOM};
 use reference_checker::verdict::{Reply, Verdict};
 
+use crate::write::Reply as Written;
+
 #[derive(Default)]
 pub struct Tally {
     counts: BTreeMap<String, u64>,
@@ -21,6 +23,8 @@ const DEMANDED: [&str; 6] =
 const VERDICTS: [&str; 4] = ["closed", "outside", "leaves", "bad"];
 const REPLAYED: [&str; 5] =
     ["replay: end", "replay: outside", "replay: trace refused 1", "replay: memory refused 2", "replay: no room"];
+const WRITTEN: [&str; 5] =
+    ["write: written", "write: damaged and written", "write: refused 16", "write: refused 17", "write: no room"];
 const QUEUES_MET: [&str; 2] = ["replay: a queue goes round its bytes", "replay: a queue is full"];
 const LEFT: [&str; 2] = ["check: leaves by sending a longest word", "check: leaves by receiving a longest word"];
 
@@ -78,6 +82,13 @@ impl Tally {
         }
     }
 
+    pub fn count_written(&mut self, reply: &Written) {
+        match reply {
+            Ok(_) => self.count("write: written"),
+            Err(refusal) => self.count(&format!("write: refused {}", refusal.number)),
+        }
+    }
+
     pub fn count_words(&mut self, transitions: &[Transition]) {
         for transition in transitions.iter().filter(|transition| transition.kind != Kind::Local) {
             self.words[usize::from(transition.length)] += 1;
@@ -114,7 +125,8 @@ impl Tally {
         let member = refused_files.into_iter().chain(11..=13).map(|number| format!("member: refused {number}"));
         let files = refused_files.map(|number| format!("replay: file refused {number}"));
         let steps = [3, 4, 5, 14, 15].map(|number| format!("replay: step refused {number}"));
-        let fixed = DEMANDED.into_iter().chain(REPLAYED).chain(QUEUES_MET).chain(LEFT).map(str::to_string);
+        let fixed =
+            DEMANDED.into_iter().chain(REPLAYED).chain(WRITTEN).chain(QUEUES_MET).chain(LEFT).map(str::to_string);
         let demanded = fixed.chain(verdicts).chain(read).chain(check).chain(member).chain(files).chain(steps);
         let lengths = self.words.iter().zip(0..).filter(|(&count, _)| count == 0);
         let words = lengths.map(|(_, length)| format!("a word of length {length}"));
@@ -123,7 +135,7 @@ impl Tally {
 
     pub fn report(&self) -> String {
         let mut report = String::new();
-        for call in ["read", "member", "check", "replay"] {
+        for call in ["read", "member", "check", "replay", "write"] {
             let of_call = self.counts.iter().filter_map(|(what, count)| {
                 let name = what.strip_prefix(call)?.strip_prefix(": ")?;
                 Some(format!("{name} {count}"))

@@ -23,7 +23,7 @@ pub const OUTSIDE: usize = 1;
 pub const LEAVES: usize = 2;
 /// Contents of a set are bad. With it go the bad entry and the number of messages shown.
 pub const BAD: usize = 3;
-/// The file or the question is turned away. With it go the number and the place.
+/// The file, the question or the tables are turned away. With it go the number and the place.
 pub const REFUSED: usize = 4;
 /// The space for the reply or the tables is too short. Nothing was written anywhere.
 pub const NO_ROOM: usize = 5;
@@ -43,6 +43,8 @@ pub const STEP_REFUSED: usize = 11;
 pub const TRACE_REFUSED: usize = 12;
 /// Queue memory is too short. With it goes 2.
 pub const MEMORY_REFUSED: usize = 13;
+/// The file with the given tables was written. With it goes its length.
+pub const WRITTEN: usize = 14;
 
 /// The number of the layout that this crate is written for, SWARMBANNER_LAYOUT of the header. [`layout`] is the library's.
 pub const LAYOUT: usize = 2;
@@ -99,6 +101,14 @@ mod c {
             reply: *mut usize,
             reply_len: usize,
         ) -> usize;
+        pub fn swarmbanner_write(
+            tables: *const u8,
+            tables_len: usize,
+            buffer: *mut u8,
+            buffer_len: usize,
+            reply: *mut usize,
+            reply_len: usize,
+        ) -> usize;
         pub fn swarmbanner_member(
             file: *const u8,
             file_len: usize,
@@ -147,6 +157,37 @@ pub fn read(file: &[u8], space: &mut [u8], reply: &mut [usize]) -> usize {
     // SAFETY: each pointer and length are of one slice. Those written to are borrowed exclusively, so they overlap nothing.
     unsafe {
         c::swarmbanner_read(file.as_ptr(), file.len(), space.as_mut_ptr(), space.len(), reply.as_mut_ptr(), reply.len())
+    }
+}
+
+/// Writes the file that has these tables, the first [`SPACE_LEAST`] bytes of `tables`: [`WRITTEN`], [`REFUSED`] or [`NO_ROOM`].
+///
+/// The file fills the front of the buffer, and what follows is as it was; after a refusal all of it is: 16 for tables that no
+/// file is read into, also too few of them, and else 17 for a buffer shorter than the file. [`FILE_MOST`] bytes always suffice.
+///
+/// ```
+/// use swarmbanner::lent::{self, at, FILE_MOST, SPACE_LEAST};
+///
+/// // Only empty queues are inside; then nothing is, as the only diagram state is not final any more.
+/// let b = [2, 1, 1, 0, 0, 1, 1, 2, 0, 0, 0, 1, 0, 1, 0, 1, 0, 0, 2, 0, 1, 0, 1, 1, 0, 1, 0];
+/// let (mut tables, mut buffer, mut reply) = ([0; SPACE_LEAST], [0; FILE_MOST], [0; 3]);
+/// assert_eq!(lent::read(&b, &mut tables, &mut reply), lent::READ);
+/// tables[at::FINALS] = 0;
+/// assert_eq!(lent::write(&tables, &mut buffer, &mut reply), lent::WRITTEN);
+/// assert_eq!((reply[0], buffer[23]), (b.len(), 0));
+/// assert_eq!(swarmbanner::check(&buffer[..reply[0]]).to_string(), "outside");
+/// ```
+pub fn write(tables: &[u8], buffer: &mut [u8], reply: &mut [usize]) -> usize {
+    // SAFETY: each pointer and length are of one slice. Those written to are borrowed exclusively, so they overlap nothing.
+    unsafe {
+        c::swarmbanner_write(
+            tables.as_ptr(),
+            tables.len(),
+            buffer.as_mut_ptr(),
+            buffer.len(),
+            reply.as_mut_ptr(),
+            reply.len(),
+        )
     }
 }
 

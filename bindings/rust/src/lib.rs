@@ -23,16 +23,18 @@
 //! | check many files in the same memory | [`Checker`] |
 //! | ask whether contents lie in a set | [`member`] |
 //! | see what a file has in it | [`read`] and [`Session`] |
+//! | make a session, or change one | [`Session::new`] and the methods after it |
+//! | make a file of a session | [`Session::write`] |
 //! | follow the contents that a reply shows | [`Failure`] and [`Way`] |
 //! | replay a trace, or many in the same memory | [`Replayer`], which gives the last [`Configuration`] |
 //! | replay a trace in memory of one's own | [`replay`] and [`Record`] |
 //! | lend memory of one's own | [`lent`] |
 //!
 //! The library must have the layout that this crate is written for, [`lent::LAYOUT`]; with any other, [`check`], [`Checker::new`],
-//! [`member`], [`read`], [`replay`] and [`Replayer::new`] panic.
+//! [`member`], [`read`], [`Session::write`], [`Session::write_into`], [`replay`] and [`Replayer::new`] panic.
 //!
-//! Replies, contents shown, tables, records and queues come from the proved library. What this crate does with them, the methods of
-//! [`Session`] among it, is plain Rust that was tested and not proved.
+//! Replies, contents shown, tables, files written, records and queues come from the proved library. What this crate does with them,
+//! the methods of [`Session`] among it, is plain Rust that was tested and not proved.
 
 #![deny(missing_docs)]
 #![deny(unsafe_code)]
@@ -51,5 +53,7 @@ pub use checker::{check, member, Checker};
 pub use refusal::Refusal;
 pub use replay::{replay, Configuration, Record, Replayed, Replayer};
 pub use reply::Reply;
-pub use session::{read, Arc, BadEntry, DiagramState, Kind, Machine, PoolState, Queue, Session, Transition};
+pub use session::{
+    read, Arc, BadEntry, DiagramState, Kind, Machine, PoolState, Queue, Session, SessionError, Transition,
+};
 pub use way::{End, Failure, Way};

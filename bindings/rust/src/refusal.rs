@@ -1,7 +1,7 @@
 use std::error::Error;
 use std::fmt;
 
-/// Why a file, a question or a step of a trace is turned away.
+/// Why a file, a question, a step of a trace or tables to be written are turned away.
 ///
 /// ```
 /// let refusal = swarmbanner::read(&[]).unwrap_err();
@@ -10,17 +10,17 @@ use std::fmt;
 /// ```
 #[derive(Clone, Copy, Debug, PartialEq, Eq, Hash)]
 pub struct Refusal {
-    /// Which cause it is, 1 to 15.
+    /// Which cause it is, 1 to 17.
     pub number: u8,
-    /// A place in the file; for causes 12 and 13 a place in the contents, for 14 and 15 one in the trace, for 2 and 11 always
-    /// 0. Causes 1, 3, 4 and 5 are a trace's too: [`Replayed`](crate::Replayed) says which of the two is meant.
+    /// A place in the file; for causes 12 and 13 a place in the contents, for 14 and 15 one in the trace, for 2, 11, 16
+    /// and 17 always 0. Causes 1, 3, 4 and 5 are a trace's too: [`Replayed`](crate::Replayed) says which of the two is meant.
     pub place: usize,
 }
 
 impl Refusal {
     /// From the first two numbers of a reply.
     pub(crate) fn told(reply: &[usize; 3]) -> Self {
-        let number = u8::try_from(reply[0]).expect("refusals are numbered 1 to 15");
+        let number = u8::try_from(reply[0]).expect("refusals are numbered 1 to 17");
         Refusal { number, place: reply[1] }
     }
 
@@ -42,6 +42,8 @@ impl Refusal {
             13 => "a message of an earlier queue follows one of a later queue",
             14 => "the machine is in another state, or the queue does not begin with the word",
             15 => "a queue would pass 1,024 messages",
+            16 => "no session file is read into these tables",
+            17 => "the buffer is shorter than the file",
             _ => "no cause has this number",
         }
     }
@@ -49,7 +51,7 @@ impl Refusal {
     /// The cause in words, and where.
     pub fn explain(&self) -> String {
         match self.number {
-            2 | 11 => self.cause().to_string(),
+            2 | 11 | 16 | 17 => self.cause().to_string(),
             12 | 13 => format!("{} (at message {} of the contents)", self.cause(), self.place),
             14 | 15 => format!("{} (at byte {} of the trace)", self.cause(), self.place),
             _ => format!("{} (at byte {} of the file)", self.cause(), self.place),

@@ -1,8 +1,13 @@
+mod build;
+mod error;
+mod flat;
+
 use std::ops::Range;
 
-use crate::fits::must_fit;
-use crate::lent::{self, at, SPACE_LEAST};
 use crate::Refusal;
+
+pub use error::SessionError;
+pub use flat::read;
 
 /// A machine.
 #[derive(Clone, Copy, Debug, PartialEq, Eq, Hash)]
@@ -54,7 +59,8 @@ pub struct Transition {
     pub kind: Kind,
 }
 
-/// The number of a diagram state, which is never the number of a control state.
+/// The number of a diagram state, which is never the number of a control state. [`Session::state`] makes one from a number, and
+/// [`Session::add_state`] gives the one of a new state.
 #[derive(Clone, Copy, Debug, PartialEq, Eq, PartialOrd, Ord, Hash)]
 pub struct DiagramState(u8);
 
@@ -62,11 +68,6 @@ impl DiagramState {
     /// Its place in the pool.
     pub fn index(self) -> usize {
         usize::from(self.0)
-    }
-
-    /// From a table entry that has 0 for none and else 1 plus the state.
-    fn after_one(entry: u8) -> Option<Self> {
-        entry.checked_sub(1).map(DiagramState)
     }
 }
 
@@ -97,7 +98,12 @@ pub struct BadEntry {
     pub root: DiagramState,
 }
 
-/// What a session file says.
+/// What a session file says. [`read`] makes one from a file, [`Session::new`] a new one; what it has can be changed, and
+/// [`Session::write`] makes a file of it.
+///
+/// Whatever is done to it, every number stays within its range. What no single change can be judged by is queue order: a word
+/// that a root accepts may have a message of an earlier queue after one of a later queue, and then no file says what the
+/// session says.
 #[derive(Clone, Debug, PartialEq, Eq, Hash)]
 pub struct Session {
     machines: Vec<Machine>,
@@ -108,119 +114,12 @@ pub struct Session {
     bad_entries: Vec<BadEntry>,
 }
 
-/// Reads a session file.
-///
-/// # Errors
-///
-/// Fails where the bytes are not a session file.
-///
-/// # Panics
-///
-/// Panics where the library has another layout than this crate ([`lent::LAYOUT`]).
-///
-/// ```
-/// use swarmbanner::Kind;
-///
-/// let r = [2, 1, 1, 0, 0, 1, 1, 2, 0, 0, 0, 1, 0, 1, 0, 1, 0, 0, 2, 0, 1, 0, 1, 1, 1, 0, 0, 1, 0];
-/// let session = swarmbanner::read(&r)?;
-/// assert_eq!(session.machines().len(), 2);
-/// assert_eq!(session.transitions()[0].kind, Kind::Send { queue: 0, word: vec![0] });
-/// let root = session.root(session.start()).expect("the starting control state has a root");
-/// assert!(session.is_final(root));
-/// assert_eq!(session.arc(root, 0), Some(root));
-/// # Ok::<(), swarmbanner::Refusal>(())
-/// ```
-pub fn read(file: &[u8]) -> Result<Session, Refusal> {
-    must_fit();
-    let mut space = [0; SPACE_LEAST];
-    let mut reply = [0; 3];
-    let kind = lent::read(file, &mut space, &mut reply);
-    match kind {
-        lent::READ => Ok(Space(&space).session()),
-        lent::REFUSED => Err(Refusal::told(&reply)),
-        _ => unreachable!("reading with room for tables and a reply answers no kind {kind}"),
-    }
-}
-
-/// The tables as [`at`] says.
-struct Space<'a>(&'a [u8; SPACE_LEAST]);
-
-impl Space<'_> {
-    fn session(&self) -> Session {
-        let [machines, queues, _, transitions, pool, bad] =
-            [0, 1, 2, 3, 4, 5].map(|count| self.number(at::COUNTS + count));
-        let machines = self.machines(machines);
-        let control_states = product(&machines);
-        Session {
-            machines,
-            queues: self.queues(queues),
-            transitions: (0..transitions).map(|number| self.transition(number)).collect(),
-            pool: (0..pool).map(|state| self.pool_state(state)).collect(),
-            roots: (0..control_states).map(|control| DiagramState::after_one(self.0[at::ROOTS + control])).collect(),
-            bad_entries: (0..bad).map(|entry| self.bad_entry(entry)).collect(),
-        }
-    }
-
-    fn number(&self, place: usize) -> usize {
-        usize::from(self.0[place])
-    }
-
-    fn row<const LENGTH: usize>(&self, table: usize, number: usize) -> &[u8] {
-        &self.0[table + number * LENGTH..][..LENGTH]
-    }
-
-    fn machines(&self, count: usize) -> Vec<Machine> {
-        (0..count)
-            .map(|machine| Machine {
-                states: self.number(at::STATES + machine),
-                start: self.number(at::STARTS + machine),
-            })
-            .collect()
-    }
-
-    fn queues(&self, count: usize) -> Vec<Queue> {
-        let mut first = 0;
-        (0..count)
-            .map(|queue| {
-                let messages = first..first + self.0[at::MESSAGES + queue];
-                first = messages.end;
-                Queue { messages }
-            })
-            .collect()
-    }
-
-    fn transition(&self, number: usize) -> Transition {
-        let row = self.row::<{ at::TRANSITION_ROW }>(at::TRANSITIONS, number);
-        let queue = usize::from(row[4]);
-        let word = row[at::TRANSITION_WORD..][..usize::from(row[5])].to_vec();
-        let kind = match row[3] {
-            0 => Kind::Local,
-            1 => Kind::Send { queue, word },
-            _ => Kind::Receive { queue, word },
-        };
-        Transition { machine: row[0].into(), from: row[1].into(), to: row[2].into(), kind }
-    }
-
-    fn pool_state(&self, state: usize) -> PoolState {
-        let row = self.row::<{ at::ARC_ROW }>(at::ARCS, state);
-        let arcs = (0..).zip(row).filter_map(|(message, &entry)| {
-            let target = DiagramState::after_one(entry)?;
-            Some(Arc { message, target })
-        });
-        PoolState { is_final: self.0[at::FINALS + state] == 1, arcs: arcs.collect() }
-    }
-
-    fn bad_entry(&self, entry: usize) -> BadEntry {
-        let row = self.row::<{ at::BAD_ROW }>(at::BAD, entry);
-        BadEntry { control: row[0].into(), root: DiagramState(row[1]) }
-    }
-}
-
+/// How many control states machines have.
 fn product(machines: &[Machine]) -> usize {
     machines.iter().map(|machine| machine.states).product()
 }
 
-/// What the file says.
+/// What it says.
 impl Session {
     /// The machines.
     pub fn machines(&self) -> &[Machine] {

@@ -49,6 +49,13 @@ fn reading_refuses_what_checking_refuses() {
 }
 
 #[test]
+fn lettered_cases_are_written_back() {
+    let read_ones = LETTERED.iter().filter_map(|(file, _)| Some((hex(file), read(&hex(file)).ok()?)));
+    let written: Vec<bool> = read_ones.map(|(file, session)| session.write() == Ok(file)).collect();
+    assert_eq!(written, [true; 7]);
+}
+
+#[test]
 fn membership() {
     let refused = |number, place| Err(Refusal { number, place });
     assert_eq!(member(&hex(S), 0, &[0, 1]), Ok(true));
@@ -89,6 +96,7 @@ fn no_room_touches_nothing() {
     assert_eq!(lent::read(&hex(R), &mut [5; 7409], &mut reply), lent::NO_ROOM);
     assert_eq!(lent::member(&hex(R), 0, &[], &mut reply), lent::NO_ROOM);
     assert_eq!(lent::check(&hex(R), &mut [], &mut [], &mut [], &mut reply), lent::NO_ROOM);
+    assert_eq!(lent::write(&[], &mut [], &mut reply), lent::NO_ROOM);
     assert_eq!(reply, [9; 2]);
     let (mut space, mut reply) = ([5; 7408], [9; 3]);
     assert_eq!(lent::read(&hex(R), &mut space, &mut reply), lent::NO_ROOM);
@@ -137,7 +145,8 @@ fn seventeen_messages_are_refused_at_the_length() {
         assert_eq!(check(&with_words(sent, received)), Reply::Refused(refused));
     }
     for length in 0..=16 {
-        assert!(read(&with_words(length, 16 - length)).is_ok(), "{length}");
+        let file = with_words(length, 16 - length);
+        assert_eq!(read(&file).and_then(|session| session.write()), Ok(file), "{length}");
     }
 }
 
@@ -207,9 +216,11 @@ fn samples() {
 
 #[test]
 fn every_cause_is_explained() {
-    let causes: std::collections::HashSet<&str> = (1..=15).map(|number| Refusal { number, place: 0 }.cause()).collect();
-    assert_eq!(causes.len(), 15);
+    let causes: std::collections::HashSet<&str> = (1..=17).map(|number| Refusal { number, place: 0 }.cause()).collect();
+    assert_eq!(causes.len(), 17);
     assert_eq!(Refusal { number: 11, place: 0 }.explain(), "the file has no such control state");
+    assert_eq!(Refusal { number: 16, place: 0 }.explain(), "no session file is read into these tables");
+    assert_eq!(Refusal { number: 17, place: 0 }.explain(), "the buffer is shorter than the file");
     let error: Box<dyn std::error::Error> = Box::new(Refusal { number: 5, place: 7 });
     assert_eq!(error.to_string(), "refused 5 at 7");
 }

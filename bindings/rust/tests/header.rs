@@ -4,7 +4,7 @@ use swarmbanner::lent::{self, at};
 
 const HEADER: &str = include_str!("../../../include/swarmbanner.h");
 
-const NUMBERS: [(&str, usize); 46] = [
+const NUMBERS: [(&str, usize); 47] = [
     ("CLOSED", lent::CLOSED),
     ("OUTSIDE", lent::OUTSIDE),
     ("LEAVES", lent::LEAVES),
@@ -19,6 +19,7 @@ const NUMBERS: [(&str, usize); 46] = [
     ("STEP_REFUSED", lent::STEP_REFUSED),
     ("TRACE_REFUSED", lent::TRACE_REFUSED),
     ("MEMORY_REFUSED", lent::MEMORY_REFUSED),
+    ("WRITTEN", lent::WRITTEN),
     ("LAYOUT", lent::LAYOUT),
     ("REPLY_LEAST", lent::REPLY_LEAST),
     ("SPACE_LEAST", lent::SPACE_LEAST),
