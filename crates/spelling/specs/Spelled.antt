@@ -5,7 +5,6 @@ use mathlib.Core.Option.{none, some}
 use mathlib.Core.List.{List, [], _∷_, _++_}
 use lib.ListN.{length, getD}
 use lib.Dec.{ltb, eqb}
-use Rattle.tables.specs.Limits.{mostMessages}
 use Rattle.tables.specs.Rows.{rowLength, wordEntry, machineAt, fromAt, toAt, kindAt, queueAt, lengthAt}
 use Rattle.tables.specs.Pool.{arcAt}
 use Rattle.tables.specs.declared.tables.Machines.{Machines}
@@ -52,7 +51,7 @@ transition rows row =
 unfoldable pub transitions : Transitions → List ℕ
 transitions τ = number (τ .count) ++ each (λ t. transition (τ .rows) (t * rowLength)) (τ .count) 0
 
--- field 4: how many states; for each its final mark, how many arcs, and for each arc its message and its target
+-- field 4: how many states; for each its final mark, how many arcs, and for each arc its message, below the sum, and its target
 -- the arcs of state i for so many messages from m on
 unfoldable pub arcsOf : List ℕ → ℕ → ℕ → ℕ → List (ℕ × ℕ)
 arcsOf table i zero m = []
@@ -66,11 +65,11 @@ arcs (arc ∷ rest) = number (arc .0) ++ (number (arc .1) ++ arcs rest)
 abbrev pub counted : List (ℕ × ℕ) → List ℕ
 counted l = number (length l) ++ arcs l
 
-unfoldable pub state : List ℕ → List ℕ → ℕ → List ℕ
-state finals table i = number (getD finals i 0) ++ counted (arcsOf table i mostMessages 0)
+unfoldable pub state : List ℕ → List ℕ → ℕ → ℕ → List ℕ
+state finals table sum i = number (getD finals i 0) ++ counted (arcsOf table i sum 0)
 
-unfoldable pub pool : Pool → List ℕ
-pool P = number (P .count) ++ each (state (P .finals) (P .arcs)) (P .count) 0
+unfoldable pub pool : ℕ → Pool → List ℕ
+pool sum P = number (P .count) ++ each (state (P .finals) (P .arcs) sum) (P .count) 0
 
 -- field 5: for each of so many control states 0 for no root, or 1 plus the root, as the table has it
 unfoldable pub map : ℕ → Map → List ℕ
@@ -88,4 +87,4 @@ spelled T =
     machines (T .machines)
     ++ (queues (T .queues)
     ++ (transitions (T .transitions)
-    ++ (pool (T .pool) ++ (map (T .machines .product) (T .map) ++ bad (T .bad)))))
+    ++ (pool (T .queues .sum) (T .pool) ++ (map (T .machines .product) (T .map) ++ bad (T .bad)))))

@@ -27,5 +27,5 @@ kind rows row = number (kindAt rows row) ++ cond (eqb (kindAt rows row) 0) [] (a
 -- fields 4 to 6
 unfoldable pub diagrams : Head → List ℕ → List ℕ → List ℕ → List ℕ → List ℕ
 diagrams h finals arcs roots entries =
-    pool (record { count = h .states; finals = finals; arcs = arcs })
+    pool (h .queues .sum) (record { count = h .states; finals = finals; arcs = arcs })
     ++ (map (h .machines .product) (record { roots = roots }) ++ bad (record { count = h .bad; rows = entries }))

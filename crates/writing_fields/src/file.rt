@@ -22,11 +22,11 @@ fn put_diagrams(
     roots: &[u8],
     entries: &[u8],
 ) -> usize
-    requires { ⌜ at + 35196 ≤ 1000000 ⌝ }
+    requires { ⌜ at + 262656 ≤ 1000000 ⌝ }
     requires { ⌜ h .machines .product ≤ mostControls ⌝ }
-    ensures { λ r. ⌜ Put (now (s .entry)) at 35196 (diagrams h (now (finals .entry)) (now (arcs .entry)) (now (roots .entry)) (now (entries .entry))) (now (s .exit)) r ⌝ }
+    ensures { λ r. ⌜ Put (now (s .entry)) at 262656 (diagrams h (now (finals .entry)) (now (arcs .entry)) (now (roots .entry)) (now (entries .entry))) (now (s .exit)) r ⌝ }
 {
-    let map = put_pool(s, at, h.states, finals, arcs);
+    let map = put_pool(s, at, h.states, finals, arcs, h.queues.sum as usize);
     let bad = put_map(s, map, h.machines.product, roots);
     put_bad(s, bad, h.bad, entries)
 }

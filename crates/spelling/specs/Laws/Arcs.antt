@@ -149,8 +149,8 @@ module _ (table : List ℕ) (i : ℕ) where
             sym (listed-later (m, t) (first .rest) k (omega arith)) ∙ sym (ap (λ u. listedArc u k) (first .is))
             ∙ f k (omega arith) (omega arith)))
 
-pub pool-ascending : {sum : ℕ} {P : Pool} (i : ℕ) → PoolValid sum P
-    → Ascends (P .count) sum 0 (arcsOf (P .arcs) i mostMessages 0)
-pool-ascending {sum} {P} i z =
-    arcs-ascending (P .arcs) i (P .count) sum mostMessages 0
+pub pool-ascending : {sum : ℕ} {P : Pool} (i : ℕ) → sum ≤ mostMessages → PoolValid sum P
+    → Ascends (P .count) sum 0 (arcsOf (P .arcs) i sum 0)
+pool-ascending {sum} {P} i few z =
+    arcs-ascending (P .arcs) i (P .count) sum sum 0
     (λ k t h g e. let v = arc-valid i k z (omega arith) e in (v .message, v .to))

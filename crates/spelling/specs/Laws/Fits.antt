@@ -147,21 +147,21 @@ fits-arcs n sum least (arc ∷ rest) h g z =
     (fits-then (omega arith) (fits-one (arc .1) (omega (arith, z .2))) (fits-arcs n sum (arc .0 + 1) rest h g (z .3)))
 
 module _ {sum : ℕ} {P : Pool} (few : sum ≤ mostMessages) (z : PoolValid sum P) where
-  fits-state : (i : ℕ) → i < P .count → Fits 66 (state (P .finals) (P .arcs) i)
+  fits-state : (i : ℕ) → i < P .count → Fits 66 (state (P .finals) (P .arcs) sum i)
   unfolding state
   fits-state i h =
-      let l = arcsOf (P .arcs) i mostMessages 0 in
-      let up = pool-ascending i z in
+      let l = arcsOf (P .arcs) i sum 0 in
+      let up = pool-ascending i few z in
       let short = ascends-few (P .count) sum 0 l (omega arith) up in
       fits-then {n = 65} (omega arith) (fits-one (getD (P .finals) i 0) (omega (arith, z .finals i h)))
       (fits-then (omega arith) (fits-one (length l) (omega arith))
       (fits-arcs (P .count) sum 0 l (omega (arith, z .most)) (omega arith) up))
 
-  fits-pool : Fits 8383 (pool P)
+  fits-pool : Fits 8383 (pool sum P)
   unfolding pool
   fits-pool =
       fits-then (omega (arith, z .most)) (fits-one (P .count) (omega (arith, z .most)))
-      (fits-each (state (P .finals) (P .arcs)) 66 (P .count) 0 (λ i h g. fits-state i (omega arith)))
+      (fits-each (state (P .finals) (P .arcs) sum) 66 (P .count) 0 (λ i h g. fits-state i (omega arith)))
 
 fits-map : {product n : ℕ} {R : Map} → product ≤ mostControls → n < 128 → MapValid product n R → Fits 256 (map product R)
 unfolding map

@@ -133,7 +133,7 @@ module _ (s : List ℕ) (bytes : Bytes s) (n sum : ℕ) where
           (later (λ j g. let k : i + 1 + j ≡ i + suc j = omega arith in ap part k ∙ f (suc j) (omega arith)))
 
 pub pool-forth : (s : List ℕ) → Bytes s → (sum at : ℕ) {P : Pool} {next : ℕ} → sum ≤ mostMessages → readPool s at sum ≡ got P next
-    → Here s at (pool P) next
+    → Here s at (pool sum P) next
 unfolding readPool listPool pool state
 pool-forth s bytes sum at {P} {next} few e =
     let t = andThen-got (readWithin s at 1 mostPool) e in
@@ -143,23 +143,23 @@ pool-forth s bytes sum at {P} {next} few e =
     L : PoolListed s sum at P next
     L = pool-listed s sum at few e
 
-    same : (j : ℕ) → state (P .finals) (P .arcs) (0 + j) ≡ listed (getD (L .states) j noState)
+    same : (j : ℕ) → state (P .finals) (P .arcs) sum (0 + j) ≡ listed (getD (L .states) j noState)
     same j =
-        ap (state (P .finals) (P .arcs)) (zero-add j)
+        ap (state (P .finals) (P .arcs) sum) (zero-add j)
         ∙ ap₂ (λ a b. number a ++ counted b) (L .finals j)
         (sym
-        (arcs-are (P .arcs) j (P .count) sum mostMessages 0 (getD (L .states) j noState .1) (omega arith) (L .ascend j)
+        (arcs-are (P .arcs) j (P .count) sum sum 0 (getD (L .states) j noState .1) (omega arith) (L .ascend j)
         (λ k _ g. sym (L .arcs j k (omega arith)))))
 
     made : (n p : ℕ) (x : List ℕ × List ℕ) (q : ℕ) → readWithin s at 1 mostPool ≡ got n p
         → got (record { count = n; finals = x .0; arcs = x .1 }) q ≡ got P next
-        → Here s at (number (P .count) ++ each (state (P .finals) (P .arcs)) (P .count) 0) next
+        → Here s at (number (P .count) ++ each (state (P .finals) (P .arcs) sum) (P .count) 0) next
     made n p x q e₁ e₂ =
         let count : n ≡ P .count = ap (λ (Q : Pool). Q .count) (same-value e₂) in
         let states = sym (ap (λ y. andThen y (λ m r. listStates s r m sum m)) e₁) ∙ L .listed in
-        subst (λ c. Here s at (number c ++ each (state (P .finals) (P .arcs)) c 0) next) count
+        subst (λ c. Here s at (number c ++ each (state (P .finals) (P .arcs) sum) c 0) next) count
         (here-then (within-forth s bytes at 1 mostPool e₁)
-        (states-forth s bytes n sum (state (P .finals) (P .arcs)) n 0 p states (λ j _. same j)))
+        (states-forth s bytes n sum (state (P .finals) (P .arcs) sum) n 0 p states (λ j _. same j)))
 
 -- the two tables before state i is read, as the pool has them
 abbrev Fronts : Pool → ℕ → List ℕ × List ℕ → Type 0
@@ -168,7 +168,7 @@ Fronts P i x = Front (P .finals) i (x .0) × Front (P .arcs) (i * mostMessages) 
 module _ {sum : ℕ} {P : Pool} (few : sum ≤ mostMessages) (z : PoolValid sum P) where
   -- a state's arcs put into the table are the table's own
   arcs-front : (i : ℕ) (t : List ℕ) → i < P .count → Front (P .arcs) (i * mostMessages) t
-      → Front (P .arcs) ((i + 1) * mostMessages) (putArcs (i * mostMessages) (arcsOf (P .arcs) i mostMessages 0) t)
+      → Front (P .arcs) ((i + 1) * mostMessages) (putArcs (i * mostMessages) (arcsOf (P .arcs) i sum 0) t)
   arcs-front i t h f =
       record {
         long = c .long ∙ f .long;
@@ -180,32 +180,35 @@ module _ {sum : ℕ} {P : Pool} (few : sum ≤ mostMessages) (z : PoolValid sum 
       row = i * mostMessages
 
       l : List (ℕ × ℕ)
-      l = arcsOf (P .arcs) i mostMessages 0
+      l = arcsOf (P .arcs) i sum 0
 
       c : Changed row (row + sum) t (putArcs row l t)
-      c = arcs-changed (P .count) sum row 0 l t (pool-ascending i z)
+      c = arcs-changed (P .count) sum row 0 l t (pool-ascending i few z)
 
-      entry : (m : ℕ) → m < mostMessages → getD (putArcs row l t) (row + m) 0 ≡ getD (P .arcs) (row + m) 0
-      entry m g =
-          arcs-entered (P .count) sum row 0 l t m (pool-ascending i z) (omega (arith, f .long, z .arcsLong, z .most))
-          ∙ ap₂ entryOf (arcs-say (P .arcs) i mostMessages 0 m (omega arith) (omega arith)) (f .rest (row + m) (omega arith))
+      entry : (m : ℕ) → m < mostMessages → (b : Bool) → ltb m sum ≡ b → getD (putArcs row l t) (row + m) 0 ≡ getD (P .arcs) (row + m) 0
+      entry m g true e =
+          arcs-entered (P .count) sum row 0 l t m (pool-ascending i few z) (omega (arith, f .long, z .arcsLong, z .most))
+          ∙ ap₂ entryOf (arcs-say (P .arcs) i sum 0 m (omega arith) (omega (arith, ltb-true m sum e))) (f .rest (row + m) (omega arith))
           ∙ entry-by-arc (P .arcs) i m
+      entry m g false e =
+          let d = ltb-false m sum e in
+          c .over (row + m) (omega arith) ∙ f .rest (row + m) (omega arith) ∙ sym (z .arcsAbove i m h d g)
 
       go : (k : ℕ) → k < (i + 1) * mostMessages → (b : Bool) → ltb k row ≡ b → getD (putArcs row l t) k 0 ≡ getD (P .arcs) k 0
       go k g true q = let d = ltb-true k row q in c .under k d ∙ f .same k d
       go k g false q =
           let d = ltb-false k row q in
           let e : row + (k - row) ≡ k = omega arith in
-          subst (λ j. getD (putArcs row l t) j 0 ≡ getD (P .arcs) j 0) e (entry (k - row) (omega arith))
+          subst (λ j. getD (putArcs row l t) j 0 ≡ getD (P .arcs) j 0) e (entry (k - row) (omega arith) (ltb (k - row) sum) refl)
 
   state-back : (s : List ℕ) (i at : ℕ) (x : List ℕ × List ℕ) (next : ℕ) → i < P .count → Fronts P i x
-      → Here s at (state (P .finals) (P .arcs) i) next
+      → Here s at (state (P .finals) (P .arcs) sum i) next
       → Round (λ k p y. readState s p (P .count) sum (k * mostMessages) (y .1)) (λ k v y. (set (y .0) k (v .0), v .1)) (Fronts P) i at x
       next
   unfolding readState state
   state-back s i at x next h f g =
-      let l = arcsOf (P .arcs) i mostMessages 0 in
-      let up = pool-ascending i z in
+      let l = arcsOf (P .arcs) i sum 0 in
+      let up = pool-ascending i few z in
       let p = here-part (number (getD (P .finals) i 0)) g in
       let q = here-part (number (length l)) (p .second) in
       record {
@@ -221,13 +224,13 @@ module _ {sum : ℕ} {P : Pool} (few : sum ≤ mostMessages) (z : PoolValid sum 
         then = (front-set i refl (omega (arith, z .finalsLong, z .most)) (f .0), arcs-front i (x .1) h (f .1));
       }
 
-pub pool-back : (s : List ℕ) (sum at : ℕ) (P : Pool) {next : ℕ} → sum ≤ mostMessages → PoolValid sum P → Here s at (pool P) next
+pub pool-back : (s : List ℕ) (sum at : ℕ) (P : Pool) {next : ℕ} → sum ≤ mostMessages → PoolValid sum P → Here s at (pool sum P) next
     → readPool s at sum ≡ got P next
 unfolding readPool pool
 pool-back s sum at P {next} few z h =
     let p = here-part (number (P .count)) h in
     let t =
-    loop-back s (states-rounds s (P .count) sum) (P .count) (state (P .finals) (P .arcs)) (Fronts P) (state-back few z s) (P .count) 0
+    loop-back s (states-rounds s (P .count) sum) (P .count) (state (P .finals) (P .arcs) sum) (Fronts P) (state-back few z s) (P .count) 0
     (p .middle) (replicate mostPool 0, replicate poolArcs 0) (zero-add (P .count))
     (front-none (P .finals) mostPool (z .finalsLong), front-none (P .arcs) poolArcs (z .arcsLong)) (p .second)
     in

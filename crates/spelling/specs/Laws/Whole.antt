@@ -30,12 +30,12 @@ modelBytes T = machines (T .machines) ++ (queues (T .queues) ++ transitions (T .
 abbrev setsBytes : Tables → List ℕ
 setsBytes T = map (T .machines .product) (T .map) ++ bad (T .bad)
 
-spelled-parts : (T : Tables) → spelled T ≡ modelBytes T ++ (pool (T .pool) ++ setsBytes T)
+spelled-parts : (T : Tables) → spelled T ≡ modelBytes T ++ (pool (T .queues .sum) (T .pool) ++ setsBytes T)
 unfolding spelled
 spelled-parts T =
     let m = machines (T .machines) in
     let q = queues (T .queues) in
-    let rest = pool (T .pool) ++ setsBytes T in
+    let rest = pool (T .queues .sum) (T .pool) ++ setsBytes T in
     ap (λ l. m ++ l) (sym (append-assoc q (transitions (T .transitions)) rest))
     ∙ sym (append-assoc m (q ++ transitions (T .transitions)) rest)
 
@@ -52,7 +52,7 @@ fields-forth s b {T} {next} f =
 fields-back : (s : List ℕ) (T : Tables) {next : ℕ} → length s ≤ mostBytes → FieldsValid T → Here s 0 (spelled T) next → Fields s T next
 fields-back s T {next} short v h =
     let a = here-part (modelBytes T) (subst (λ w. Here s 0 w next) (spelled-parts T) h) in
-    let b = here-part (pool (T .pool)) (a .second) in
+    let b = here-part (pool (T .queues .sum) (T .pool)) (a .second) in
     record {
       afterPool = b .middle;
       toPool =

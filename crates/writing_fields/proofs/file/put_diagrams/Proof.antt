@@ -10,6 +10,10 @@ use Rattle.writing_fields.proofs.pool.put_pool.Reads as put-pool-reads
 use Rattle.writing_fields.proofs.sets.put_bad.Reads as put-bad-reads
 use Rattle.writing_fields.proofs.sets.put_map.Reads as put-map-reads
 
+-- src/file.rt:29:57
+cast-put-pool : tie.Need-cast-put-pool
+cast-put-pool c = search needs
+
 -- src/file.rt:29:9
 put-pool-requires : tie.Need-put-pool-requires
 put-pool-requires c κs = search needs
@@ -35,4 +39,4 @@ returns c =
 
 pub put-diagrams-spec : {M : Type 1} → statement M
 put-diagrams-spec =
-    tie.close (tie.spec put-pool-requires put-map-requires put-bad-requires same-length returns)
+    tie.close (tie.spec cast-put-pool put-pool-requires put-map-requires put-bad-requires same-length returns)

@@ -37,8 +37,8 @@ returns : tie.Need-returns
 unfolding spelled diagrams
 returns c =
     put-then (c .before .before .before .before .before .before .before .before .before .before .before .before .before .before .put-machines .ensures)
-    (put-then {most = 168820} (c .before .before .before .before .before .before .before .before .before .before .put-queues .ensures)
-    (put-then {most = 168308} (c .before .before .before .before .before .before .put-transitions .ensures) (c .before .before .put-diagrams .ensures) (omega arith)) (omega arith)) (omega arith)
+    (put-then {most = 396280} (c .before .before .before .before .before .before .before .before .before .before .put-queues .ensures)
+    (put-then {most = 395768} (c .before .before .before .before .before .before .put-transitions .ensures) (c .before .before .put-diagrams .ensures) (omega arith)) (omega arith)) (omega arith)
 
 pub put-tables-spec : {M : Type 1} → statement M
 put-tables-spec =

@@ -1,8 +1,8 @@
 use borrow.Author.Needs.{needs}
 use Prim.Native.Nat.{_≤_, _+_, _-_, _*_}
 use native.Mathlib.Omega.{arith}
+use native.Mathlib.Nat.{sub-zero}
 use denote.Ref.{now}
-use Rattle.tables.specs.Limits.{mostMessages}
 use Rattle.numbers.specs.Laws.Put.{Left, left-start}
 use Rattle.spelling.specs.Spelled.{arcsOf, arcs}
 use Rattle.writing_fields.specs.Laws.Arcs.{left-skip, left-arc, left-arcs-end}
@@ -14,12 +14,12 @@ use Rattle.numbers.proofs.number.entry.Reads as entry-reads
 use Rattle.writing_fields.proofs.number.put_number.Reads as put-number-reads
 
 abbrev Inv-loop : tie.InvT-loop
-Inv-loop s₀ at table i row next₀ m₀ s next m =
-    Left s₀ at (arcs (arcsOf table i mostMessages 0)) s next (arcs (arcsOf table i (mostMessages - m) m)) × (m ≤ mostMessages)
-    × (next + 4 * (mostMessages - m) ≤ at + 128)
+Inv-loop s₀ at table i sum row next₀ m₀ s next m =
+    Left s₀ at (arcs (arcsOf table i sum 0)) s next (arcs (arcsOf table i (sum - m) m)) × (m ≤ sum)
+    × (next + 4 * (sum - m) ≤ at + 4 * sum)
 
 abbrev μ-loop : tie.MeasureT-loop
-μ-loop s₀ at table i row next₀ m₀ s next m = mostMessages - m
+μ-loop s₀ at table i sum row next₀ m₀ s next m = sum - m
 
 -- src/pool.rt:37:15
 mul-row : tie.Need-mul-row Inv-loop μ-loop
@@ -27,7 +27,7 @@ mul-row c = search needs
 
 -- src/pool.rt:40:5
 loop-holds : tie.Need-loop-holds Inv-loop μ-loop
-loop-holds c = (left-start _ _ _, omega arith, omega arith)
+loop-holds c = (rw (sub-zero (c .before .before .args .sum)) (left-start _ _ _), omega arith, omega arith)
 
 -- src/pool.rt:41:32
 add-entry : tie.Need-add-entry Inv-loop μ-loop
@@ -47,7 +47,7 @@ loop-less c = search needs
 
 -- src/pool.rt:40:5
 loop-again : tie.Need-loop-again Inv-loop μ-loop
-loop-again c = (left-skip (now (c .before .before .before .before .before .before .args .table)) (c .before .before .before .before .before .before .args .i) mostMessages _ (c .before .entry .ensures) (c .before .before .loop-test .taken) (c .before .before .before .loop .inv .0) (c .if1 .taken), omega arith, omega (arith, c .before .before .before .loop .inv .2))
+loop-again c = (left-skip (now (c .before .before .before .before .before .before .args .table)) (c .before .before .before .before .before .before .args .i) (c .before .before .before .before .before .before .args .sum) _ (c .before .entry .ensures) (c .before .before .loop-test .taken) (c .before .before .before .loop .inv .0) (c .if1 .taken), omega arith, omega (arith, c .before .before .before .loop .inv .2))
 
 -- src/pool.rt:46:36
 cast-put-number : tie.Need-cast-put-number Inv-loop μ-loop
@@ -76,7 +76,7 @@ loop-less-2 c = search needs
 -- src/pool.rt:40:5
 loop-again-2 : tie.Need-loop-again-2 Inv-loop μ-loop
 loop-again-2 c = (
-  left-arc (now (c .before .before .before .before .before .before .before .before .before .before .before .before .before .before .args .table)) (c .before .before .before .before .before .before .before .before .before .before .before .before .before .before .args .i) mostMessages _ (c .before .before .before .before .before .before .before .before .before .entry .ensures) (c .before .before .before .before .before .before .before .before .before .before .loop-test .taken) (c .before .before .before .before .before .before .before .before .before .before .before .loop .inv .0)
+  left-arc (now (c .before .before .before .before .before .before .before .before .before .before .before .before .before .before .args .table)) (c .before .before .before .before .before .before .before .before .before .before .before .before .before .before .args .i) (c .before .before .before .before .before .before .before .before .before .before .before .before .before .before .args .sum) _ (c .before .before .before .before .before .before .before .before .before .entry .ensures) (c .before .before .before .before .before .before .before .before .before .before .loop-test .taken) (c .before .before .before .before .before .before .before .before .before .before .before .loop .inv .0)
       (c .before .before .before .before .before .before .before .before .if1 .left) (c .before .before .before .before .before .before .put-number .ensures) (c .before .before .put-number2 .ensures),
   omega arith,
   omega (arith, c .before .before .before .before .before .before .put-number .ensures .within, c .before .before .put-number2 .ensures .within, c .before .before .before .before .before .before .before .before .before .before .before .loop .inv .2),
@@ -88,7 +88,7 @@ same-length c = c .before .loop .inv .0 .long
 
 -- src/pool.rt:32:1
 returns : tie.Need-returns Inv-loop μ-loop
-returns c = left-arcs-end (now (c .before .before .before .before .args .table)) (c .before .before .before .before .args .i) mostMessages _ (c .loop-test .left) _ (c .before .loop .inv .0) (omega (arith, c .before .loop .inv .2))
+returns c = left-arcs-end (now (c .before .before .before .before .args .table)) (c .before .before .before .before .args .i) (c .before .before .before .before .args .sum) _ (c .loop-test .left) _ (c .before .loop .inv .0) (omega (arith, c .before .loop .inv .2))
 
 pub put-arcs-spec : {M : Type 1} → statement M
 put-arcs-spec =

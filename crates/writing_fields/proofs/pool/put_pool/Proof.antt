@@ -16,12 +16,12 @@ use Rattle.writing_fields.proofs.number.put_number.Reads as put-number-
 use Rattle.writing_fields.proofs.pool.put_state.Reads as put-state-reads
 
 abbrev Inv-loop : tie.InvT-loop
-Inv-loop s₀ at count finals arcs next₀ i₀ s next i =
-    Left s₀ next₀ (each (state finals arcs) count 0) s next (each (state finals arcs) (count - i) i) × (i ≤ count)
-    × (next + 132 * (count - i) ≤ next₀ + 132 * count)
+Inv-loop s₀ at count finals arcs sum next₀ i₀ s next i =
+    Left s₀ next₀ (each (state finals arcs sum) count 0) s next (each (state finals arcs sum) (count - i) i) × (i ≤ count)
+    × (next + 1024 * (count - i) ≤ next₀ + 1024 * count)
 
 abbrev μ-loop : tie.MeasureT-loop
-μ-loop s₀ at count finals arcs next₀ i₀ s next i = count - i
+μ-loop s₀ at count finals arcs sum next₀ i₀ s next i = count - i
 
 -- src/pool.rt:67:9
 put-number-requires : tie.Need-put-number-requires Inv-loop μ-loop
@@ -46,7 +46,7 @@ loop-less c = search needs
 -- src/pool.rt:69:5
 loop-again : tie.Need-loop-again Inv-loop μ-loop
 loop-again c = (
-  left-part (state (now (c .before .before .before .before .before .before .before .before .before .before .before .before .before .args .finals)) (now (c .before .before .before .before .before .before .before .before .before .before .before .before .before .args .arcs))) _ _ (c .before .before .before .before .loop-test .taken) (c .before .before .before .before .before .loop .inv .0) (c .before .before .put-state .ensures),
+  left-part (state (now (c .before .before .before .before .before .before .before .before .before .before .before .before .before .args .finals)) (now (c .before .before .before .before .before .before .before .before .before .before .before .before .before .args .arcs)) (c .before .before .before .before .before .before .before .before .before .before .before .before .before .args .sum)) _ _ (c .before .before .before .before .loop-test .taken) (c .before .before .before .before .before .loop .inv .0) (c .before .before .put-state .ensures),
   omega arith,
   omega (arith, c .before .before .put-state .ensures .within, c .before .before .before .before .before .loop .inv .2),
 )
@@ -61,7 +61,7 @@ unfolding pool
 returns c =
     let few : c .before .before .before .before .before .before .before .before .before .args .count < 256 = search needs in
     put-then (c .before .before .before .before .put-number .ensures)
-    (left-parts (state (now (c .before .before .before .before .before .before .before .before .before .args .finals)) (now (c .before .before .before .before .before .before .before .before .before .args .arcs))) _ _ (132 * c .before .before .before .before .before .before .before .before .before .args .count) (c .loop-test .left) (c .before .loop .inv .0)
+    (left-parts (state (now (c .before .before .before .before .before .before .before .before .before .args .finals)) (now (c .before .before .before .before .before .before .before .before .before .args .arcs)) (c .before .before .before .before .before .before .before .before .before .args .sum)) _ _ (1024 * c .before .before .before .before .before .before .before .before .before .args .count) (c .loop-test .left) (c .before .loop .inv .0)
     (omega (arith, c .before .loop .inv .2))) (omega arith)
 
 pub put-pool-spec : {M : Type 1} → statement M

@@ -41,7 +41,7 @@ returns : tie.Need-returns
 unfolding state
 returns c =
     put-then (put-found (c .before .before .before .before .before .before .before .before .before .before .before .before .entry .ensures) (c .before .before .before .before .before .before .before .before .before .before .before .put-number .ensures))
-    (put-then {most = 130} (put-found (c .before .before .before .before .before .before .before .count-arcs .ensures) (c .before .before .before .before .before .before .put-number2 .ensures)) (c .before .before .put-arcs .ensures) (omega arith))
+    (put-then {most = 1022} (put-found (c .before .before .before .before .before .before .before .count-arcs .ensures) (c .before .before .before .before .before .before .put-number2 .ensures)) (c .before .before .put-arcs .ensures) (omega arith))
     (omega arith)
 
 pub put-state-spec : {M : Type 1} → statement M
