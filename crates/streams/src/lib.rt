@@ -1,6 +1,7 @@
 // Fronts of lent memory, filled from standard input and printed to standard output.
 pub mod files;
 pub mod input;
+pub mod lent;
 
 ghost use Prim.Native.Nat.{_≤_};
 ghost use mathlib.Core.Path.{_≡_};

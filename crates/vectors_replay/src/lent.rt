@@ -1,22 +1,8 @@
-// What a replay is lent, each made from a byte of the stream.
+// The record that a replay is lent, made from a byte of the stream.
 use numbers::number::wide;
 use stepping::runs::RunRecord;
+use streams::lent::low;
 ghost use Prim.Native.Nat.{_<_};
-
-fn low(x: usize) -> u8 {
-    (x % 256) as u8
-}
-
-// Byte i of the memory is m + 7 · i, modulo 256.
-pub(crate) fn fill(memory: &mut [u8], m: u8) {
-    let mut byte = m;
-    let mut i = 0;
-    while i < memory.len() {
-        memory[i] = byte;
-        byte = low(wide(byte) + 7);
-        i += 1;
-    }
-}
 
 // Four numbers, each one more than the one before.
 fn four_from(x: usize) -> [usize; 4]

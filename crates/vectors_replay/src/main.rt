@@ -1,18 +1,17 @@
 // Reads a stream of replays and prints of each the reply, the record and a digest of the memory. A replay is a file of a stream; then
 // its trace, in the same form; then the length of the memory in two bytes, low byte first; then the byte that the memory is made from
 // and the byte that the record is made from.
-mod digest;
 mod lent;
 mod report;
 
-use digest::digest;
-use lent::fill;
 use lent::record_from;
 use numbers::number::wide;
 use replay::run::replay_from;
 use report::report;
 use streams::files::Next;
 use streams::files::next_file;
+use streams::lent::digest;
+use streams::lent::fill;
 
 // More replays than a stream has: every loop has an end.
 const MOST_REPLAYS: usize = 100000;

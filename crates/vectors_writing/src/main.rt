@@ -1,21 +1,19 @@
 // Reads a stream of writings and prints of each the reply and a digest of the buffer. A writing is a file of a stream; then its
 // question, in the same form: the length of the buffer in two bytes, low byte first; the byte that it is filled from; and a mode. Mode 0
 // goes on with edits of the flat tables, mode 1 with the product of the tables in three bytes, low byte first.
-mod digest;
 mod edited;
-mod lent;
 mod product;
 mod report;
 
-use digest::digest;
 use edited::write_edited;
-use lent::fill;
 use numbers::number::entry;
 use numbers::number::wide;
 use product::write_with;
 use report::report;
 use streams::files::Next;
 use streams::files::next_file;
+use streams::lent::digest;
+use streams::lent::fill;
 use writing::write::Written;
 
 // More writings than a stream has: every loop has an end.

@@ -1,11 +1,11 @@
 use borrow.Author.Needs.{needs}
 use Prim.Native.Nat.{_≤_, _<_, _-_}
 use lib.ListN.{length}
-use Rattle.vectors_replay.proofs.digest.digest.Statement.{statement}
-use Rattle.vectors_replay.proofs.digest.digest.Tie as tie
-use Rattle.vectors_replay.proofs.digest.digest.Reads as reads
-use Rattle.vectors_replay.proofs.digest.digest.Lts as lts
-use Rattle.vectors_replay.proofs.digest.mix.Reads as mix-reads
+use Rattle.streams.proofs.lent.digest.Statement.{statement}
+use Rattle.streams.proofs.lent.digest.Tie as tie
+use Rattle.streams.proofs.lent.digest.Reads as reads
+use Rattle.streams.proofs.lent.digest.Lts as lts
+use Rattle.streams.proofs.lent.mix.Reads as mix-reads
 
 abbrev Inv-loop : tie.InvT-loop
 Inv-loop memory h₀ i₀ h i = (i ≤ length memory) × (h < 16777213)

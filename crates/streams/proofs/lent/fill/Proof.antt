@@ -2,12 +2,12 @@ use borrow.Author.Needs.{needs}
 use Prim.Native.Nat.{_≤_, _-_}
 use mathlib.Core.Path.{_≡_}
 use lib.ListN.{length}
-use Rattle.vectors_replay.proofs.lent.fill.Statement.{statement}
-use Rattle.vectors_replay.proofs.lent.fill.Tie as tie
-use Rattle.vectors_replay.proofs.lent.fill.Reads as reads
-use Rattle.vectors_replay.proofs.lent.fill.Lts as lts
+use Rattle.streams.proofs.lent.fill.Statement.{statement}
+use Rattle.streams.proofs.lent.fill.Tie as tie
+use Rattle.streams.proofs.lent.fill.Reads as reads
+use Rattle.streams.proofs.lent.fill.Lts as lts
 use Rattle.numbers.proofs.number.wide.Reads as wide-reads
-use Rattle.vectors_replay.proofs.lent.low.Reads as low-reads
+use Rattle.streams.proofs.lent.low.Reads as low-reads
 
 abbrev Inv-loop : tie.InvT-loop
 Inv-loop memory₀ m byte₀ i₀ memory byte i = (i ≤ length memory₀) × (length memory ≡ length memory₀)
