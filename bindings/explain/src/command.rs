@@ -9,6 +9,7 @@ use std::os::unix::ffi::OsStrExt;
 use std::process::exit;
 
 use crate::trace::Trace;
+use crate::typed::Fault;
 
 /// The exit status for a file that is refused.
 pub const REFUSED: u8 = 2;
@@ -21,7 +22,7 @@ const PIPE_CLOSED: i32 = 141;
 /// A file and a trace may have 16,384 bytes; one more shows that it is too long.
 const BYTES_READ: u64 = 16_385;
 
-/// A trace that is typed may have so many bytes: some sixty for each number.
+/// A text that is typed may have so many bytes: for a trace some sixty for each number, for a session many times the longest.
 const TEXT_MOST: u64 = 1_048_576;
 
 /// The files among words: all that does not begin with a dash, `-` itself, and what follows `--`.
@@ -94,10 +95,15 @@ impl Command {
         self.say(&[&before[..], text.as_bytes()].concat());
     }
 
-    /// Lines on standard output. What cannot be written ends the command, in silence where the reader has gone.
+    /// Lines on standard output.
     pub fn say(&self, text: &[u8]) {
+        self.put(&[text, b"\n"].concat());
+    }
+
+    /// Bytes on standard output. What cannot be written ends the command, in silence where the reader has gone.
+    pub fn put(&self, bytes: &[u8]) {
         let mut out = io::stdout().lock();
-        let written = out.write_all(text).and_then(|()| out.write_all(b"\n")).and_then(|()| out.flush());
+        let written = out.write_all(bytes).and_then(|()| out.flush());
         match written {
             Ok(()) => {}
             Err(error) if error.kind() == io::ErrorKind::BrokenPipe => exit(PIPE_CLOSED),
@@ -121,20 +127,33 @@ impl Command {
 
     /// A trace, as it is or typed. None where it could not be read, which is said.
     pub fn trace(&mut self, name: &OsStr, is_text: bool) -> Option<Trace> {
-        let most = if is_text { TEXT_MOST + 1 } else { BYTES_READ };
-        let bytes = match read_up_to(name, most) {
-            Ok(bytes) => bytes,
-            Err(why) => {
-                self.unreadable(name, &why);
-                return None;
-            }
-        };
-        let trace = match is_text {
-            true if bytes.len() as u64 > TEXT_MOST => Err(format!(" has more than {TEXT_MOST} bytes of text")),
-            true => Trace::typed(&bytes).map_err(|mistyped| format!(", {mistyped}")),
-            false => Ok(Trace::of(bytes)),
-        };
-        trace.map_err(|why| self.untried(&[name.as_bytes(), why.as_bytes()])).ok()
+        if !is_text {
+            return self.bytes(name, BYTES_READ).map(Trace::of);
+        }
+        let text = self.text(name)?;
+        let told = |mistyped| self.untried(&[name.as_bytes(), format!(", {mistyped}").as_bytes()]);
+        Trace::typed(&text).map_err(told).ok()
+    }
+
+    /// A text that somebody typed. None where it could not be read or is too long, which is said.
+    pub fn text(&mut self, name: &OsStr) -> Option<Vec<u8>> {
+        let text = self.bytes(name, TEXT_MOST + 1)?;
+        if text.len() as u64 > TEXT_MOST {
+            self.untried(&[name.as_bytes(), format!(" has more than {TEXT_MOST} bytes of text").as_bytes()]);
+            return None;
+        }
+        Some(text)
+    }
+
+    fn bytes(&mut self, name: &OsStr, most: u64) -> Option<Vec<u8>> {
+        read_up_to(name, most).map_err(|why| self.unreadable(name, &why)).ok()
+    }
+
+    /// A line of a text that is wrong, without the name of the command: editors look for the name of a file, the number of a line
+    /// and what is wrong.
+    pub fn refuse(&mut self, text: &OsStr, fault: &Fault) {
+        complain_bare(&[text.as_bytes(), b":", fault.to_string().as_bytes()]);
+        self.raise(REFUSED);
     }
 
     /// Something that could not be tried, and why.
@@ -143,9 +162,13 @@ impl Command {
         self.raise(NOT_TRIED);
     }
 
-    /// Names of files are bytes of any kind. Where standard error cannot be written to, nobody is there to be told.
+    /// Names of files are bytes of any kind.
     pub fn complain_of(&self, parts: &[&[u8]]) {
-        let line = [self.name.as_bytes(), b": ", &parts.concat(), b"\n"].concat();
-        let _ = io::stderr().write_all(&line);
+        complain_bare(&[self.name.as_bytes(), b": ", &parts.concat()]);
     }
+}
+
+/// Where standard error cannot be written to, nobody is there to be told.
+fn complain_bare(parts: &[&[u8]]) {
+    let _ = io::stderr().write_all(&[&parts.concat()[..], b"\n"].concat());
 }

@@ -7,8 +7,10 @@ use swarmbanner::lent::{
     BAD_ENTRIES_MOST, MACHINES_MOST, MESSAGES_MOST, POOL_STATES_MOST, QUEUES_MOST, TRANSITIONS_MOST, WORD_MOST,
 };
 
+use crate::order::Diagrams;
+
 /// States that a machine can have.
-const STATES_MOST: usize = 16;
+pub(crate) const STATES_MOST: usize = 16;
 
 /// What else than its range limits a number.
 #[derive(Clone, Copy, Debug, PartialEq, Eq)]
@@ -53,16 +55,8 @@ pub struct Fields {
     pub bad: Vec<usize>,
     /// The states of each machine.
     states: Vec<usize>,
-    /// The first message of each queue, and one after the last of all.
-    queues: Vec<usize>,
-    /// The message and the target of each arc, for each diagram state.
-    pub(crate) arcs: Vec<Vec<(usize, usize)>>,
-    /// Whether each diagram state is final.
-    pub(crate) finals: Vec<bool>,
-    /// The root of each control state, or none.
-    pub(crate) roots: Vec<Option<usize>>,
-    /// The root of each bad entry.
-    pub(crate) bad_roots: Vec<usize>,
+    /// The queues, the pool and its roots. After the first message of each queue stands one after the last of all.
+    pub(crate) diagrams: Diagrams,
 }
 
 impl Fields {
@@ -78,7 +72,7 @@ impl Fields {
 
     /// The queue of a message.
     pub fn queue_of(&self, message: usize) -> usize {
-        self.queues.iter().rposition(|&first| first <= message).unwrap_or(0)
+        self.diagrams.queue_of(message)
     }
 }
 
@@ -164,17 +158,17 @@ impl Walk<'_> {
         self.begin();
         let queues = self.number("the number of queues".into(), (1, QUEUES_MOST))?;
         let mut sum = 0;
-        self.met.queues.push(sum);
+        self.met.diagrams.queues.push(sum);
         for queue in 0..queues {
             let what = format!("the number of messages of queue {queue}");
             sum += self.limited(what, (1, MESSAGES_MOST), Limit::Sum(sum))?;
-            self.met.queues.push(sum);
+            self.met.diagrams.queues.push(sum);
         }
         Ok(())
     }
 
     fn messages(&self) -> usize {
-        self.met.queues.last().copied().unwrap_or(0)
+        self.met.diagrams.queues.last().copied().unwrap_or(0)
     }
 
     fn transitions(&mut self) -> Step<()> {
@@ -195,8 +189,8 @@ impl Walk<'_> {
         if self.number(kind, (0, 2))? == 0 {
             return Ok(());
         }
-        let queue = self.index(format!("the queue of transition {number}"), self.met.queues.len() - 1)?;
-        let ends = self.met.queues.get(queue).copied().zip(self.met.queues.get(queue + 1).copied());
+        let queue = self.index(format!("the queue of transition {number}"), self.met.diagrams.queues.len() - 1)?;
+        let ends = self.met.diagrams.queues.get(queue).copied().zip(self.met.diagrams.queues.get(queue + 1).copied());
         let limit = Limit::Queue(queue, ends.unwrap_or_default());
         let length = self.number(format!("the length of the word of transition {number}"), (0, WORD_MOST))?;
         for place in 1..=length {
@@ -212,9 +206,9 @@ impl Walk<'_> {
         let states = self.number("the number of diagram states".into(), (1, POOL_STATES_MOST))?;
         for state in 0..states {
             self.met.pool.push(self.at);
-            self.met.arcs.push(vec![]);
+            self.met.diagrams.arcs.push(vec![]);
             let is_final = self.number(format!("whether diagram state {state} is final (0 no, 1 yes)"), (0, 1))?;
-            self.met.finals.push(is_final > 0);
+            self.met.diagrams.finals.push(is_final > 0);
             let arcs = self.number(format!("the number of arcs of diagram state {state}"), (0, self.messages()))?;
             self.arcs(state, states, arcs)?;
         }
@@ -228,7 +222,7 @@ impl Walk<'_> {
             let message = self.limited(what, (0, self.messages() - 1), limit)?;
             limit = Limit::Above(message);
             let target = self.index(format!("the target of arc {arc} of {arcs} of diagram state {state}"), states)?;
-            self.met.arcs[state].push((message, target));
+            self.met.diagrams.arcs[state].push((message, target));
         }
         Ok(())
     }
@@ -238,7 +232,7 @@ impl Walk<'_> {
         for control in 0..self.controls() {
             let what = format!("the root of control state {control} (0 none, else 1 plus the diagram state)");
             let root = self.number(what, (0, states))?;
-            self.met.roots.push(root.checked_sub(1));
+            self.met.diagrams.roots.push(root.checked_sub(1));
         }
         Ok(())
     }
@@ -253,7 +247,7 @@ impl Walk<'_> {
             self.met.bad.push(self.at);
             self.index(format!("the control state of bad entry {entry}"), self.controls())?;
             let root = self.index(format!("the root of bad entry {entry} (the diagram state itself)"), states)?;
-            self.met.bad_roots.push(root);
+            self.met.diagrams.bad_roots.push(root);
         }
         Ok(())
     }

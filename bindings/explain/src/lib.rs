@@ -1,4 +1,5 @@
-//! What a session file has in it, what a verdict on it means and what a replay does: in words, by field, and as JSON.
+//! What a session file has in it, what a verdict on it means and what a replay does: in words, by field, and as JSON. And a session as
+//! lines of text that can be edited, there and back.
 //!
 //! Replies and tables come from the proved library. The words are plain Rust, tested and not proved.
 
@@ -8,16 +9,24 @@
 pub mod command;
 mod fields;
 mod json;
+mod lines;
 mod listing;
+mod order;
 mod refused;
+mod replace;
 mod steps;
 mod trace;
+mod typed;
 mod words;
 
 pub use fields::{Fields, Limit, Stop};
 pub use json::object;
+pub use lines::lines;
 pub use listing::listing;
+pub use order::{Disorder, Owner};
 pub use refused::Refused;
+pub use replace::replace;
 pub use steps::stepped;
 pub use trace::{Mistyped, Trace};
+pub use typed::{Fault, Typed, Wrong};
 pub use words::explained;

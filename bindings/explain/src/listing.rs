@@ -3,6 +3,7 @@
 use swarmbanner::Session;
 
 use crate::fields::Fields;
+use crate::lines::messages_of;
 use crate::words::{several, several_bad, step};
 
 /// The counts on the first line, then each field.
@@ -25,7 +26,8 @@ pub fn listing(file: &[u8], session: &Session) -> Vec<String> {
     lines
 }
 
-fn counts(session: &Session) -> String {
+/// How many there are of each kind.
+pub(crate) fn counts(session: &Session) -> String {
     let messages = session.queues().last().map_or(0, |queue| queue.messages.end);
     let counts = [
         several(session.machines().len(), "machine"),
@@ -48,13 +50,7 @@ fn machines(session: &Session) -> Vec<String> {
 }
 
 fn queues(session: &Session) -> Vec<String> {
-    let line = |(queue, number): (&swarmbanner::Queue, usize)| {
-        let (first, last) = (queue.messages.start, queue.messages.end - 1);
-        match first == last {
-            true => format!("queue {number}: message {first}"),
-            false => format!("queue {number}: messages {first} to {last}"),
-        }
-    };
+    let line = |(queue, number): (&swarmbanner::Queue, usize)| format!("queue {number}: {}", messages_of(queue));
     session.queues().iter().zip(0..).map(line).collect()
 }
 

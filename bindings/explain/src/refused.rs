@@ -1,7 +1,5 @@
 //! Why a file is refused: the field, what stands at the place, and what was allowed there.
 
-use std::collections::{BTreeSet, VecDeque};
-
 use swarmbanner::Refusal;
 
 use crate::fields::{number_at, Fields, Limit, Stop};
@@ -142,43 +140,8 @@ fn narrowed(stop: &Stop) -> ((usize, usize), Option<String>) {
 
 /// The first root that accepts a word out of order, and the shortest such word.
 fn out_of_order(fields: &Fields) -> String {
-    let of_map = fields.roots.iter().enumerate();
-    let of_map = of_map.filter_map(|(control, root)| Some((format!("control state {control}"), (*root)?)));
-    let of_bad = fields.bad_roots.iter().enumerate().map(|(entry, &root)| (format!("bad entry {entry}"), root));
-    for (owner, root) in of_map.chain(of_bad) {
-        let Some(word) = accepted_out_of_order(fields, root) else { continue };
-        let queue = |message: usize| fields.queue_of(message);
-        let Some(pair) = word.windows(2).find(|pair| queue(pair[1]) < queue(pair[0])) else { continue };
-        let shown: Vec<String> = word.iter().map(usize::to_string).collect();
-        return format!(
-            "the end of the last field: {owner} has root {root}, which accepts {}, where message {} of queue {} comes after \
-             message {} of queue {}",
-            shown.join(" "),
-            pair[1],
-            queue(pair[1]),
-            pair[0],
-            queue(pair[0])
-        );
+    match fields.diagrams.disorder() {
+        Some(disorder) => format!("the end of the last field: {disorder}"),
+        None => "the end of the last field".to_string(),
     }
-    "the end of the last field".to_string()
-}
-
-/// The shortest word, and of these the lowest, that a root accepts and in which a message of an earlier queue comes after one
-/// of a later queue. Words are alike where they lead to one state, end in one queue, and are both in order or both not.
-fn accepted_out_of_order(fields: &Fields, root: usize) -> Option<Vec<usize>> {
-    let mut met = BTreeSet::from([(root, 0, false)]);
-    let mut words = VecDeque::from([(root, 0, false, vec![])]);
-    while let Some((state, last, is_wrong, word)) = words.pop_front() {
-        if is_wrong && fields.finals[state] {
-            return Some(word);
-        }
-        for &(message, target) in &fields.arcs[state] {
-            let queue = fields.queue_of(message);
-            let is_wrong = is_wrong || queue < last;
-            if met.insert((target, queue, is_wrong)) {
-                words.push_back((target, queue, is_wrong, [&word[..], &[message]].concat()));
-            }
-        }
-    }
-    None
 }

@@ -76,7 +76,8 @@ fn groups(number: usize) -> Vec<u8> {
     }
 }
 
-fn shown(word: &[u8]) -> String {
+/// A word as complaints show it: not too much of it, and bytes that are not plain letters written out.
+pub(crate) fn shown(word: &[u8]) -> String {
     let mut shown = word[..word.len().min(WORD_SHOWN)].escape_ascii().to_string();
     if word.len() > WORD_SHOWN {
         write!(shown, ".. ({} bytes)", word.len()).expect("a string takes what is written");
