@@ -1,0 +1,2 @@
+-- Laws of lent memory.
+pub mod Lent
