@@ -171,7 +171,7 @@ size_t swarmbanner_read(const uint8_t *file, size_t file_len,
  * Writes the session file that has these tables, which are as `swarmbanner_read` gives them: the first
  * SWARMBANNER_SPACE_LEAST bytes of `tables`. What follows these is of no account. There is one such file at most, so reading
  * and then writing gives back the bytes, and writing and then reading gives back the tables. No file has more than 11,664
- * bytes, as far as is known; a buffer of SWARMBANNER_FILE_MOST bytes, 16,384, always suffices.
+ * bytes; a buffer of SWARMBANNER_FILE_MOST bytes, 16,384, suffices too.
  *
  * WRITTEN: the file fills the front of `buffer`, the rest of it keeps its bytes.
  * REFUSED, 16: no file is read into these tables, whatever is wrong with them; or `tables` has under SWARMBANNER_SPACE_LEAST
