@@ -15,6 +15,7 @@ use Rattle.session.specs.File.{readFile, readReplyOf, tablesOf, Reads}
 use Rattle.session.specs.Valid.{Valid}
 use Rattle.tables.specs.declared.tables.Tables.{Tables}
 use Rattle.session.specs.declared.reading.Reading.{Reading}
+use Rattle.model.specs.Laws.Basics.{is-and}
 use Rattle.meaning.specs.Reply.{shownOf}
 use Rattle.meaning.specs.Checking.{Checked, checkOf, Checks}
 use Rattle.verdict.specs.Check.{saidVerdict}
@@ -70,9 +71,6 @@ module _ (b : Bool) (room : b ≡ true) {t u : Told} {reply reply₁ : List ℕ}
   tells-reply : reply₁ ≡ keepUnless b (replyAfter u reply) reply
   tells-reply = w .reply ∙ ap (λ (x : Told). replyAfter x reply) same ∙ changed b reply (replyAfter u reply) room
 
-both : (a b : Bool) → a ≡ true → b ≡ true → (a && b) ≡ true
-both a b e f = ap (λ x. x && b) e ∙ f
-
 first-none : (a b : Bool) → a ≡ false → (a && b) ≡ false
 first-none a b e = ap (λ x. x && b) e
 
@@ -113,7 +111,7 @@ module _ (file space reply : List ℕ) where
 module _ {file space reply reply₁ : List ℕ} {t : Told} {r : ℕ} (h : tablesLeast ≤ length space) (l : 3 ≤ length reply) (x : Reading) (reads : Reads (readFile file) x) (told : t ≡ toldAnswer (saidAnswer (x .answer))) (tells : Tells t reply reply₁ r) where
   called : {space₁ : List ℕ} → space₁ ≡ spaceAfter (readFile file) space → ReadCall file space reply r space₁ reply₁
   called e =
-      let roomy = both (leb tablesLeast (length space)) (replyFits reply) (le-leb tablesLeast (length space) h) (le-leb 3 (length reply) l) in
+      let roomy = is-and (leb tablesLeast (length space)) (replyFits reply) (le-leb tablesLeast (length space) h) (le-leb 3 (length reply) l) in
       let same = told ∙ ap toldAnswer (reads .reply) in
       record {
         kind = tells-kind (room space reply) roomy same tells;
@@ -257,7 +255,7 @@ module _ (file trace memory run reply : List ℕ) where
       → ReplayCall file trace memory run reply r memory₁ run₁ reply₁
   replay-told {run₁ = run₁} {t = t} h l e after replays put told tells =
       let o = outcomeOf file trace memory in
-      let roomy = both (leb recordLeast (length run)) (replyFits reply) (le-leb recordLeast (length run) h) (le-leb 3 (length reply) l) in
+      let roomy = is-and (leb recordLeast (length run)) (replyFits reply) (le-leb recordLeast (length run) h) (le-leb 3 (length reply) l) in
       let same : t ≡ replayTold file trace memory = told ∙ ap₂ toldReplay (replays .reply) (replays .steps) in
       let out : run₁ ≡ runAfter (o .reply) (o .lent) run = put ∙ ap₂ (λ x y. runAfter x y run) (replays .reply) (replays .lent) in
       record {

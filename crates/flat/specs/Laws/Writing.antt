@@ -12,6 +12,7 @@ use Rattle.tables.specs.Limits.{mostMachines, mostControls, mostPool, mostBad}
 use Rattle.tables.specs.Rows.{rowsLength}
 use Rattle.tables.specs.Pool.{poolArcs}
 use Rattle.tables.specs.declared.tables.Tables.{Tables}
+use Rattle.model.specs.Laws.Basics.{false-not-true}
 use Rattle.session.specs.Laws.Valid.{valid}
 use Rattle.spelling.specs.Spelled.{spelled}
 use Rattle.spelling.specs.Readable.{Readable}
@@ -19,7 +20,6 @@ use Rattle.writing_fields.specs.Parts.{joined}
 use Rattle.writing_fields.specs.declared.parts.Head.{Head}
 use Rattle.writing.specs.Write.{restored, writeReply, bufferAfter, saidWritten, Writes}
 use Rattle.writing.specs.Laws.Writing.{restored-read}
-use Rattle.writing.specs.Laws.Same.{not-both}
 use Rattle.writing.specs.Laws.Restored.{restored-exactly}
 use Rattle.writing.specs.Laws.Promises.{sixteen-exactly, writes-unread}
 use Rattle.writing.specs.declared.write.Written.{Written}
@@ -34,7 +34,7 @@ pub unrestored-at : (f : List ℕ) → (restoredAt f ≡ false) ↔ ((T : Tables
 unrestored-at f = (
   λ e T r g.
       let (h, s) = taken-readable f T r g in
-      not-both (restored-exactly (tablesAt f) .1 s) (sym (ap (λ x. x && restored (tablesAt f)) (le-leb tablesLeast (length f) h)) ∙ e),
+      false-not-true (sym (ap (λ x. x && restored (tablesAt f)) (le-leb tablesLeast (length f) h)) ∙ e) (restored-exactly (tablesAt f) .1 s),
   λ none. go none (leb tablesLeast (length f)) refl (restored (tablesAt f)) refl,
 )
   where

@@ -1,5 +1,5 @@
 -- Small things about tests and options that the other files use.
-use mathlib.Core.Path.{_≡_, refl, sym, _∙_}
+use mathlib.Core.Path.{_≡_, refl, sym, ap, _∙_}
 use mathlib.Core.Bool.{Bool, true, false, _&&_, false≢true}
 use mathlib.Core.Option.{Option, none, some, Option·none-ne-some}
 
@@ -16,3 +16,6 @@ false-not-true f t = absurd (false≢true (sym f ∙ t))
 pub and-is : (a b : Bool) → (a && b) ≡ true → (a ≡ true) × (b ≡ true)
 and-is true b e = (refl, e)
 and-is false b e = false-not-true refl e
+
+pub is-and : (a b : Bool) → a ≡ true → b ≡ true → (a && b) ≡ true
+is-and a b e f = ap (λ c. c && b) e ∙ f

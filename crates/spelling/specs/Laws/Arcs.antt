@@ -14,6 +14,7 @@ use Rattle.tables.specs.Valid.{PoolValid}
 use Rattle.tables.specs.Laws.Pool.{arc-valid}
 use Rattle.tables.specs.declared.tables.Pool.{Pool}
 use Rattle.numbers.specs.Laws.Written.{at-or-other}
+use Rattle.model.specs.Laws.Basics.{none-not-some}
 use Rattle.reading_pool.specs.Laws.Arcs.{listedArc, Ascends, arc-not-below}
 use Rattle.spelling.specs.Spelled.{arcsOf}
 
@@ -26,9 +27,6 @@ listed-later : (arc : ℕ × ℕ) (rest : List (ℕ × ℕ)) (k : ℕ) → (k �
 unfolding listedArc
 listed-later arc rest k e =
     ap (λ b. elim b as (λ _. Option ℕ) [ true ↦ some (arc .1) | false ↦ listedArc rest k ]) (ne-eqb k (arc .0) e)
-
-some-not-none : {t : ℕ} → some t ≡ none → ⊥
-some-not-none e = let z : _≡_ {A = ℕ} 0 1 = cc in omega arith
 
 -- a list of arcs that begins with the arc for message m to t
 record First (n sum m t : ℕ) (l : List (ℕ × ℕ)) : Type 0 where
@@ -54,12 +52,12 @@ module _ (n sum : ℕ) where
   unfolding Ascends
   ascends-after m [] z e = tt
   ascends-after m (arc ∷ rest) z e =
-      let apart : m ≡ arc .0 → ⊥ = λ d. some-not-none (sym (listed-first arc rest m d) ∙ e) in
+      let apart : m ≡ arc .0 → ⊥ = λ d. none-not-some e (listed-first arc rest m d) in
       (omega (arith, z .0), z .1, z .2, z .3)
 
   ascends-first : (m t : ℕ) (l : List (ℕ × ℕ)) → Ascends n sum m l → listedArc l m ≡ some t → First n sum m t l
   unfolding Ascends listedArc
-  ascends-first m t [] z e = absurd (some-not-none (sym e))
+  ascends-first m t [] z e = none-not-some refl e
   ascends-first m t (arc ∷ rest) z e = go (eqb m (arc .0)) refl e
     where
       go : (b : Bool) → eqb m (arc .0) ≡ b
@@ -68,7 +66,7 @@ module _ (n sum : ℕ) where
           let p₀ : arc .0 ≡ m = sym (eqb-true m (arc .0) f) in
           let p₁ : arc .1 ≡ t = cc in
           record { rest = rest; is = λ i. (p₀ i, p₁ i) ∷ rest; ascends = subst (λ k. Ascends n sum (k + 1) rest) p₀ (z .3) }
-      go false f g = absurd (some-not-none (sym g ∙ arc-not-below n sum (arc .0 + 1) rest m (z .3) (omega (arith, z .0))))
+      go false f g = none-not-some (arc-not-below n sum (arc .0 + 1) rest m (z .3) (omega (arith, z .0))) g
 
 module _ (table : List ℕ) (i : ℕ) where
   -- the arcs from message m on say nothing of an earlier message

@@ -1,14 +1,15 @@
 -- WHAT `restored` MEANS: some byte string is read into these tables. There is no search in it.
 use mathlib.Core.Path.{_≡_, refl, sym, ap, _∙_}
 use mathlib.Core.Logic.{_↔_}
-use mathlib.Core.Bool.{Bool, true, false}
+use mathlib.Core.Bool.{true, false}
 use Rattle.tables.specs.declared.tables.Tables.{Tables}
+use Rattle.model.specs.Laws.Basics.{byTest, false-not-true}
 use Rattle.session.specs.Laws.Valid.{valid}
 use Rattle.spelling.specs.Spelled.{spelled}
 use Rattle.spelling.specs.Readable.{Readable}
 use Rattle.spelling.specs.Laws.Whole.{readable-exactly, written-then-read}
+use Rattle.writing.specs.Laws.Same.{tables-same}
 use Rattle.writing.specs.Write.{gives, restored}
-use Rattle.writing.specs.Laws.Same.{not-both, tables-same}
 use Rattle.writing.specs.Laws.Writing.{restored-read}
 
 readable-restored : (T : Tables) → Readable T → restored T ≡ true
@@ -20,8 +21,7 @@ restored-exactly T = (λ e. readable-exactly T .1 (valid (spelled T) (restored-r
 
 -- and where they are not, none is
 pub unrestored-exactly : (T : Tables) → (restored T ≡ false) ↔ (Readable T → ⊥)
-unrestored-exactly T = (λ e r. not-both (restored-exactly T .1 r) e, λ h. go (restored T) refl h)
-  where
-    go : (b : Bool) → restored T ≡ b → (Readable T → ⊥) → b ≡ false
-    go true e h = absurd (h (restored-exactly T .0 e))
-    go false e h = refl
+unrestored-exactly T = (
+  λ e r. false-not-true e (restored-exactly T .1 r),
+  λ h. byTest (restored T) (λ e. absurd (h (restored-exactly T .0 e))) (λ e. e),
+)

@@ -1,4 +1,4 @@
--- Sameness entry by entry is equality; and what a loop that counts differences has found.
+-- Sameness entry by entry is equality; and what a loop that looks for a difference has found.
 use Prim.Native.Nat.{ℕ, zero, suc, _+_, _≤_, _<_}
 use mathlib.Core.Path.{_≡_, refl, sym, ap, ap₂, subst, _∙_}
 use mathlib.Core.Logic.{_↔_}
@@ -13,39 +13,25 @@ use Rattle.numbers.specs.Laws.Written.{at-or-other}
 use Rattle.tables.specs.declared.tables.Machines.{Machines}
 use Rattle.tables.specs.declared.tables.Queues.{Queues}
 use Rattle.tables.specs.declared.tables.Tables.{Tables}
+use Rattle.model.specs.Laws.Basics.{byTest, false-not-true, and-is, is-and}
 use Rattle.writing.specs.Same.{same, sameMachines, sameQueues, sameHeads, sameLarge, sameTables}
-
--- true is not false
-pub not-both : {b : Bool} → b ≡ true → b ≡ false → ⊥
-not-both e f = let z : _≡_ {A = ℕ} 0 1 = ap (λ c. cond c 0 1) (sym e ∙ f) in omega arith
-
-pub both-hold : (a b : Bool) → (a && b) ≡ true → (a ≡ true) × (b ≡ true)
-both-hold true b e = (refl, e)
-both-hold false b e = absurd (not-both e refl)
-
-pub hold-both : (a b : Bool) → a ≡ true → b ≡ true → (a && b) ≡ true
-hold-both a b e f = ap (λ c. c && b) e ∙ f
 
 pub same-is : (l m : List ℕ) → same l m ≡ true → l ≡ m
 unfolding same
 same-is [] [] e = refl
-same-is [] (b ∷ m) e = absurd (not-both e refl)
-same-is (a ∷ l) [] e = absurd (not-both e refl)
+same-is [] (b ∷ m) e = false-not-true refl e
+same-is (a ∷ l) [] e = false-not-true refl e
 same-is (a ∷ l) (b ∷ m) e =
-    let h = both-hold (eqb a b) (same l m) e in ap₂ (λ x y. x ∷ y) (eqb-true a b (h .0)) (same-is l m (h .1))
+    let h = and-is (eqb a b) (same l m) e in ap₂ (λ x y. x ∷ y) (eqb-true a b (h .0)) (same-is l m (h .1))
 
 pub is-same : (l : List ℕ) → same l l ≡ true
 unfolding same
 is-same [] = refl
-is-same (a ∷ l) = hold-both (eqb a a) (same l l) (eq-eqb a a refl) (is-same l)
+is-same (a ∷ l) = is-and (eqb a a) (same l l) (eq-eqb a a refl) (is-same l)
 
 -- lists that differ are told apart
 pub same-not : (l m : List ℕ) → (l ≡ m → ⊥) → same l m ≡ false
-same-not l m h = go (same l m) refl
-  where
-    go : (b : Bool) → same l m ≡ b → b ≡ false
-    go true e = absurd (h (same-is l m e))
-    go false e = refl
+same-not l m h = byTest (same l m) (λ e. absurd (h (same-is l m e))) (λ e. e)
 
 -- THE LOOP: whether the first i entries differ
 pub record Comparing (a b : List ℕ) (i differ : ℕ) : Type 0 where
@@ -57,41 +43,39 @@ comparing-none a b e = record { long = e; none = (λ _ k h. absurd (omega arith)
 
 pub comparing-more : {a b : List ℕ} {i differ d : ℕ} → Comparing a b i differ → d ≡ cond (eqb (getD a i 0) (getD b i 0)) differ 1
     → Comparing a b (i + 1) d
-comparing-more {a} {b} {i} {differ} {d} c e = go (eqb (getD a i 0) (getD b i 0)) refl
-  where
-    go : (t : Bool) → eqb (getD a i 0) (getD b i 0) ≡ t → Comparing a b (i + 1) d
-    go true f =
-        let z : d ≡ differ = e ∙ ap (λ t. cond t differ 1) f in
-        let here = eqb-true (getD a i 0) (getD b i 0) f in
-        record {
-          long = c .long;
-          none = (
-            λ n k h. at-or-other (λ j. j < i + 1 → getD a j 0 ≡ getD b j 0) i k (λ _. here) (λ o g. c .none .0 (omega arith) k (omega arith)) h,
-            λ g. let n : differ ≡ 0 = c .none .1 (λ k h. g k (omega arith)) in omega arith,
-          );
-        }
-    go false f =
-        let z : d ≡ 1 = e ∙ ap (λ t. cond t differ 1) f in
-        record {
-          long = c .long;
-          none = (λ n. absurd (omega arith), λ g. absurd (eqb-false (getD a i 0) (getD b i 0) f (g i (omega arith))));
-        }
+comparing-more {a} {b} {i} {differ} {d} c e =
+    byTest (eqb (getD a i 0) (getD b i 0))
+    (λ f.
+    let z : d ≡ differ = e ∙ ap (λ t. cond t differ 1) f in
+    let here = eqb-true (getD a i 0) (getD b i 0) f in
+    record {
+      long = c .long;
+      none = (
+        λ n k h. at-or-other (λ j. j < i + 1 → getD a j 0 ≡ getD b j 0) i k (λ _. here) (λ o g. c .none .0 (omega arith) k (omega arith)) h,
+        λ g. let n : differ ≡ 0 = c .none .1 (λ k h. g k (omega arith)) in omega arith,
+      );
+    })
+    (λ f.
+    let z : d ≡ 1 = e ∙ ap (λ t. cond t differ 1) f in
+    record {
+      long = c .long;
+      none = (λ n. absurd (omega arith), λ g. absurd (eqb-false (getD a i 0) (getD b i 0) f (g i (omega arith))));
+    })
 
 pub comparing-done : {a b : List ℕ} {i differ : ℕ} → Comparing a b i differ → length a ≤ i → eqb differ 0 ≡ same a b
-comparing-done {a} {b} {i} {differ} c h = go (eqb differ 0) refl
-  where
-    go : (t : Bool) → eqb differ 0 ≡ t → t ≡ same a b
-    go true f =
-        let e : a ≡ b = ext-getD 0 a b (c .long) (λ k g. c .none .0 (eqb-true differ 0 f) k (omega arith)) in
-        sym (ap (same a) (sym e) ∙ is-same a)
-    go false f = sym (same-not a b (λ e. eqb-false differ 0 f (c .none .1 (λ k g. ap (λ l. getD l k 0) e))))
+comparing-done {a} {b} {i} {differ} c h =
+    byTest (eqb differ 0)
+    (λ f.
+    let e : a ≡ b = ext-getD 0 a b (c .long) (λ k g. c .none .0 (eqb-true differ 0 f) k (omega arith)) in
+    f ∙ sym (ap (same a) (sym e) ∙ is-same a))
+    (λ f. f ∙ sym (same-not a b (λ e. eqb-false differ 0 f (c .none .1 (λ k g. ap (λ l. getD l k 0) e)))))
 
 -- TABLES ARE THE SAME exactly if they are equal
 machines-same : (m n : Machines) → sameMachines m n ≡ true → m ≡ n
 machines-same m n e =
-    let a = both-hold (eqb (m .count) (n .count)) _ e in
-    let b = both-hold (eqb (m .product) (n .product)) _ (a .1) in
-    let c = both-hold (same (m .states) (n .states)) _ (b .1) in
+    let a = and-is (eqb (m .count) (n .count)) _ e in
+    let b = and-is (eqb (m .product) (n .product)) _ (a .1) in
+    let c = and-is (same (m .states) (n .states)) _ (b .1) in
     let count = eqb-true (m .count) (n .count) (a .0) in
     let product = eqb-true (m .product) (n .product) (b .0) in
     let states = same-is (m .states) (n .states) (c .0) in
@@ -100,8 +84,8 @@ machines-same m n e =
 
 queues-same : (q p : Queues) → sameQueues q p ≡ true → q ≡ p
 queues-same q p e =
-    let a = both-hold (eqb (q .count) (p .count)) _ e in
-    let b = both-hold (eqb (q .sum) (p .sum)) _ (a .1) in
+    let a = and-is (eqb (q .count) (p .count)) _ e in
+    let b = and-is (eqb (q .sum) (p .sum)) _ (a .1) in
     let count = eqb-true (q .count) (p .count) (a .0) in
     let sum = eqb-true (q .sum) (p .sum) (b .0) in
     let messages = same-is (q .messages) (p .messages) (b .1) in
@@ -116,10 +100,10 @@ record Larges (T U : Tables) : Type 0 where
 
 larges-same : (T U : Tables) → sameLarge T U ≡ true → Larges T U
 larges-same T U e =
-    let r = both-hold (same (T .transitions .rows) (U .transitions .rows)) _ e in
-    let s = both-hold (same (T .pool .finals) (U .pool .finals)) _ (r .1) in
-    let t = both-hold (same (T .pool .arcs) (U .pool .arcs)) _ (s .1) in
-    let u = both-hold (same (T .map .roots) (U .map .roots)) _ (t .1) in
+    let r = and-is (same (T .transitions .rows) (U .transitions .rows)) _ e in
+    let s = and-is (same (T .pool .finals) (U .pool .finals)) _ (r .1) in
+    let t = and-is (same (T .pool .arcs) (U .pool .arcs)) _ (s .1) in
+    let u = and-is (same (T .map .roots) (U .map .roots)) _ (t .1) in
     record {
       rows = same-is (T .transitions .rows) (U .transitions .rows) (r .0);
       finals = same-is (T .pool .finals) (U .pool .finals) (s .0);
@@ -130,11 +114,11 @@ larges-same T U e =
 
 pub same-tables : (T U : Tables) → sameTables T U ≡ true → T ≡ U
 same-tables T U e =
-    let h = both-hold _ (sameLarge T U) e in
-    let a = both-hold (sameMachines (T .machines) (U .machines)) _ (h .0) in
-    let b = both-hold (sameQueues (T .queues) (U .queues)) _ (a .1) in
-    let c = both-hold (eqb (T .transitions .count) (U .transitions .count)) _ (b .1) in
-    let d = both-hold (eqb (T .pool .count) (U .pool .count)) (eqb (T .bad .count) (U .bad .count)) (c .1) in
+    let h = and-is _ (sameLarge T U) e in
+    let a = and-is (sameMachines (T .machines) (U .machines)) _ (h .0) in
+    let b = and-is (sameQueues (T .queues) (U .queues)) _ (a .1) in
+    let c = and-is (eqb (T .transitions .count) (U .transitions .count)) _ (b .1) in
+    let d = and-is (eqb (T .pool .count) (U .pool .count)) (eqb (T .bad .count) (U .bad .count)) (c .1) in
     let m = machines-same (T .machines) (U .machines) (a .0) in
     let q = queues-same (T .queues) (U .queues) (b .0) in
     let transitions = eqb-true (T .transitions .count) (U .transitions .count) (c .0) in

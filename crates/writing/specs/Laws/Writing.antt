@@ -13,6 +13,7 @@ use Rattle.numbers.specs.Put.{Put}
 use Rattle.numbers.specs.Laws.Put.{put-front}
 use Rattle.tables.specs.Limits.{mostControls}
 use Rattle.tables.specs.declared.tables.Tables.{Tables}
+use Rattle.model.specs.Laws.Basics.{byTest, false-not-true}
 use Rattle.session.specs.Said.{read, refusal, saidAnswer}
 use Rattle.session.specs.File.{readFile, Reads}
 use Rattle.session.specs.Laws.Fields.{file-is, parts}
@@ -21,8 +22,8 @@ use Rattle.session.specs.Laws.Reading.{answer-refused, answer-read}
 use Rattle.session.specs.declared.reading.Reading.{Reading}
 use Rattle.spelling.specs.Spelled.{spelled}
 use Rattle.writing.specs.Same.{sameTables}
+use Rattle.writing.specs.Laws.Same.{same-tables}
 use Rattle.writing.specs.Write.{gives, restored}
-use Rattle.writing.specs.Laws.Same.{not-both, same-tables}
 
 -- what reading answered of some bytes says whether it gave the tables
 module _ (x : Part Tables) (r : Reading) (h : Reads x r) (T : Tables) where
@@ -35,7 +36,7 @@ module _ (x : Part Tables) (r : Reading) (h : Reads x r) (T : Tables) where
 -- what gave the tables was read into them
 pub gives-got : (x : Part Tables) (T : Tables) → gives x T ≡ true → (next : ℕ) × (x ≡ got T next)
 gives-got (got U next) T e = (next, ap (λ t. got t next) (sym (same-tables T U e)))
-gives-got (refused k p) T e = absurd (not-both e refl)
+gives-got (refused k p) T e = false-not-true refl e
 
 pub restored-read : (T : Tables) → restored T ≡ true → (next : ℕ) × (readFile (spelled T) ≡ got T next)
 unfolding restored
@@ -43,11 +44,7 @@ restored-read T e = gives-got (readFile (spelled T)) T e
 
 module _ (T : Tables) where
   not-restored : (restored T ≡ true → ⊥) → restored T ≡ false
-  not-restored h = go (restored T) refl
-    where
-      go : (b : Bool) → restored T ≡ b → b ≡ false
-      go true e = absurd (h e)
-      go false e = refl
+  not-restored h = byTest (restored T) (λ e. absurd (h e)) (λ e. e)
 
   -- a product that passes its limit
   pub unread-product : mostControls < T .machines .product → restored T ≡ false
