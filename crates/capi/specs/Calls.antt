@@ -17,9 +17,13 @@ use Rattle.writing.specs.Write.{bufferAfter}
 use Rattle.flat.specs.Flat.{flat, tablesLeast}
 use Rattle.flat.specs.Taken.{tablesAt}
 use Rattle.flat.specs.Written.{writeReplyAt}
-use Rattle.capi.specs.Told.{NO-ROOM, toldReply, toldAnswer, toldMember, toldWritten, replyAfter}
-use Rattle.capi.specs.Replays.{toldReplay, runAfter, recordLeast, blank}
-use Rattle.capi.specs.declared.told.Told.{Told}
+use Rattle.telling.specs.Told.{NO-ROOM, toldReply, toldAnswer, toldMember, toldWritten, replyAfter}
+use Rattle.telling.specs.Replays.{toldReplay, runAfter, recordLeast, blank}
+use Rattle.telling.specs.declared.told.Told.{Told}
+
+-- THE NUMBER OF THE LAYOUT: a layout of tables that differs in any entry, or another reply, has another. 1 had words of four messages
+abbrev pub layout : ℕ
+layout = 2
 
 -- is there space for a reply?
 abbrev pub replyFits : List ℕ → Bool

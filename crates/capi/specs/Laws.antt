@@ -41,17 +41,10 @@ use Rattle.flat.specs.Flat.{flat, tablesLeast}
 use Rattle.flat.specs.Taken.{tablesAt}
 use Rattle.flat.specs.Written.{writeReplyAt, WritesFlat}
 use Rattle.flat.specs.Laws.Put.{flat-front}
-use Rattle.capi.specs.Told.{NO-ROOM, toldOf, toldReply, toldAnswer, toldMember, toldWritten, toldLine, replyAfter, Tells}
-use Rattle.capi.specs.Replays.{toldReplay, recordOut, recordLeast, runAfter, blank}
+use Rattle.telling.specs.Told.{NO-ROOM, toldOf, toldReply, toldAnswer, toldMember, toldWritten, toldLine, replyAfter, Tells}
+use Rattle.telling.specs.Replays.{toldReplay, recordOut, recordLeast, runAfter, blank}
 use Rattle.capi.specs.Calls.{replyFits, kindIf, keepUnless, spaceAfter, outcomeOf, replayTold, replayFits, ReadCall, WriteCall, MemberCall, CheckCall, ReplayCall}
-use Rattle.capi.specs.declared.told.Told.{Told}
-
--- three numbers stored one by one
-pub told-stored : (reply : List ℕ) (x y z : ℕ) → 3 ≤ length reply → set (set (set reply 0 x) 1 y) 2 z ≡ x ∷ y ∷ z ∷ drop 3 reply
-told-stored [] x y z h = absurd (omega arith)
-told-stored (a ∷ []) x y z h = absurd (omega arith)
-told-stored (a ∷ b ∷ []) x y z h = absurd (omega arith)
-told-stored (a ∷ b ∷ c ∷ rest) x y z h = refl
+use Rattle.telling.specs.declared.told.Told.{Told}
 
 -- ROOM FOR THE OUTPUT, or none
 kind-none : (b : Bool) (t : Told) → b ≡ false → NO-ROOM ≡ kindIf b t
@@ -212,26 +205,6 @@ module _ (file seen queue contents reply : List ℕ) where
       }
 
 -- REPLAYING
--- a table of four, written out before others
-abbrev fourThen : List ℕ → List ℕ → List ℕ
-fourThen l rest = getD l 0 0 ∷ getD l 1 0 ∷ getD l 2 0 ∷ getD l 3 0 ∷ rest
-
-four-is : (l : List ℕ) → length l ≡ 4 → l ≡ fourThen l []
-four-is [] h = absurd (omega arith)
-four-is (a ∷ []) h = absurd (omega arith)
-four-is (a ∷ b ∷ []) h = absurd (omega arith)
-four-is (a ∷ b ∷ c ∷ []) h = absurd (omega arith)
-four-is (a ∷ b ∷ c ∷ d ∷ []) h = refl
-four-is (a ∷ b ∷ c ∷ d ∷ e ∷ l) h = absurd (omega arith)
-
--- twelve numbers stored one by one
-pub record-stored : (run : List ℕ) (r : RunRecord) → recordLeast ≤ length run → length (r .states) ≡ 4 → length (r .heads) ≡ 4
-    → length (r .lengths) ≡ 4
-    → sets run 0 (fourThen (r .states) (fourThen (r .heads) (fourThen (r .lengths) []))) ≡ recordOut r ++ drop recordLeast run
-record-stored run r h a b c =
-    sets-eq (fourThen (r .states) (fourThen (r .heads) (fourThen (r .lengths) []))) run 0 h
-    ∙ sym (rw (four-is (r .states) a, four-is (r .heads) b, four-is (r .lengths) c))
-
 module _ (file trace memory run reply : List ℕ) where
   replay-none : replayFits run reply ≡ false → ReplayCall file trace memory run reply NO-ROOM memory run reply
   replay-none e =

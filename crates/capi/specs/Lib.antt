@@ -1,5 +1,3 @@
--- What C callers are told, and what each call promises of all that it was lent.
-pub mod Told
-pub mod Replays
+-- What each call promises of all that it was lent.
 pub mod Calls
 pub mod Laws

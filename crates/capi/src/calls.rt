@@ -1,17 +1,4 @@
 // What C calls. A call whose output space is too short answers NO_ROOM and touches nothing.
-use crate::replays::RECORD_LEAST;
-use crate::replays::put_run;
-use crate::replays::tell_replay;
-use crate::told::LAYOUT;
-use crate::told::NO_ROOM;
-use crate::told::READ;
-use crate::told::REPLY_LEAST;
-use crate::told::bare;
-use crate::told::put_told;
-use crate::told::tell_member;
-use crate::told::tell_refusal;
-use crate::told::tell_verdict;
-use crate::told::tell_written;
 use answer::printed;
 use diagram::member::member;
 use flat::places::TABLES_LEAST;
@@ -23,10 +10,24 @@ use session::reading::read;
 use stepping::runs::RunRecord;
 use tables::tables::MOST_MACHINES;
 use tables::tables::MOST_QUEUES;
+use telling::replays::RECORD_LEAST;
+use telling::replays::put_run;
+use telling::replays::tell_replay;
+use telling::told::NO_ROOM;
+use telling::told::READ;
+use telling::told::REPLY_LEAST;
+use telling::told::bare;
+use telling::told::put_told;
+use telling::told::tell_member;
+use telling::told::tell_refusal;
+use telling::told::tell_verdict;
+use telling::told::tell_written;
 use verdict::check::check;
 ghost use mathlib.Core.Path.{_≡_};
-ghost use Rattle.capi.specs.Told.{layout};
-ghost use Rattle.capi.specs.Calls.{ReadCall, WriteCall, MemberCall, CheckCall, ReplayCall};
+ghost use Rattle.capi.specs.Calls.{layout, ReadCall, WriteCall, MemberCall, CheckCall, ReplayCall};
+
+// The number of the layout.
+const LAYOUT: usize = 2;
 
 // The number of the library's layout, for a program to compare with that of the header it was built with.
 #[no_mangle]

@@ -5,8 +5,8 @@ use Rattle.capi.proofs.calls.swarmbanner_member.Statement.{statement}
 use Rattle.capi.proofs.calls.swarmbanner_member.Tie as tie
 use Rattle.capi.proofs.calls.swarmbanner_member.Reads as reads
 use Rattle.capi.proofs.calls.swarmbanner_member.Lts as lts
-use Rattle.capi.proofs.told.put_told.Reads as put-told-reads
-use Rattle.capi.proofs.told.tell_member.Reads as tell-member-reads
+use Rattle.telling.proofs.told.put_told.Reads as put-told-reads
+use Rattle.telling.proofs.told.tell_member.Reads as tell-member-reads
 use Rattle.diagram.proofs.member.member.Reads as member-reads
 
 -- src/calls.rt:48:9

@@ -2,7 +2,7 @@ use mathlib.Core.Path.{sym, ap, _∙_}
 use denote.Ref.{now}
 use Rattle.session.specs.Said.{saidAnswer}
 use Rattle.diagram.specs.Laws.Asking.{read-valid}
-use Rattle.capi.specs.Told.{toldAnswer}
+use Rattle.telling.specs.Told.{toldAnswer}
 use Rattle.capi.specs.Laws.{read-short, read-unheard, read-refused, read-filled}
 use borrow.Author.Needs.{needs}
 use Rattle.capi.proofs.calls.swarmbanner_read.Statement.{statement}
@@ -10,9 +10,9 @@ use Rattle.capi.proofs.calls.swarmbanner_read.Tie as tie
 use Rattle.capi.proofs.calls.swarmbanner_read.Reads as reads
 use Rattle.capi.proofs.calls.swarmbanner_read.Lts as lts
 use Rattle.flat.proofs.put.put_tables.Reads as put-tables-reads
-use Rattle.capi.proofs.told.bare.Reads as bare-reads
-use Rattle.capi.proofs.told.put_told.Reads as put-told-reads
-use Rattle.capi.proofs.told.tell_refusal.Reads as tell-refusal-reads
+use Rattle.telling.proofs.told.bare.Reads as bare-reads
+use Rattle.telling.proofs.told.put_told.Reads as put-told-reads
+use Rattle.telling.proofs.told.tell_refusal.Reads as tell-refusal-reads
 use Rattle.session.proofs.reading.read.Reads as read-reads
 
 -- src/calls.rt:25:9

@@ -1,12 +1,12 @@
 use mathlib.Core.Path.{sym, ap, _∙_}
-use Rattle.capi.specs.Told.{toldLine}
+use Rattle.telling.specs.Told.{toldLine}
 use borrow.Author.Needs.{needs}
-use Rattle.capi.proofs.told.tell_verdict.Statement.{statement}
-use Rattle.capi.proofs.told.tell_verdict.Tie as tie
-use Rattle.capi.proofs.told.tell_verdict.Reads as reads
-use Rattle.capi.proofs.told.tell_verdict.Lts as lts
-use Rattle.capi.proofs.told.bare.Reads as bare-reads
-use Rattle.capi.proofs.told.refused.Reads as refused-reads
+use Rattle.telling.proofs.told.tell_verdict.Statement.{statement}
+use Rattle.telling.proofs.told.tell_verdict.Tie as tie
+use Rattle.telling.proofs.told.tell_verdict.Reads as reads
+use Rattle.telling.proofs.told.tell_verdict.Lts as lts
+use Rattle.telling.proofs.told.bare.Reads as bare-reads
+use Rattle.telling.proofs.told.refused.Reads as refused-reads
 
 -- src/told.rt:69:25
 enum-known-v : tie.Need-enum-known-v

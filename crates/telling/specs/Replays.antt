@@ -6,8 +6,8 @@ use Rattle.tables.specs.Limits.{mostMachines, mostQueues}
 use Rattle.trace.specs.Rules.{end, outside, refusal}
 use Rattle.stepping.specs.declared.runs.RunRecord.{RunRecord}
 use Rattle.replay.specs.Reply.{Reply, file, trace, memory, ran}
-use Rattle.capi.specs.Told.{toldOf, toldRefusal}
-use Rattle.capi.specs.declared.told.Told.{Told}
+use Rattle.telling.specs.Told.{toldOf, toldRefusal}
+use Rattle.telling.specs.declared.told.Told.{Told}
 
 -- the kinds
 abbrev pub END : ℕ

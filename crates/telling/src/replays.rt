@@ -15,7 +15,7 @@ ghost use Prim.Native.Nat.{_≤_};
 ghost use lib.ListN.{length, drop};
 ghost use Rattle.trace.specs.Rules.{refusal};
 ghost use Rattle.replay.specs.Reply.{ran, saidStop};
-ghost use Rattle.capi.specs.Replays.{toldReplay, recordOut, recordLeast, runAfter};
+ghost use Rattle.telling.specs.Replays.{toldReplay, recordOut, recordLeast, runAfter};
 
 // The kinds of a replay, as the header names them.
 pub const END: usize = 9;
@@ -42,7 +42,7 @@ fn step_refused(number: usize, place: usize, steps: usize) -> Told
     }
 }
 
-pub(crate) fn tell_replay(e: Ended) -> Told
+pub fn tell_replay(e: Ended) -> Told
     ensures { λ r. ⌜ r ≡ toldReplay (saidStop (e .why)) (e .steps) ⌝ }
 {
     let why = e.why;
@@ -102,7 +102,7 @@ fn put_record(run: &mut [usize], r: RunRecord)
 }
 
 // The numbers of a replay that ran; after a refusal of file, trace or memory the space is as it was.
-pub(crate) fn put_run(run: &mut [usize], why: Stop, r: RunRecord)
+pub fn put_run(run: &mut [usize], why: Stop, r: RunRecord)
     requires { ⌜ recordLeast ≤ length (now run) ⌝ }
     ensures { λ u. ⌜ now (run .exit) ≡ runAfter (saidStop why) r (now (run .entry)) ⌝ }
 {

@@ -1,14 +1,14 @@
 use mathlib.Core.Path.{sym, ap, ap₂, _∙_}
 use Rattle.trace.specs.Rules.{refusal}
 use Rattle.replay.specs.Reply.{ran, saidStop}
-use Rattle.capi.specs.Replays.{toldReplay}
+use Rattle.telling.specs.Replays.{toldReplay}
 use borrow.Author.Needs.{needs}
-use Rattle.capi.proofs.replays.tell_replay.Statement.{statement}
-use Rattle.capi.proofs.replays.tell_replay.Tie as tie
-use Rattle.capi.proofs.replays.tell_replay.Reads as reads
-use Rattle.capi.proofs.replays.tell_replay.Lts as lts
-use Rattle.capi.proofs.replays.step_refused.Reads as step-refused-reads
-use Rattle.capi.proofs.told.tell_refusal.Reads as tell-refusal-reads
+use Rattle.telling.proofs.replays.tell_replay.Statement.{statement}
+use Rattle.telling.proofs.replays.tell_replay.Tie as tie
+use Rattle.telling.proofs.replays.tell_replay.Reads as reads
+use Rattle.telling.proofs.replays.tell_replay.Lts as lts
+use Rattle.telling.proofs.replays.step_refused.Reads as step-refused-reads
+use Rattle.telling.proofs.told.tell_refusal.Reads as tell-refusal-reads
 use Rattle.numbers.proofs.refusal.number.Reads as number-reads
 use Rattle.numbers.proofs.refusal.place.Reads as place-reads
 

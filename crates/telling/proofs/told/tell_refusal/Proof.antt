@@ -1,11 +1,11 @@
 use mathlib.Core.Path.{ap₂, _∙_}
-use Rattle.capi.specs.Told.{toldRefusal}
+use Rattle.telling.specs.Told.{toldRefusal}
 use borrow.Author.Needs.{needs}
-use Rattle.capi.proofs.told.tell_refusal.Statement.{statement}
-use Rattle.capi.proofs.told.tell_refusal.Tie as tie
-use Rattle.capi.proofs.told.tell_refusal.Reads as reads
-use Rattle.capi.proofs.told.tell_refusal.Lts as lts
-use Rattle.capi.proofs.told.refused.Reads as refused-reads
+use Rattle.telling.proofs.told.tell_refusal.Statement.{statement}
+use Rattle.telling.proofs.told.tell_refusal.Tie as tie
+use Rattle.telling.proofs.told.tell_refusal.Reads as reads
+use Rattle.telling.proofs.told.tell_refusal.Lts as lts
+use Rattle.telling.proofs.told.refused.Reads as refused-reads
 use Rattle.numbers.proofs.refusal.number.Reads as number-reads
 use Rattle.numbers.proofs.refusal.place.Reads as place-reads
 

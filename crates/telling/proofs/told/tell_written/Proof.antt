@@ -1,12 +1,12 @@
 use mathlib.Core.Path.{sym, ap, _∙_}
 use Rattle.writing.specs.Write.{saidWritten}
-use Rattle.capi.specs.Told.{toldWritten}
+use Rattle.telling.specs.Told.{toldWritten}
 use borrow.Author.Needs.{needs}
-use Rattle.capi.proofs.told.tell_written.Statement.{statement}
-use Rattle.capi.proofs.told.tell_written.Tie as tie
-use Rattle.capi.proofs.told.tell_written.Reads as reads
-use Rattle.capi.proofs.told.tell_written.Lts as lts
-use Rattle.capi.proofs.told.refused.Reads as refused-reads
+use Rattle.telling.proofs.told.tell_written.Statement.{statement}
+use Rattle.telling.proofs.told.tell_written.Tie as tie
+use Rattle.telling.proofs.told.tell_written.Reads as reads
+use Rattle.telling.proofs.told.tell_written.Lts as lts
+use Rattle.telling.proofs.told.refused.Reads as refused-reads
 
 -- src/told.rt:123:25
 enum-known-w : tie.Need-enum-known-w

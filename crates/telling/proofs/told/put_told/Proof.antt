@@ -2,12 +2,12 @@ use mathlib.Core.Path.{refl}
 use denote.Ref.{now}
 use lib.ListN.{length-set}
 use native.Mathlib.Omega.{arith}
-use Rattle.capi.specs.Laws.{told-stored}
+use Rattle.telling.specs.Laws.{told-stored}
 use borrow.Author.Needs.{needs}
-use Rattle.capi.proofs.told.put_told.Statement.{statement}
-use Rattle.capi.proofs.told.put_told.Tie as tie
-use Rattle.capi.proofs.told.put_told.Reads as reads
-use Rattle.capi.proofs.told.put_told.Lts as lts
+use Rattle.telling.proofs.told.put_told.Statement.{statement}
+use Rattle.telling.proofs.told.put_told.Tie as tie
+use Rattle.telling.proofs.told.put_told.Reads as reads
+use Rattle.telling.proofs.told.put_told.Lts as lts
 
 -- src/told.rt:119:5
 slice-write-reply : tie.Need-slice-write-reply

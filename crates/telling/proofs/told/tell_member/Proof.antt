@@ -1,14 +1,14 @@
 use mathlib.Core.Path.{sym, ap, _∙_}
 use Rattle.diagram.specs.Said.{saidMember}
-use Rattle.capi.specs.Told.{toldMember}
+use Rattle.telling.specs.Told.{toldMember}
 use borrow.Author.Needs.{needs}
-use Rattle.capi.proofs.told.tell_member.Statement.{statement}
-use Rattle.capi.proofs.told.tell_member.Tie as tie
-use Rattle.capi.proofs.told.tell_member.Reads as reads
-use Rattle.capi.proofs.told.tell_member.Lts as lts
-use Rattle.capi.proofs.told.bare.Reads as bare-reads
-use Rattle.capi.proofs.told.refused.Reads as refused-reads
-use Rattle.capi.proofs.told.tell_refusal.Reads as tell-refusal-reads
+use Rattle.telling.proofs.told.tell_member.Statement.{statement}
+use Rattle.telling.proofs.told.tell_member.Tie as tie
+use Rattle.telling.proofs.told.tell_member.Reads as reads
+use Rattle.telling.proofs.told.tell_member.Lts as lts
+use Rattle.telling.proofs.told.bare.Reads as bare-reads
+use Rattle.telling.proofs.told.refused.Reads as refused-reads
+use Rattle.telling.proofs.told.tell_refusal.Reads as tell-refusal-reads
 
 -- src/told.rt:103:24
 enum-told : tie.Need-enum-told

@@ -10,11 +10,7 @@ use Rattle.diagram.specs.Member as Member
 use Rattle.writing.specs.Write as Write
 use Rattle.line.specs.declared.verdict.Verdict.{Verdict as Line}
 use Rattle.line.specs.declared.verdict.Verdict.the-variants.{Closed, Outside, Leaves, Bad, Refused}
-use Rattle.capi.specs.declared.told.Told.{Told}
-
--- THE NUMBER OF THE LAYOUT: a layout of tables that differs in any entry, or another reply, has another. 1 had words of four messages
-abbrev pub layout : ℕ
-layout = 2
+use Rattle.telling.specs.declared.told.Told.{Told}
 
 -- the kinds
 abbrev pub CLOSED : ℕ

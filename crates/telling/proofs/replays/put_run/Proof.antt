@@ -9,13 +9,13 @@ use Rattle.replay.specs.Reply.{saidStop}
 use Rattle.replay.specs.declared.progress.Stop.{Stop}
 use Rattle.replay.specs.declared.progress.Stop.the-variants.{End, Outside, Unread, NotPossible, NoRoom, FileRefused, TraceTooLong, MemoryShort}
 use Rattle.replay.proofs.progress.Stop.{the-type}
-use Rattle.capi.specs.Replays.{recordOut, recordLeast, runAfter}
+use Rattle.telling.specs.Replays.{recordOut, recordLeast, runAfter}
 use borrow.Author.Needs.{needs}
-use Rattle.capi.proofs.replays.put_run.Statement.{statement}
-use Rattle.capi.proofs.replays.put_run.Tie as tie
-use Rattle.capi.proofs.replays.put_run.Reads as reads
-use Rattle.capi.proofs.replays.put_run.Lts as lts
-use Rattle.capi.proofs.replays.put_record.Reads as put-record-reads
+use Rattle.telling.proofs.replays.put_run.Statement.{statement}
+use Rattle.telling.proofs.replays.put_run.Tie as tie
+use Rattle.telling.proofs.replays.put_run.Reads as reads
+use Rattle.telling.proofs.replays.put_run.Lts as lts
+use Rattle.telling.proofs.replays.put_record.Reads as put-record-reads
 
 -- the cases of a replay that ran, by their numbers
 abbrev ranCases : List ℕ

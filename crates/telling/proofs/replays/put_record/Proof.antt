@@ -2,12 +2,12 @@ use mathlib.Core.List.{[], _∷_}
 use denote.Ref.{now}
 use lib.Seq.{length-sets, lt-length-sets}
 use native.Mathlib.Omega.{arith}
-use Rattle.capi.specs.Laws.{record-stored}
+use Rattle.telling.specs.Laws.{record-stored}
 use borrow.Author.Needs.{needs}
-use Rattle.capi.proofs.replays.put_record.Statement.{statement}
-use Rattle.capi.proofs.replays.put_record.Tie as tie
-use Rattle.capi.proofs.replays.put_record.Reads as reads
-use Rattle.capi.proofs.replays.put_record.Lts as lts
+use Rattle.telling.proofs.replays.put_record.Statement.{statement}
+use Rattle.telling.proofs.replays.put_record.Tie as tie
+use Rattle.telling.proofs.replays.put_record.Reads as reads
+use Rattle.telling.proofs.replays.put_record.Lts as lts
 
 -- src/replays.rt:90:14
 array-read-run : tie.Need-array-read-run

@@ -11,10 +11,7 @@ ghost use lib.ListN.{length};
 ghost use Rattle.numbers.specs.Said.{numberOf, placeOf};
 ghost use Rattle.diagram.specs.Said.{saidMember};
 ghost use Rattle.writing.specs.Write.{saidWritten};
-ghost use Rattle.capi.specs.Told.{toldOf, toldLine, toldMember, toldWritten, toldRefusal, Tells};
-
-// The number of the layout.
-pub const LAYOUT: usize = 2;
+ghost use Rattle.telling.specs.Told.{toldOf, toldLine, toldMember, toldWritten, toldRefusal, Tells};
 
 // The kinds, as the header names them.
 pub const CLOSED: usize = 0;
@@ -48,7 +45,7 @@ pub struct Told {
 }
 
 // A kind that no numbers go with.
-pub(crate) fn bare(kind: usize) -> Told
+pub fn bare(kind: usize) -> Told
     ensures { λ r. ⌜ r ≡ toldOf kind 0 0 0 ⌝ }
 {
     Told {
@@ -70,13 +67,13 @@ fn refused(number: usize, place: usize) -> Told
     }
 }
 
-pub(crate) fn tell_refusal(why: Refusal) -> Told
+pub fn tell_refusal(why: Refusal) -> Told
     ensures { λ r. ⌜ r ≡ toldRefusal (numberOf why) (placeOf why) ⌝ }
 {
     refused(number(why), place(why))
 }
 
-pub(crate) fn tell_verdict(v: Verdict) -> Told
+pub fn tell_verdict(v: Verdict) -> Told
     ensures { λ r. ⌜ r ≡ toldLine v ⌝ }
 {
     match v {
@@ -103,7 +100,7 @@ pub(crate) fn tell_verdict(v: Verdict) -> Told
     }
 }
 
-pub(crate) fn tell_member(m: Member) -> Told
+pub fn tell_member(m: Member) -> Told
     ensures { λ r. ⌜ r ≡ toldMember (saidMember m) ⌝ }
 {
     match m {
@@ -116,7 +113,7 @@ pub(crate) fn tell_member(m: Member) -> Told
     }
 }
 
-pub(crate) fn tell_written(w: Written) -> Told
+pub fn tell_written(w: Written) -> Told
     ensures { λ r. ⌜ r ≡ toldWritten (saidWritten w) ⌝ }
 {
     match w {
@@ -132,7 +129,7 @@ pub(crate) fn tell_written(w: Written) -> Told
 }
 
 // The numbers fill the front of the reply's space. Returns the kind.
-pub(crate) fn put_told(reply: &mut [usize], t: Told) -> usize
+pub fn put_told(reply: &mut [usize], t: Told) -> usize
     requires { ⌜ 3 ≤ length (now reply) ⌝ }
     ensures { λ r. ⌜ Tells t (now (reply .entry)) (now (reply .exit)) r ⌝ }
 {
