@@ -1,5 +1,4 @@
 -- The laws of writing, each proved once from the definitions.
-pub mod Same
 pub mod Writing
 pub mod Restored
 pub mod Promises

@@ -1,3 +1,2 @@
-pub mod Same
 pub mod Write
 pub mod Laws

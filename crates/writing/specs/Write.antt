@@ -11,7 +11,7 @@ use Rattle.tables.specs.declared.tables.Tables.{Tables}
 use Rattle.session.specs.File.{readFile}
 use Rattle.spelling.specs.Spelled.{spelled}
 use Rattle.spelling.specs.Readable.{Readable}
-use Rattle.writing.specs.Same.{sameTables}
+use Rattle.comparing.specs.Same.{sameTables}
 use Rattle.writing.specs.declared.write.Written.{Written}
 use Rattle.writing.specs.declared.write.Written.the-variants.{Length, NotReadable, TooShort}
 

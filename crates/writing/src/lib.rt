@@ -1,3 +1,2 @@
 // Writing: from tables to the bytes of a session file, or to a refusal.
-mod same;
 pub mod write;

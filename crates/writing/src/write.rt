@@ -1,5 +1,5 @@
 // Writing tables out, into a lent buffer.
-use crate::same::same_tables;
+use comparing::same::same_tables;
 use numbers::put::put_word;
 use numbers::refusal::MOST_BYTES;
 use session::reading::Answer;

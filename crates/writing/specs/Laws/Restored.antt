@@ -8,7 +8,7 @@ use Rattle.session.specs.Laws.Valid.{valid}
 use Rattle.spelling.specs.Spelled.{spelled}
 use Rattle.spelling.specs.Readable.{Readable}
 use Rattle.spelling.specs.Laws.Whole.{readable-exactly, written-then-read}
-use Rattle.writing.specs.Laws.Same.{tables-same}
+use Rattle.comparing.specs.Laws.{tables-same}
 use Rattle.writing.specs.Write.{gives, restored}
 use Rattle.writing.specs.Laws.Writing.{restored-read}
 

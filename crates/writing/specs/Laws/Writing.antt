@@ -21,8 +21,8 @@ use Rattle.session.specs.Laws.Valid.{valid}
 use Rattle.session.specs.Laws.Reading.{answer-refused, answer-read}
 use Rattle.session.specs.declared.reading.Reading.{Reading}
 use Rattle.spelling.specs.Spelled.{spelled}
-use Rattle.writing.specs.Same.{sameTables}
-use Rattle.writing.specs.Laws.Same.{same-tables}
+use Rattle.comparing.specs.Same.{sameTables}
+use Rattle.comparing.specs.Laws.{same-tables}
 use Rattle.writing.specs.Write.{gives, restored}
 
 -- what reading answered of some bytes says whether it gave the tables

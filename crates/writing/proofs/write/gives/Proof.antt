@@ -8,7 +8,7 @@ use Rattle.session.specs.Said.{saidAnswer}
 use Rattle.session.specs.Laws.Reading.{answer-valid}
 use Rattle.writing.specs.Laws.Writing.{gives-refused, gives-read}
 use Rattle.session.proofs.reading.read_into.Reads as read-into-reads
-use Rattle.writing.proofs.same.same_tables.Reads as same-tables-reads
+use Rattle.comparing.proofs.same.same_tables.Reads as same-tables-reads
 
 -- src/write.rt:41:9
 read-into-requires : tie.Need-read-into-requires

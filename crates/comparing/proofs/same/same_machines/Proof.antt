@@ -1,9 +1,9 @@
 use borrow.Author.Needs.{needs}
-use Rattle.writing.proofs.same.same_machines.Statement.{statement}
-use Rattle.writing.proofs.same.same_machines.Tie as tie
-use Rattle.writing.proofs.same.same_machines.Reads as reads
-use Rattle.writing.proofs.same.same_machines.Lts as lts
-use Rattle.writing.proofs.same.same.Reads as same-reads
+use Rattle.comparing.proofs.same.same_machines.Statement.{statement}
+use Rattle.comparing.proofs.same.same_machines.Tie as tie
+use Rattle.comparing.proofs.same.same_machines.Reads as reads
+use Rattle.comparing.proofs.same.same_machines.Lts as lts
+use Rattle.comparing.proofs.same.same.Reads as same-reads
 use mathlib.Core.Path.{sym, _∙_}
 use borrow.Author.Tests.{eq-eqb, ne-eqb, not-true, not-false}
 

@@ -1,4 +1,4 @@
--- Are two tables the same, entry by entry? `Laws.Same.same-tables` says that this is equality.
+-- Are two tables the same, entry by entry? `Laws.same-tables` says that this is equality.
 use Prim.Native.Nat.{ℕ}
 use mathlib.Core.Bool.{Bool, true, false, _&&_}
 use mathlib.Core.List.{List, [], _∷_}

@@ -1,14 +1,14 @@
 use borrow.Author.Needs.{needs}
-use Rattle.writing.proofs.same.same_tables.Statement.{statement}
-use Rattle.writing.proofs.same.same_tables.Tie as tie
-use Rattle.writing.proofs.same.same_tables.Reads as reads
-use Rattle.writing.proofs.same.same_tables.Lts as lts
+use Rattle.comparing.proofs.same.same_tables.Statement.{statement}
+use Rattle.comparing.proofs.same.same_tables.Tie as tie
+use Rattle.comparing.proofs.same.same_tables.Reads as reads
+use Rattle.comparing.proofs.same.same_tables.Lts as lts
 use mathlib.Core.Path.{sym, _∙_}
 use borrow.Author.Tests.{not-true, not-false}
-use Rattle.writing.proofs.same.same.Reads as same-reads
-use Rattle.writing.proofs.same.same_entries.Reads as same-entries-reads
-use Rattle.writing.proofs.same.same_heads.Reads as same-heads-reads
-use Rattle.writing.proofs.same.same_roots.Reads as same-roots-reads
+use Rattle.comparing.proofs.same.same.Reads as same-reads
+use Rattle.comparing.proofs.same.same_entries.Reads as same-entries-reads
+use Rattle.comparing.proofs.same.same_heads.Reads as same-heads-reads
+use Rattle.comparing.proofs.same.same_roots.Reads as same-roots-reads
 
 -- src/same.rt:121:9
 same-heads-requires : tie.Need-same-heads-requires

@@ -1,12 +1,12 @@
 use borrow.Author.Needs.{needs}
-use Rattle.writing.proofs.same.same_heads.Statement.{statement}
-use Rattle.writing.proofs.same.same_heads.Tie as tie
-use Rattle.writing.proofs.same.same_heads.Reads as reads
-use Rattle.writing.proofs.same.same_heads.Lts as lts
+use Rattle.comparing.proofs.same.same_heads.Statement.{statement}
+use Rattle.comparing.proofs.same.same_heads.Tie as tie
+use Rattle.comparing.proofs.same.same_heads.Reads as reads
+use Rattle.comparing.proofs.same.same_heads.Lts as lts
 use mathlib.Core.Path.{sym, _∙_}
 use borrow.Author.Tests.{eq-eqb, ne-eqb, not-true, not-false}
-use Rattle.writing.proofs.same.same_machines.Reads as same-machines-reads
-use Rattle.writing.proofs.same.same_queues.Reads as same-queues-reads
+use Rattle.comparing.proofs.same.same_machines.Reads as same-machines-reads
+use Rattle.comparing.proofs.same.same_queues.Reads as same-queues-reads
 
 -- src/same.rt:79:9
 same-machines-requires : tie.Need-same-machines-requires

@@ -1,7 +1,7 @@
-use Rattle.writing.proofs.same.differs.Statement.{statement}
-use Rattle.writing.proofs.same.differs.Tie as tie
-use Rattle.writing.proofs.same.differs.Reads as reads
-use Rattle.writing.proofs.same.differs.Lts as lts
+use Rattle.comparing.proofs.same.differs.Statement.{statement}
+use Rattle.comparing.proofs.same.differs.Tie as tie
+use Rattle.comparing.proofs.same.differs.Reads as reads
+use Rattle.comparing.proofs.same.differs.Lts as lts
 use borrow.Author.Tests.{eq-eqb, ne-eqb}
 
 -- src/same.rt:20:9

@@ -10,7 +10,7 @@ ghost use mathlib.Core.Path.{_≡_};
 ghost use lib.Dec.{eqb};
 ghost use Rattle.session.specs.Lent.{lentReading};
 ghost use Rattle.writing_fields.specs.Parts.{joined};
-ghost use Rattle.writing.specs.Same.{same, sameMachines, sameQueues, sameHeads, sameTables};
+ghost use Rattle.comparing.specs.Same.{same, sameMachines, sameQueues, sameHeads, sameTables};
 
 // Whether a difference was found, one more entry of each looked at.
 fn differs(x: u8, y: u8, before: u8) -> u8
@@ -106,7 +106,7 @@ fn same_entries(entries: &[u8], bad: BadList) -> bool
 }
 
 // Tables in parts, and those that were read.
-pub(crate) fn same_tables(
+pub fn same_tables(
     h: Head,
     rows: &[u8],
     finals: &[u8],

@@ -1,14 +1,14 @@
-use Rattle.writing.proofs.same.same.Statement.{statement}
-use Rattle.writing.proofs.same.same.Tie as tie
-use Rattle.writing.proofs.same.same.Reads as reads
-use Rattle.writing.proofs.same.same.Lts as lts
+use Rattle.comparing.proofs.same.same.Statement.{statement}
+use Rattle.comparing.proofs.same.same.Tie as tie
+use Rattle.comparing.proofs.same.same.Reads as reads
+use Rattle.comparing.proofs.same.same.Lts as lts
 use borrow.Author.Needs.{needs}
 use native.Mathlib.Omega.{arith}
 use Prim.Native.Nat.{_-_, _≤_}
 use mathlib.Core.Path.{sym, ap}
 use lib.ListN.{length}
-use Rattle.writing.specs.Laws.Same.{Comparing, comparing-none, comparing-more, comparing-done, same-not}
-use Rattle.writing.proofs.same.differs.Reads as differs-reads
+use Rattle.comparing.specs.Laws.{Comparing, comparing-none, comparing-more, comparing-done, same-not}
+use Rattle.comparing.proofs.same.differs.Reads as differs-reads
 
 abbrev Inv-loop : tie.InvT-loop
 Inv-loop a b differ₀ i₀ differ i = Comparing a b i differ × (i ≤ length a)

@@ -14,7 +14,7 @@ use Rattle.tables.specs.declared.tables.Machines.{Machines}
 use Rattle.tables.specs.declared.tables.Queues.{Queues}
 use Rattle.tables.specs.declared.tables.Tables.{Tables}
 use Rattle.model.specs.Laws.Basics.{byTest, false-not-true, and-is, is-and}
-use Rattle.writing.specs.Same.{same, sameMachines, sameQueues, sameHeads, sameLarge, sameTables}
+use Rattle.comparing.specs.Same.{same, sameMachines, sameQueues, sameHeads, sameLarge, sameTables}
 
 pub same-is : (l m : List ℕ) → same l m ≡ true → l ≡ m
 unfolding same

@@ -1,0 +1,3 @@
+-- Sameness of tables, entry by entry.
+pub mod Same
+pub mod Laws

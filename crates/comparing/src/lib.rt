@@ -1,0 +1,2 @@
+// Comparing tables that were read with tables in parts.
+pub mod same;
