@@ -8,6 +8,10 @@ use Rattle.tables.specs.declared.tables.Tables.{Tables}
 use Rattle.spelling.specs.Spelled.{number, action, pool, map, bad}
 use Rattle.writing_fields.specs.declared.parts.Head.{Head}
 
+-- further than any text goes, and no sum with it passes what a place can hold
+abbrev pub amplePlace : ℕ
+amplePlace = 1000000
+
 -- rows of the transitions, final marks, arcs, roots, rows of the bad entries
 abbrev pub joined : Head → List ℕ → List ℕ → List ℕ → List ℕ → List ℕ → Tables
 joined h rows finals arcs roots entries =

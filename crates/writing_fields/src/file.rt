@@ -10,7 +10,7 @@ ghost use Prim.Native.Nat.{_+_, _≤_};
 ghost use Rattle.tables.specs.Limits.{mostControls};
 ghost use Rattle.numbers.specs.Put.{Put};
 ghost use Rattle.spelling.specs.Spelled.{spelled};
-ghost use Rattle.writing_fields.specs.Parts.{joined, diagrams};
+ghost use Rattle.writing_fields.specs.Parts.{amplePlace, joined, diagrams};
 
 // Fields 4 to 6.
 fn put_diagrams(
@@ -22,7 +22,7 @@ fn put_diagrams(
     roots: &[u8],
     entries: &[u8],
 ) -> usize
-    requires { ⌜ at + 262656 ≤ 1000000 ⌝ }
+    requires { ⌜ at + 262656 ≤ amplePlace ⌝ }
     requires { ⌜ h .machines .product ≤ mostControls ⌝ }
     ensures { λ r. ⌜ Put (now (s .entry)) at 262656 (diagrams h (now (finals .entry)) (now (arcs .entry)) (now (roots .entry)) (now (entries .entry))) (now (s .exit)) r ⌝ }
 {
@@ -42,7 +42,7 @@ pub fn put_tables(
     entries: &[u8],
 ) -> usize
     requires { ⌜ h .machines .product ≤ mostControls ⌝ }
-    ensures { λ r. ⌜ Put (now (s .entry)) 0 1000000 (spelled (joined h (now (rows .entry)) (now (finals .entry)) (now (arcs .entry)) (now (roots .entry)) (now (entries .entry)))) (now (s .exit)) r ⌝ }
+    ensures { λ r. ⌜ Put (now (s .entry)) 0 amplePlace (spelled (joined h (now (rows .entry)) (now (finals .entry)) (now (arcs .entry)) (now (roots .entry)) (now (entries .entry)))) (now (s .exit)) r ⌝ }
 {
     let queues = put_machines(s, 0, h.machines);
     let transitions = put_queues(s, queues, h.queues);

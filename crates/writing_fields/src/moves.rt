@@ -14,10 +14,10 @@ use tables::tables::WORD;
 ghost use Prim.Native.Nat.{_+_, _*_, _≤_};
 ghost use Rattle.numbers.specs.Put.{Put};
 ghost use Rattle.spelling.specs.Spelled.{machines, queues, action, transition, transitions};
-ghost use Rattle.writing_fields.specs.Parts.{kind};
+ghost use Rattle.writing_fields.specs.Parts.{amplePlace, kind};
 
 pub(crate) fn put_machines(s: &mut [u8], at: usize, m: Machines) -> usize
-    requires { ⌜ at + 1022 ≤ 1000000 ⌝ }
+    requires { ⌜ at + 1022 ≤ amplePlace ⌝ }
     ensures { λ r. ⌜ Put (now (s .entry)) at 1022 (machines m) (now (s .exit)) r ⌝ }
 {
     let count = m.count as usize;
@@ -29,7 +29,7 @@ pub(crate) fn put_machines(s: &mut [u8], at: usize, m: Machines) -> usize
 }
 
 pub(crate) fn put_queues(s: &mut [u8], at: usize, q: Queues) -> usize
-    requires { ⌜ at + 512 ≤ 1000000 ⌝ }
+    requires { ⌜ at + 512 ≤ amplePlace ⌝ }
     ensures { λ r. ⌜ Put (now (s .entry)) at 512 (queues q) (now (s .exit)) r ⌝ }
 {
     let count = q.count as usize;
@@ -40,7 +40,7 @@ pub(crate) fn put_queues(s: &mut [u8], at: usize, q: Queues) -> usize
 
 // What a row with a queue goes on with: the queue, the word's length and its messages.
 fn put_action(s: &mut [u8], at: usize, rows: &[u8], row: usize) -> usize
-    requires { ⌜ at + 514 ≤ 1000000 ⌝ }
+    requires { ⌜ at + 514 ≤ amplePlace ⌝ }
     requires { ⌜ row ≤ 10000 ⌝ }
     ensures { λ r. ⌜ Put (now (s .entry)) at 514 (action (now (rows .entry)) row) (now (s .exit)) r ⌝ }
 {
@@ -52,7 +52,7 @@ fn put_action(s: &mut [u8], at: usize, rows: &[u8], row: usize) -> usize
 
 // The kind, and the action of kinds 1 and 2.
 fn put_kind(s: &mut [u8], at: usize, rows: &[u8], row: usize) -> usize
-    requires { ⌜ at + 516 ≤ 1000000 ⌝ }
+    requires { ⌜ at + 516 ≤ amplePlace ⌝ }
     requires { ⌜ row ≤ 10000 ⌝ }
     ensures { λ r. ⌜ Put (now (s .entry)) at 516 (kind (now (rows .entry)) row) (now (s .exit)) r ⌝ }
 {
@@ -65,7 +65,7 @@ fn put_kind(s: &mut [u8], at: usize, rows: &[u8], row: usize) -> usize
 }
 
 fn put_transition(s: &mut [u8], at: usize, rows: &[u8], row: usize) -> usize
-    requires { ⌜ at + 522 ≤ 1000000 ⌝ }
+    requires { ⌜ at + 522 ≤ amplePlace ⌝ }
     requires { ⌜ row ≤ 10000 ⌝ }
     ensures { λ r. ⌜ Put (now (s .entry)) at 522 (transition (now (rows .entry)) row) (now (s .exit)) r ⌝ }
 {
@@ -76,7 +76,7 @@ fn put_transition(s: &mut [u8], at: usize, rows: &[u8], row: usize) -> usize
 }
 
 pub(crate) fn put_transitions(s: &mut [u8], at: usize, count: u8, rows: &[u8]) -> usize
-    requires { ⌜ at + 133112 ≤ 1000000 ⌝ }
+    requires { ⌜ at + 133112 ≤ amplePlace ⌝ }
     ensures { λ r. ⌜ Put (now (s .entry)) at 133112 (transitions (record { count = count; rows = now (rows .entry) })) (now (s .exit)) r ⌝ }
 {
     let mut next = put_number(s, at, count);

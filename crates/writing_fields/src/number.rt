@@ -4,10 +4,11 @@ ghost use Prim.Native.Nat.{_+_, _*_, _≤_};
 ghost use mathlib.Core.List.{_∷_, []};
 ghost use Rattle.numbers.specs.Put.{Put};
 ghost use Rattle.spelling.specs.Spelled.{number, entries};
+ghost use Rattle.writing_fields.specs.Parts.{amplePlace};
 
 // Past the end of the buffer there is nothing to change, and the place goes on all the same.
 pub(crate) fn put_byte(s: &mut [u8], at: usize, b: u8) -> usize
-    requires { ⌜ at + 1 ≤ 1000000 ⌝ }
+    requires { ⌜ at + 1 ≤ amplePlace ⌝ }
     ensures { λ r. ⌜ Put (now (s .entry)) at 1 (b ∷ []) (now (s .exit)) r ⌝ }
 {
     if s.len() <= at {
@@ -19,7 +20,7 @@ pub(crate) fn put_byte(s: &mut [u8], at: usize, b: u8) -> usize
 
 // A byte from 128 on is its own low group with the top bit set, and its high group is 1.
 pub(crate) fn put_number(s: &mut [u8], at: usize, v: u8) -> usize
-    requires { ⌜ at + 2 ≤ 1000000 ⌝ }
+    requires { ⌜ at + 2 ≤ amplePlace ⌝ }
     ensures { λ r. ⌜ Put (now (s .entry)) at 2 (number v) (now (s .exit)) r ⌝ }
 {
     if v < 128 {
@@ -37,8 +38,8 @@ pub(crate) fn put_entries(
     first: usize,
     count: usize,
 ) -> usize
-    requires { ⌜ at + 2 * count ≤ 1000000 ⌝ }
-    requires { ⌜ first + count ≤ 1000000 ⌝ }
+    requires { ⌜ at + 2 * count ≤ amplePlace ⌝ }
+    requires { ⌜ first + count ≤ amplePlace ⌝ }
     ensures { λ r. ⌜ Put (now (s .entry)) at (2 * count) (entries (now (table .entry)) count first) (now (s .exit)) r ⌝ }
 {
     let end = first + count;

@@ -7,6 +7,7 @@ ghost use mathlib.Core.Path.{_≡_};
 ghost use lib.ListN.{length};
 ghost use Rattle.numbers.specs.Put.{Put};
 ghost use Rattle.spelling.specs.Spelled.{arcsOf, arcs, state, pool};
+ghost use Rattle.writing_fields.specs.Parts.{amplePlace};
 
 // How many arcs a state has for the messages below the sum.
 fn count_arcs(table: &[u8], i: usize, sum: usize) -> u8
@@ -30,7 +31,7 @@ fn count_arcs(table: &[u8], i: usize, sum: usize) -> u8
 
 // These arcs, each with its message and its target.
 fn put_arcs(s: &mut [u8], at: usize, table: &[u8], i: usize, sum: usize) -> usize
-    requires { ⌜ at + 1020 ≤ 1000000 ⌝ }
+    requires { ⌜ at + 1020 ≤ amplePlace ⌝ }
     requires { ⌜ i < 256 ⌝ }
     requires { ⌜ sum < 256 ⌝ }
     ensures { λ r. ⌜ Put (now (s .entry)) at 1020 (arcs (arcsOf (now (table .entry)) i sum 0)) (now (s .exit)) r ⌝ }
@@ -52,7 +53,7 @@ fn put_arcs(s: &mut [u8], at: usize, table: &[u8], i: usize, sum: usize) -> usiz
 }
 
 fn put_state(s: &mut [u8], at: usize, finals: &[u8], arcs: &[u8], sum: usize, i: usize) -> usize
-    requires { ⌜ at + 1024 ≤ 1000000 ⌝ }
+    requires { ⌜ at + 1024 ≤ amplePlace ⌝ }
     requires { ⌜ i < 256 ⌝ }
     requires { ⌜ sum < 256 ⌝ }
     ensures { λ r. ⌜ Put (now (s .entry)) at 1024 (state (now (finals .entry)) (now (arcs .entry)) sum i) (now (s .exit)) r ⌝ }
@@ -70,7 +71,7 @@ pub(crate) fn put_pool(
     arcs: &[u8],
     sum: usize,
 ) -> usize
-    requires { ⌜ at + 261122 ≤ 1000000 ⌝ }
+    requires { ⌜ at + 261122 ≤ amplePlace ⌝ }
     requires { ⌜ sum < 256 ⌝ }
     ensures { λ r. ⌜ Put (now (s .entry)) at 261122 (pool sum (record { count = count; finals = now (finals .entry); arcs = now (arcs .entry) })) (now (s .exit)) r ⌝ }
 {

@@ -7,9 +7,10 @@ ghost use Prim.Native.Nat.{_+_, _≤_};
 ghost use Rattle.tables.specs.Limits.{mostControls};
 ghost use Rattle.numbers.specs.Put.{Put};
 ghost use Rattle.spelling.specs.Spelled.{map, bad};
+ghost use Rattle.writing_fields.specs.Parts.{amplePlace};
 
 pub(crate) fn put_map(s: &mut [u8], at: usize, product: usize, roots: &[u8]) -> usize
-    requires { ⌜ at + 512 ≤ 1000000 ⌝ }
+    requires { ⌜ at + 512 ≤ amplePlace ⌝ }
     requires { ⌜ product ≤ mostControls ⌝ }
     ensures { λ r. ⌜ Put (now (s .entry)) at 512 (map product (record { roots = now (roots .entry) })) (now (s .exit)) r ⌝ }
 {
@@ -17,7 +18,7 @@ pub(crate) fn put_map(s: &mut [u8], at: usize, product: usize, roots: &[u8]) -> 
 }
 
 pub(crate) fn put_bad(s: &mut [u8], at: usize, count: u8, rows: &[u8]) -> usize
-    requires { ⌜ at + 1022 ≤ 1000000 ⌝ }
+    requires { ⌜ at + 1022 ≤ amplePlace ⌝ }
     ensures { λ r. ⌜ Put (now (s .entry)) at 1022 (bad (record { count = count; rows = now (rows .entry) })) (now (s .exit)) r ⌝ }
 {
     let mut next = put_number(s, at, count);
