@@ -1,16 +1,15 @@
 -- Laws of what is told, and of each call.
 use Prim.Native.Nat.{ℕ, _+_, _*_, _≤_, _<_}
-use mathlib.Core.Path.{_≡_, refl, sym, ap, ap₂, subst, _∙_}
+use mathlib.Core.Path.{_≡_, refl, sym, ap, ap₂, _∙_}
 use mathlib.Core.Bool.{Bool, true, false, _&&_}
-use mathlib.Core.List.{List, [], _∷_, _++_}
-use lib.ListN.{length, drop, set, getD}
-use lib.Seq.{sets, sets-eq}
+use mathlib.Core.List.{List, _++_}
+use lib.ListN.{length, drop}
 use lib.Dec.{leb}
 use borrow.Author.Tests.{le-leb, lt-leb}
 use native.Mathlib.Omega.{arith}
 use Rattle.numbers.specs.Limits.{mostBytes}
 use Rattle.numbers.specs.Part.{Part, got, refused}
-use Rattle.session.specs.Said.{ReadReply, read, refusal, saidAnswer}
+use Rattle.session.specs.Said.{read, refusal, saidAnswer}
 use Rattle.session.specs.File.{readFile, readReplyOf, tablesOf, Reads}
 use Rattle.session.specs.Valid.{Valid}
 use Rattle.tables.specs.declared.tables.Tables.{Tables}
@@ -42,7 +41,7 @@ use Rattle.flat.specs.Taken.{tablesAt}
 use Rattle.flat.specs.Written.{writeReplyAt, WritesFlat}
 use Rattle.flat.specs.Laws.Put.{flat-front}
 use Rattle.telling.specs.Told.{NO-ROOM, toldOf, toldReply, toldAnswer, toldMember, toldWritten, toldLine, replyAfter, Tells}
-use Rattle.telling.specs.Replays.{toldReplay, recordOut, recordLeast, runAfter, blank}
+use Rattle.telling.specs.Replays.{toldReplay, recordLeast, runAfter, blank}
 use Rattle.capi.specs.Calls.{replyFits, kindIf, keepUnless, spaceAfter, outcomeOf, replayTold, replayFits, ReadCall, WriteCall, MemberCall, CheckCall, ReplayCall}
 use Rattle.telling.specs.declared.told.Told.{Told}
 

@@ -1,20 +1,20 @@
 -- Sameness entry by entry is equality; and what a loop that looks for a difference has found.
-use Prim.Native.Nat.{ℕ, zero, suc, _+_, _≤_, _<_}
-use mathlib.Core.Path.{_≡_, refl, sym, ap, ap₂, subst, _∙_}
+use Prim.Native.Nat.{ℕ, _+_, _≤_, _<_}
+use mathlib.Core.Path.{_≡_, refl, sym, ap, ap₂, _∙_}
 use mathlib.Core.Logic.{_↔_}
-use mathlib.Core.Bool.{Bool, true, false, _&&_, cond}
+use mathlib.Core.Bool.{true, false, cond}
 use mathlib.Core.List.{List, [], _∷_}
 use lib.ListN.{length, getD}
 use lib.Seq.{ext-getD}
 use lib.Dec.{eqb}
-use borrow.Author.Tests.{eqb-true, eqb-false, eq-eqb, ne-eqb}
+use borrow.Author.Tests.{eqb-true, eqb-false, eq-eqb}
 use native.Mathlib.Omega.{arith}
 use Rattle.numbers.specs.Laws.Written.{at-or-other}
 use Rattle.tables.specs.declared.tables.Machines.{Machines}
 use Rattle.tables.specs.declared.tables.Queues.{Queues}
 use Rattle.tables.specs.declared.tables.Tables.{Tables}
 use Rattle.model.specs.Laws.Basics.{byTest, false-not-true, and-is, is-and}
-use Rattle.comparing.specs.Same.{same, sameMachines, sameQueues, sameHeads, sameLarge, sameTables}
+use Rattle.comparing.specs.Same.{same, sameMachines, sameQueues, sameLarge, sameTables}
 
 pub same-is : (l m : List ℕ) → same l m ≡ true → l ≡ m
 unfolding same

@@ -2,7 +2,7 @@
 use numbers::put::put_four;
 use numbers::put::put_word;
 use tables::tables::Tables;
-ghost use Prim.Native.Nat.{_+_, _≤_};
+ghost use Prim.Native.Nat.{_≤_};
 ghost use lib.ListN.{length};
 ghost use Rattle.numbers.specs.Put.{Put};
 ghost use Rattle.flat.specs.Flat.{smallLong, largeLong, tablesLeast, small, large, flat};

@@ -1,8 +1,8 @@
 -- Flat bytes stand for the tables that were put there, and tables that are taken from flat bytes are those bytes when they are put.
 use Prim.Native.Nat.{ℕ, _+_, _*_, _≤_}
-use mathlib.Core.Path.{_≡_, refl, sym, ap, ap₂, subst, _∙_}
-use mathlib.Core.List.{List, [], _∷_, _++_, append-assoc}
-use lib.ListN.{length, getD, take, drop, take-append-drop, length-take}
+use mathlib.Core.Path.{_≡_, sym, ap, ap₂, subst, _∙_}
+use mathlib.Core.List.{List, _++_, append-assoc}
+use lib.ListN.{length, take, drop, take-append-drop, length-take}
 use native.Mathlib.Omega.{arith}
 use Rattle.numbers.specs.Put.{four}
 use Rattle.tables.specs.Limits.{mostMachines, mostControls, mostQueues, mostPool, mostBad}

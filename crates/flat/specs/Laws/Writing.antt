@@ -27,7 +27,7 @@ use Rattle.writing.specs.declared.write.Written.the-variants.{NotReadable}
 use Rattle.flat.specs.Flat.{flat, tablesLeast}
 use Rattle.flat.specs.Laws.Taken.{taken-readable, readable-taken}
 use Rattle.flat.specs.Taken.{part, machinesPlace, rowsPlace, finalsPlace, arcsPlace, rootsPlace, entriesPlace, headAt, tablesAt}
-use Rattle.flat.specs.Written.{restoredAt, writeReplyAt, WritesFlat}
+use Rattle.flat.specs.Written.{restoredAt, WritesFlat}
 
 -- THE TEST fails exactly if the bytes begin with the flat tables of no file that is read
 pub unrestored-at : (f : List ℕ) → (restoredAt f ≡ false) ↔ ((T : Tables) → Readable T → take tablesLeast f ≡ flat T → ⊥)

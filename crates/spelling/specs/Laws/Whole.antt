@@ -8,7 +8,6 @@ use lib.ListN.{length}
 use native.Mathlib.Omega.{arith}
 use Rattle.numbers.specs.Limits.{mostBytes}
 use Rattle.numbers.specs.Part.{got}
-use Rattle.tables.specs.Valid.{ModelValid, SetsValid}
 use Rattle.tables.specs.declared.tables.Tables.{Tables}
 use Rattle.queue_order.specs.Laws.Order.{ordered-is}
 use Rattle.session.specs.File.{readFile, modelTables, setTables}
@@ -17,11 +16,11 @@ use Rattle.session.specs.Laws.Fields.{Fields, isOrdered, read-is}
 use Rattle.session.specs.Laws.Valid.{FieldsValid, fields-valid, valid}
 use Rattle.spelling.specs.Spelled.{machines, queues, transitions, pool, map, bad, spelled}
 use Rattle.spelling.specs.Readable.{Bytes, Readable}
-use Rattle.spelling.specs.Laws.Here.{Here, Parted, here-then, here-part, whole-here, here-whole}
+use Rattle.spelling.specs.Laws.Here.{Here, here-then, here-part, whole-here, here-whole}
 use Rattle.spelling.specs.Laws.Model.{model-forth, model-back}
 use Rattle.spelling.specs.Laws.Pool.{pool-forth, pool-back}
 use Rattle.spelling.specs.Laws.Sets.{sets-forth, sets-back}
-use Rattle.spelling.specs.Laws.Fits.{Fits, fits-spelled}
+use Rattle.spelling.specs.Laws.Fits.{fits-spelled}
 
 -- the three parts that are read one after the other
 abbrev modelBytes : Tables → List ℕ

@@ -1,5 +1,5 @@
 -- WHAT `restored` MEANS: some byte string is read into these tables. There is no search in it.
-use mathlib.Core.Path.{_≡_, refl, sym, ap, _∙_}
+use mathlib.Core.Path.{_≡_, ap, _∙_}
 use mathlib.Core.Logic.{_↔_}
 use mathlib.Core.Bool.{true, false}
 use Rattle.tables.specs.declared.tables.Tables.{Tables}

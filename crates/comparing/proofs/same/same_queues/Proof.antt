@@ -4,8 +4,8 @@ use Rattle.comparing.proofs.same.same_queues.Tie as tie
 use Rattle.comparing.proofs.same.same_queues.Reads as reads
 use Rattle.comparing.proofs.same.same_queues.Lts as lts
 use Rattle.comparing.proofs.same.same.Reads as same-reads
-use mathlib.Core.Path.{sym, _∙_}
-use borrow.Author.Tests.{eq-eqb, ne-eqb, not-true, not-false}
+use mathlib.Core.Path.{sym}
+use borrow.Author.Tests.{eq-eqb, ne-eqb}
 
 -- src/same.rt:66:9
 returns : tie.Need-returns

@@ -1,7 +1,6 @@
 use Prim.Native.Nat.{_≤_, _-_}
 use borrow.Author.Needs.{needs}
 use native.Mathlib.Omega.{arith}
-use mathlib.Core.Path.{_≡_, ap, _∙_}
 use Rattle.flat.specs.Laws.Products.{Multiplied, multiplied-none, multiplied-more, multiplied-most, multiplied-done}
 use Rattle.flat.proofs.taken.product.Statement.{statement}
 use Rattle.flat.proofs.taken.product.Tie as tie
