@@ -2,3 +2,4 @@
 pub mod Writing
 pub mod Restored
 pub mod Promises
+pub mod Services
