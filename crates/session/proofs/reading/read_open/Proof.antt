@@ -13,7 +13,7 @@ use Rattle.session.proofs.reading.read_open.Tie as tie
 use Rattle.session.proofs.reading.read_open.Reads as reads
 use Rattle.session.proofs.reading.read_open.Lts as lts
 use Rattle.queue_order.proofs.order.in_queue_order.Reads as in-queue-order-reads
-use Rattle.reading_model.proofs.model.read_model.Reads as read-model-reads
+use Rattle.reading_model.proofs.fields.read_model.Reads as read-model-reads
 use Rattle.reading_pool.proofs.pool.read_pool.Reads as read-pool-reads
 use Rattle.session.proofs.reading.all_read.Reads as all-read-reads
 use Rattle.session.proofs.reading.refused.Reads as refused-reads
