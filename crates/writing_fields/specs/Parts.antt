@@ -1,16 +1,30 @@
 -- Tables in parts: what is small by value, what is large as lists of their own; and the stretches of the file that one function puts.
-use Prim.Native.Nat.{ℕ}
-use mathlib.Core.Bool.{cond}
+use Prim.Native.Nat.{ℕ, _+_, _*_}
+use mathlib.Core.Bool.{Bool, cond, _&&_}
 use mathlib.Core.List.{List, [], _++_}
-use lib.Dec.{eqb}
+use lib.ListN.{length, take, drop}
+use lib.Dec.{eqb, ltb}
+use Rattle.tables.specs.Limits.{mostMessages}
 use Rattle.tables.specs.Rows.{kindAt}
 use Rattle.tables.specs.declared.tables.Tables.{Tables}
-use Rattle.spelling.specs.Spelled.{number, action, pool, map, bad}
+use Rattle.spelling.specs.Spelled.{number, action, arcsOf, pool, map, bad}
 use Rattle.writing_fields.specs.declared.parts.Head.{Head}
 
 -- further than any text goes, and no sum with it passes what a place can hold
 abbrev pub amplePlace : ℕ
 amplePlace = 1000000
+
+-- are two numbers of a byte each, and both places in a buffer of so many bytes?
+abbrev pub bothShort : ℕ → ℕ → ℕ → ℕ → Bool
+bothShort long at a b = ltb a 128 && (ltb b 128 && ltb (at + 1) long)
+
+-- the arcs of a state as the table has them, cut off at the table's end
+abbrev pub rowOf : List ℕ → ℕ → ℕ → List ℕ
+rowOf table i sum = take sum (drop (i * mostMessages) table)
+
+-- the arcs of such a row
+abbrev pub arcsIn : List ℕ → List (ℕ × ℕ)
+arcsIn row = arcsOf row 0 (length row) 0
 
 -- rows of the transitions, final marks, arcs, roots, rows of the bad entries
 abbrev pub joined : Head → List ℕ → List ℕ → List ℕ → List ℕ → List ℕ → Tables

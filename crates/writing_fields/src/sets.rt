@@ -1,6 +1,7 @@
 // Fields 5 and 6, each put into a buffer from a place on.
 use crate::number::put_entries;
 use crate::number::put_number;
+use crate::number::put_two;
 use numbers::number::entry;
 use tables::tables::ENTRY;
 ghost use Prim.Native.Nat.{_+_, _≤_};
@@ -25,8 +26,7 @@ pub(crate) fn put_bad(s: &mut [u8], at: usize, count: u8, rows: &[u8]) -> usize
     let mut b: usize = 0;
     while b < (count as usize) {
         let row = b * ENTRY;
-        let root = put_number(s, next, entry(rows, row));
-        next = put_number(s, root, entry(rows, row + 1));
+        next = put_two(s, next, entry(rows, row), entry(rows, row + 1));
         b += 1;
     }
     next

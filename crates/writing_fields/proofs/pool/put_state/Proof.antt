@@ -1,7 +1,14 @@
+use Prim.Native.Nat.{ℕ}
+use mathlib.Core.Path.{ap, _∙_}
+use mathlib.Core.List.{List}
+use lib.ListN.{length}
 use native.Mathlib.Omega.{arith}
+use denote.Ref.{now}
 use Rattle.numbers.specs.Laws.Put.{put-then}
-use Rattle.spelling.specs.Spelled.{state}
-use Rattle.writing_fields.specs.Laws.Texts.{put-found}
+use Rattle.spelling.specs.Spelled.{counted, state}
+use Rattle.writing_fields.specs.Parts.{arcsIn}
+use Rattle.writing_fields.specs.Laws.Texts.{put-as, put-found}
+use Rattle.writing_fields.specs.Laws.Arcs.{row-most, row-arcs}
 use borrow.Author.Needs.{needs}
 use Rattle.writing_fields.proofs.pool.put_state.Statement.{statement}
 use Rattle.writing_fields.proofs.pool.put_state.Tie as tie
@@ -9,39 +16,37 @@ use Rattle.writing_fields.proofs.pool.put_state.Reads as reads
 use Rattle.writing_fields.proofs.pool.put_state.Lts as lts
 use Rattle.numbers.proofs.number.entry.Reads as entry-reads
 use Rattle.writing_fields.proofs.number.put_number.Reads as put-number-reads
-use Rattle.writing_fields.proofs.pool.count_arcs.Reads as count-arcs-reads
-use Rattle.writing_fields.proofs.pool.put_arcs.Reads as put-arcs-reads
+use Rattle.writing_fields.proofs.pool.put_row.Reads as put-row-reads
+use Rattle.writing_fields.proofs.pool.row_of.Reads as row-of-reads
 
--- src/pool.rt:58:36
+-- src/pool.rt:89:34
 entry-requires : tie.Need-entry-requires
 entry-requires c κs = search needs
 
--- src/pool.rt:58:9
+-- src/pool.rt:89:9
 put-number-requires : tie.Need-put-number-requires
 put-number-requires c κs = search needs
 
--- src/pool.rt:59:39
-count-arcs-requires : tie.Need-count-arcs-requires
-count-arcs-requires c κs = search needs
+-- src/pool.rt:90:22
+row-of-requires : tie.Need-row-of-requires
+row-of-requires c κs = search needs
 
--- src/pool.rt:59:9
-put-number-requires-2 : tie.Need-put-number-requires-2
-put-number-requires-2 c κs = search needs
+-- src/pool.rt:90:5
+put-row-requires : tie.Need-put-row-requires
+put-row-requires c κs =
+    let long = ap length (c .row-of .ensures) in
+    (omega (arith, c .before .before .before .before .put-number .ensures .within), omega (arith, long, row-most (now (c .before .before .before .before .before .before .before .before .before .before .args .arcs)) (c .before .before .before .before .before .before .before .before .before .before .args .i) (c .before .before .before .before .before .before .before .before .before .before .args .sum)))
 
--- src/pool.rt:60:5
-put-arcs-requires : tie.Need-put-arcs-requires
-put-arcs-requires c κs = search needs
-
--- src/pool.rt:53:1
+-- src/pool.rt:83:1
 same-length : tie.Need-same-length
 same-length c = search needs
 
--- src/pool.rt:53:1
+-- src/pool.rt:83:1
 returns : tie.Need-returns
 unfolding state
 returns c =
-    put-then (put-found (c .before .before .before .before .before .before .before .before .before .before .before .before .entry .ensures) (c .before .before .before .before .before .before .before .before .before .before .before .put-number .ensures))
-    (put-then {most = 1022} (put-found (c .before .before .before .before .before .before .before .count-arcs .ensures) (c .before .before .before .before .before .before .put-number2 .ensures)) (c .before .before .put-arcs .ensures) (omega arith))
+    put-then (put-found (c .before .before .before .before .before .before .before .before .entry .ensures) (c .before .before .before .before .before .before .before .put-number .ensures))
+    (put-as (ap (λ (row : List ℕ). counted (arcsIn row)) (c .before .before .before .row-of .ensures) ∙ ap counted (row-arcs (now (c .before .before .before .before .before .before .before .before .before .before .before .before .before .args .arcs)) (c .before .before .before .before .before .before .before .before .before .before .before .before .before .args .i) (c .before .before .before .before .before .before .before .before .before .before .before .before .before .args .sum))) (c .before .before .put-row .ensures))
     (omega arith)
 
 pub put-state-spec : {M : Type 1} → statement M
@@ -50,8 +55,7 @@ put-state-spec =
     (tie.spec
     entry-requires
     put-number-requires
-    count-arcs-requires
-    put-number-requires-2
-    put-arcs-requires
+    row-of-requires
+    put-row-requires
     same-length
     returns)
