@@ -1,4 +1,5 @@
--- Tables in parts: what is small by value, what is large as lists of their own; and the stretches of the file that one function puts.
+-- What the putting functions speak of: how far places go, rows of arcs, tables in parts (what is small by value, what is large as lists of their own), and the
+-- stretches of the file that one function puts.
 use Prim.Native.Nat.{ℕ, _+_, _*_}
 use mathlib.Core.Bool.{Bool, cond, _&&_}
 use mathlib.Core.List.{List, [], _++_}
@@ -14,7 +15,7 @@ use Rattle.writing_fields.specs.declared.parts.Head.{Head}
 abbrev pub amplePlace : ℕ
 amplePlace = 1000000
 
--- are two numbers of a byte each, and both places in a buffer of so many bytes?
+-- do two numbers take a byte each, and are both places in a buffer of so many bytes?
 abbrev pub bothShort : ℕ → ℕ → ℕ → ℕ → Bool
 bothShort long at a b = ltb a 128 && (ltb b 128 && ltb (at + 1) long)
 
