@@ -12,7 +12,8 @@ use Rattle.explore.specs.Explore.{fresh, expand, rounds, starts, childre
 use Rattle.explore.specs.Laws.Rounds.{rounds-longer}
 
 module _ {E Node : Type 0} (node : E → Node) (same : Node → Node → Bool) (children : E → List E) where
-  expand-nothing : (m : ℕ) (done : List E) → expand node same children m done [] ≡ done
+  -- nothing is left to do, whatever the fuel
+  pub expand-nothing : (m : ℕ) (done : List E) → expand node same children m done [] ≡ done
   unfolding expand
   expand-nothing zero done = append-nil done
   expand-nothing (suc m) done = refl

@@ -3,7 +3,7 @@ use Prim.Native.Nat.{ℕ, zero, suc, _+_, _-_, _/_, _%_, _≤_, _<_}
 use mathlib.Core.Path.{_≡_, refl, sym, ap, ap₂, _∙_}
 use mathlib.Core.Bool.{Bool, true, false}
 use mathlib.Core.Option.{none, some}
-use mathlib.Core.List.{List, [], _∷_, _++_, append-nil, append-assoc}
+use mathlib.Core.List.{List, [], _∷_, _++_, append-assoc}
 use lib.Dec.{eqb}
 use lib.ListN.{length, getD, take, length-append}
 use lib.Seq.{length-take-le, getD-take, getD-at}
@@ -20,6 +20,7 @@ use Rattle.tables.specs.declared.tables.SetTables.{SetTables}
 use Rattle.explore.specs.Explore.{fresh, expand, firstBy}
 use Rattle.explore.specs.Laws.Mem.{append-move}
 use Rattle.explore.specs.Laws.Expand.{expand-extends}
+use Rattle.explore.specs.Laws.Fuel.{expand-nothing}
 use Rattle.explore.specs.Laws.First.{first-here, first-skip, first-append}
 use Rattle.queue_order.specs.Nodes.{wrong, ranks, mostNodes, rootNodes, badNodes, fails}
 use Rattle.queue_order.specs.Search.{grown, reached, noneFails, inQueueOrder}
@@ -37,13 +38,8 @@ module _ (finals : List ℕ) (k : ℕ) where
   pub fails-not : (k % ranks ≡ wrong → ⊥) → false ≡ fails finals k
   fails-not n = sym (ap (λ b. elim b [ true ↦ finalAt finals (some (k / ranks)) | false ↦ false ]) (ne-eqb (k % ranks) wrong n))
 
--- WHAT IS REACHED: nothing is left to do, whatever the fuel
-expand-none : (next : ℕ → List ℕ) (fuel : ℕ) (done : List ℕ) → expand (λ k. k) eqb next fuel done [] ≡ done
-unfolding expand
-expand-none next zero done = append-nil done
-expand-none next (suc fuel) done = refl
-
-expand-on : (next : ℕ → List ℕ) {most k : ℕ} (done : List ℕ) (e : ℕ) (todo : List ℕ) → k < most
+-- WHAT IS REACHED: one more is done
+pub expand-on : (next : ℕ → List ℕ) {most k : ℕ} (done : List ℕ) (e : ℕ) (todo : List ℕ) → k < most
     → expand (λ k. k) eqb next (most - k) done (e ∷ todo)
     ≡ expand (λ k. k) eqb next (most - (k + 1)) (done ++ (e ∷ [])) (todo ++ fresh (λ k. k) eqb (done ++ (e ∷ todo)) (next e))
 unfolding expand
@@ -95,7 +91,7 @@ module _ {next : ℕ → List ℕ} {p : ℕ → Bool} where
         go : (l : List ℕ) → T .todo ≡ l → firstBy p all ≡ none
         go [] z =
             ap (firstBy p)
-            (sym (T .is) ∙ ap (expand (λ k. k) eqb next (mostNodes - k) (T .done)) z ∙ expand-none next (mostNodes - k) (T .done))
+            (sym (T .is) ∙ ap (expand (λ k. k) eqb next (mostNodes - k) (T .done)) z ∙ expand-nothing (λ k. k) eqb next (mostNodes - k) (T .done))
             ∙ T .fine
         go (x ∷ t) z = absurd (omega (arith, as-many, length-append (T .done) (T .todo), T .taken, ap length z))
 

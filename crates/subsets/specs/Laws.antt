@@ -1,0 +1,4 @@
+-- What follows from the definitions.
+pub mod Loops
+pub mod Numbering
+pub mod Growing
