@@ -1,0 +1,3 @@
+-- The tables of a pool, entry by entry. Laws stand under Laws.
+pub mod Filled
+pub mod Laws

@@ -1,0 +1,2 @@
+// The pool of an expression's diagram, filled from its states.
+pub mod fill;
