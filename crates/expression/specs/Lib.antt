@@ -1,0 +1,4 @@
+-- What comes of a text, and what that means. Laws stand under Laws.
+pub mod Expression
+pub mod Means
+pub mod Laws

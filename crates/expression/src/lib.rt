@@ -1,0 +1,1 @@
+// From a text to the pool and root of its diagram.
