@@ -6,9 +6,6 @@ use mathlib.Core.List.{List, [], _∷_, _++_}
 use Prim.Native.Nat.{ℕ, zero, suc, _-_, _≤_, _<_}
 use native.Mathlib.Omega.{arith}
 use lib.ListN.{length, take}
-use lib.Dec.{ltb}
-use borrow.Author.Tests.{ltb-true, ltb-false}
-use Rattle.model.specs.Laws.Basics.{byTest}
 use Rattle.grammar.specs.Tree.{Tree}
 use Rattle.grammar.specs.Grammar.{Begins, Outside}
 use Rattle.grammar.specs.Parse.{Mode, item, Frame, frame, State, state, whole, step, sign, Parsed, parsed, stuck, run, parse}
@@ -95,9 +92,9 @@ stuck-outside s n p e h =
 -- a text has only one such place
 outside-one : (s : List ℕ) (p q : ℕ) → Outside s p → Outside s q → p ≡ q
 outside-one s p q a b =
-    byTest (ltb p q) (λ t. absurd (a .longest q (ltb-true p q t) (b .within) (b .shared)))
-    (λ f. byTest (ltb q p) (λ t. absurd (b .longest p (ltb-true q p t) (a .within) (a .shared)))
-    (λ g. omega (arith, ltb-false p q f, ltb-false q p g)))
+    let h : p < q → ⊥ = λ l. a .longest q l (b .within) (b .shared) in
+    let g : q < p → ⊥ = λ l. b .longest p l (a .within) (a .shared) in
+    omega arith
 
 -- WHERE THE PARSE IS STUCK is the place of a text outside the grammar, and there is no other
 pub outside-is : (s : List ℕ) (p : ℕ) → ((n : ℕ) × (parse s ≡ stuck n) × (p ≡ length s - n)) ↔ Outside s p
