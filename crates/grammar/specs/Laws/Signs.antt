@@ -62,10 +62,10 @@ sign-digit {d} h =
     rw (digit-is (48 + d) (digit-byte h), e)
 
 -- THE DIGITS at the ends of a text
-pub ends-after : (u : List ℕ) (b : ℕ) (v : List ℕ) → EndsInDigit (b ∷ v) → EndsInDigit (u ++ (b ∷ v))
-ends-after [] b v e = e
-ends-after (c ∷ []) b v e = e
-ends-after (c ∷ (d ∷ u)) b v e = ends-after (d ∷ u) b v e
+pub ends-after : (u v : List ℕ) → EndsInDigit v → EndsInDigit (u ++ v)
+ends-after [] v e = e
+ends-after (c ∷ []) (b ∷ v) e = e
+ends-after (c ∷ (d ∷ u)) v e = ends-after (d ∷ u) v e
 
 pub after-ends : (u : List ℕ) (b : ℕ) (v : List ℕ) → EndsInDigit (u ++ (b ∷ v)) → EndsInDigit (b ∷ v)
 after-ends [] b v e = e
@@ -74,7 +74,7 @@ after-ends (c ∷ (d ∷ u)) b v e = after-ends (d ∷ u) b v e
 
 pub decimal-ends : {n : ℕ} {u : List ℕ} → Decimal n u → EndsInDigit u
 decimal-ends (Decimal.digit h) = digit-byte h
-decimal-ends (Decimal.more {d = d} {u = u} p h r) = ends-after u (48 + d) [] (digit-byte h)
+decimal-ends (Decimal.more {d = d} {u = u} p h r) = ends-after u ((48 + d) ∷ []) (digit-byte h)
 
 -- spaces keep digits apart
 pub spaces-apart : {w : List ℕ} (u v : List ℕ) → Spaces w → EndsInDigit u → Apart (u ++ w) v → BeginsWithDigit (w ++ v) → ⊥
