@@ -8,7 +8,7 @@ use Rattle.model.specs.Laws.Decimals.{Decimal}
 use Rattle.grammar.specs.Tree.{Tree, letter, empty, sequence, either, star}
 use Rattle.grammar.specs.Grammar.{Spaces, BeginsWithDigit, Apart, Kind, Spells, Text}
 use Rattle.grammar.specs.Parse.{Sign, Mode, fresh, digits, item, Frame, frame, State, state, settled, chain, choice, whole, step, parsed, run, parse}
-use Rattle.grammar.specs.Laws.Signs.{Reads, sign-reads, sign-digit, digit-byte, decimal-ends, spaces-apart}
+use Rattle.grammar.specs.Laws.Signs.{Reads, sign-reads, sign-digit, digit-byte, decimal-ends, spaces-apart, apart-first}
 use Rattle.grammar.specs.Laws.Running.{goes, run-step}
 
 -- no digits that may go on
@@ -57,7 +57,7 @@ run-number (b ∷ v) no-digit fs ds is n =
     by Reads.times no-digit fs = refl
     by Reads.other no-digit fs = refl
 
--- where an alternative may end, and where alternatives may
+-- where alternatives may end, and where one of them may
 data Closes : List ℕ → Type 0 where
   at-end : Closes []
   at-closing : {v : List ℕ} → Closes (41 ∷ v)
@@ -80,10 +80,6 @@ run-settled (closes at-end) (f ∷ fs) ds is m = refl
 run-settled (closes at-closing) [] ds is m = refl
 run-settled (closes at-closing) (frame ds′ is′ ∷ fs) ds is m = refl
 run-settled at-bar fs ds is m = refl
-
-apart-more : (u v r : List ℕ) → Apart u v → Ends r → Apart u (v ++ r)
-apart-more u [] r a e = λ _. ends-no-digit e
-apart-more u (c ∷ v) r a e = a
 
 -- THE PARTS OF THE GRAMMAR, each read from any stack
 record ItemRead (u v : List ℕ) (y : Tree) (fs : List Frame) (ds is : List Tree) (m : Mode) : Type 0 where
@@ -150,7 +146,7 @@ starred-read u {w} {x} r s v a fs ds is m e =
 
 next-read : {u v : List ℕ} {x r : Tree} → Read Kind.item u x → Apart u v → Read Kind.alternative v r → Read Kind.alternative (u ++ v) (sequence x r)
 next-read {u} {v} {x} {r} first apart rest k ends fs ds is m e =
-    let f = first (v ++ k) (apart-more u v k apart ends) fs ds is m e in
+    let f = first (v ++ k) (apart-first u v k apart (λ _. ends-no-digit ends)) fs ds is m e in
     let g = rest k ends fs ds (f .items) (f .mode) (f .whole-item) in
     record {
       items = g .items;

@@ -25,7 +25,8 @@ Says s from kept = (k p : ℕ) → from ≤ p → Offends s k p → ⊥
 Says s from (passed k p) = Found s from k p
 
 -- a place that does not offend may be put before
-first-or-later : {s : List ℕ} {from k p : ℕ} → ((j : ℕ) → Offends s j from → ⊥) → (from < p → Offends s k p → ⊥) → from ≤ p → Offends s k p → ⊥
+first-or-later : {s : List ℕ} {from k p : ℕ} → ((j : ℕ) → Offends s j from → ⊥) → (from < p → Offends s k p → ⊥)
+    → from ≤ p → Offends s k p → ⊥
 first-or-later {s} {from} {k} none later h o =
     ⊎-elim (λ e. none k (subst (Offends s k) (sym e) o)) (λ l. later l o) (eq-or-lt-of-le h)
 

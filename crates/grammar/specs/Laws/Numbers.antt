@@ -13,7 +13,7 @@ use Rattle.grammar.specs.Tree.{Tree, letter, empty, sequence, either, st
 use Rattle.grammar.specs.Grammar.{Spaces, Digit, BeginsWithDigit, Apart, Kind, Spells, Text}
 use Rattle.grammar.specs.Parse.{isDigit}
 use Rattle.grammar.specs.Offends.{valueFrom, numbersFrom, NumberBegins, Offends, mostOccurrences, messageLimit, kept, limits}
-use Rattle.grammar.specs.Laws.Signs.{is-digit, digit-is, other-is, digit-byte, ends-after, decimal-ends, spaces-apart}
+use Rattle.grammar.specs.Laws.Signs.{is-digit, digit-is, other-is, digit-byte, decimal-ends, spaces-apart, apart-first, apart-second}
 use Rattle.grammar.specs.Laws.Before.{endsFrom, ends-is}
 use Rattle.grammar.specs.Laws.Limits.{limits-kept}
 
@@ -56,14 +56,6 @@ size-letters empty = refl
 size-letters (sequence a b) = ap₂ _+_ (size-letters a) (size-letters b) ∙ sym (length-append (letters a) (letters b))
 size-letters (either a b) = ap₂ _+_ (size-letters a) (size-letters b) ∙ sym (length-append (letters a) (letters b))
 size-letters (star a) = size-letters a
-
--- what stands apart from the whole stands apart from its parts
-apart-second : (u w v : List ℕ) → Apart (u ++ w) v → Apart w v
-apart-second u w v a = λ e. a (ends-after u w e)
-
-apart-first : (u w v : List ℕ) → Apart u w → Apart (u ++ w) v → Apart u (w ++ v)
-apart-first u [] v b a = λ e. a (rw append-nil e)
-apart-first u (c ∷ w) v b a = b
 
 letters-then : (p q n : List ℕ) {x y : List ℕ} → x ≡ p ++ y → y ≡ q ++ n → x ≡ (p ++ q) ++ n
 letters-then p q n e f = e ∙ ap (λ l. p ++ l) f ∙ sym (append-assoc p q n)

@@ -18,7 +18,8 @@ same-left e = cc
 
 -- which way the step of the first byte went
 stuck-first : (b : ℕ) (s : List ℕ) (σ : State) (n : ℕ) → run (b ∷ s) σ ≡ stuck n
-    → {X : Type 0} → (step (sign b) σ ≡ none → n ≡ suc (length s) → X) → ((τ : State) → step (sign b) σ ≡ some τ → run s τ ≡ stuck n → X) → X
+    → {X : Type 0} → (step (sign b) σ ≡ none → n ≡ suc (length s) → X)
+    → ((τ : State) → step (sign b) σ ≡ some τ → run s τ ≡ stuck n → X) → X
 stuck-first b s σ n e {X} stops goes-on = by (step (sign b) σ) refl (sym (run-step b s σ) ∙ e)
   where
     by : (o : Option State) → step (sign b) σ ≡ o → goes o s ≡ stuck n → X
@@ -68,10 +69,13 @@ stuck-longest : (s : List ℕ) (σ : State) (n q : ℕ) → run s σ ≡ stuck n
 stuck-longest s σ n zero e h l r = omega arith
 stuck-longest [] σ n (suc q) e h l r = omega arith
 stuck-longest (b ∷ s) σ n (suc q) e h l r =
-    let f : goes (step (sign b) σ) (take q s ++ r .rest) ≡ parsed (r .tree) = sym (run-step b (take q s ++ r .rest) σ) ∙ r .read in
-    stuck-first b s σ n e (λ o g. stuck-not-parsed (ap (λ x. goes x (take q s ++ r .rest)) o) f)
-    (λ τ o g. let m = stuck-left s τ n g in
-    stuck-longest s τ n q g (omega arith) (omega arith) (record { rest = r .rest; tree = r .tree; read = sym (ap (λ x. goes x (take q s ++ r .rest)) o) ∙ f }))
+    let u : List ℕ = take q s ++ r .rest in
+    let f : goes (step (sign b) σ) u ≡ parsed (r .tree) = sym (run-step b u σ) ∙ r .read in
+    stuck-first b s σ n e (λ o g. stuck-not-parsed (ap (λ x. goes x u) o) f)
+    (λ τ o g.
+    let m = stuck-left s τ n g in
+    stuck-longest s τ n q g (omega arith) (omega arith)
+    (record { rest = r .rest; tree = r .tree; read = sym (ap (λ x. goes x u) o) ∙ f }))
 
 ends-begins : (u : List ℕ) → Ends u (state [] [] [] Mode.fresh) → Begins u
 ends-begins u r = record { rest = r .rest; tree = r .tree; text = parsed-spelled (u ++ r .rest) (r .tree) (r .read) }

@@ -80,3 +80,11 @@ decimal-ends (Decimal.more {d = d} {u = u} p h r) = ends-after u ((48 + d) ∷ [
 pub spaces-apart : {w : List ℕ} (u v : List ℕ) → Spaces w → EndsInDigit u → Apart (u ++ w) v → BeginsWithDigit (w ++ v) → ⊥
 spaces-apart u v Spaces.none e a b = a (rw append-nil e) b
 spaces-apart u v (Spaces.space s) e a b = omega arith
+
+-- what stands apart from the whole stands apart from its parts
+pub apart-first : (u w v : List ℕ) → Apart u w → Apart (u ++ w) v → Apart u (w ++ v)
+apart-first u [] v b a = λ e. a (rw append-nil e)
+apart-first u (c ∷ w) v b a = b
+
+pub apart-second : (u w v : List ℕ) → Apart (u ++ w) v → Apart w v
+apart-second u w v a = λ e. a (ends-after u w e)
