@@ -1,8 +1,9 @@
 /*
- * Swarmbanner for C and C++: reading and writing session files, membership, checking, and replaying traces.
+ * Swarmbanner for C and C++: reading and writing session files, membership, checking, replaying traces, and diagrams from
+ * expressions.
  *
- * Each of the five takes any bytes as the file or as the tables, also broken ones, and any lengths. It returns the kind of
- * its reply, and three numbers that go with it fill the front of `reply`; entries after these keep their values.
+ * Each of the six takes any bytes as the file, the tables or the text, also broken ones, and any lengths. It returns the kind
+ * of its reply, and three numbers that go with it fill the front of `reply`; entries after these keep their values.
  *
  *   kind                          reply[0]        reply[1]        reply[2]
  *   SWARMBANNER_CLOSED            pairs visited   0               0
@@ -16,6 +17,7 @@
  *   SWARMBANNER_TRACE_REFUSED     1               16384           0
  *   SWARMBANNER_MEMORY_REFUSED    2               0               0
  *   SWARMBANNER_WRITTEN           bytes written   0               0
+ *   SWARMBANNER_DRAWN             root, always 0  states          0
  *   SWARMBANNER_NO_ROOM           nothing is written, here or elsewhere
  *
  * A program asks swarmbanner_fits() before its first other call: is the library of the layout that it was built for?
@@ -50,13 +52,14 @@ extern "C" {
 #define SWARMBANNER_TRACE_REFUSED 12u
 #define SWARMBANNER_MEMORY_REFUSED 13u
 #define SWARMBANNER_WRITTEN 14u
+#define SWARMBANNER_DRAWN 15u
 
 /* Numbers of a refusal. */
 #define SWARMBANNER_REFUSED_LONG 1u          /* more than 16,384 bytes, of a file or a trace; the place is 16,384 */
 #define SWARMBANNER_REFUSED_MEMORY 2u        /* checking, replaying: lent memory too short; the place is 0 */
 #define SWARMBANNER_REFUSED_ENDS 3u          /* bytes end before a number or inside one; the place is their end */
 #define SWARMBANNER_REFUSED_FORM 4u          /* a number in a form that is not allowed */
-#define SWARMBANNER_REFUSED_RANGE 5u         /* a number outside its field's range; in a trace, of no transition */
+#define SWARMBANNER_REFUSED_RANGE 5u         /* outside its field's range; trace: of no transition, text: of no message */
 #define SWARMBANNER_REFUSED_TOTAL 6u         /* product of states passes 256, or sum of messages passes 32 */
 #define SWARMBANNER_REFUSED_QUEUE 7u         /* message of a transition is in another queue */
 #define SWARMBANNER_REFUSED_ASCENT 8u        /* arc messages do not ascend */
@@ -69,6 +72,11 @@ extern "C" {
 #define SWARMBANNER_REFUSED_FULL 15u         /* replaying: a queue would pass 1,024 messages */
 #define SWARMBANNER_REFUSED_TABLES 16u       /* writing: tables that no file is read into; the place is 0 */
 #define SWARMBANNER_REFUSED_BUFFER 17u       /* writing: the buffer is shorter than the file; the place is 0 */
+#define SWARMBANNER_REFUSED_TEXT_LONG 18u    /* expression: more than 256 bytes; the place is 256 */
+#define SWARMBANNER_REFUSED_GRAMMAR 19u      /* expression: text outside the grammar; where it leaves it */
+#define SWARMBANNER_REFUSED_DEPTH 20u        /* expression: a ninth level of groups; its opening bracket */
+#define SWARMBANNER_REFUSED_OCCURRENCES 21u  /* expression: a thirty-third number; its first digit */
+#define SWARMBANNER_REFUSED_STATES 22u       /* expression: more than 127 states; the place is 0 */
 
 /* The least that a call needs, in entries of the type that is lent. */
 #define SWARMBANNER_REPLY_LEAST 3u
@@ -77,10 +85,14 @@ extern "C" {
 #define SWARMBANNER_CONTENTS_LEAST 32768u
 #define SWARMBANNER_RECORD_LEAST (SWARMBANNER_RECORD_LENGTHS + SWARMBANNER_QUEUES_MOST)
 #define SWARMBANNER_QUEUE_LEAST 1024u /* for each queue of the file */
+#define SWARMBANNER_POOL_LEAST (SWARMBANNER_AT_ROOTS - SWARMBANNER_AT_FINALS)
 
-/* What a file can have, and how long a trace can be. */
+/* What a file can have, and how long a trace can be; what an expression can have. */
 #define SWARMBANNER_FILE_MOST 16384u
 #define SWARMBANNER_TRACE_MOST 16384u
+#define SWARMBANNER_TEXT_MOST 256u
+#define SWARMBANNER_DEPTH_MOST 8u
+#define SWARMBANNER_OCCURRENCES_MOST 32u
 #define SWARMBANNER_MACHINES_MOST 4u
 #define SWARMBANNER_CONTROL_STATES_MOST 256u
 #define SWARMBANNER_QUEUES_MOST 4u
@@ -107,6 +119,10 @@ extern "C" {
  *   AT_ROOTS        7025  256      for a control state: 0 for no root, else 1 plus the root
  *   AT_BAD          7281  64 x 2   control state, root (as it is, without the 1 added)
  *   SPACE_LEAST     7409
+ *
+ * The pool of `swarmbanner_expression` is the final marks and the arcs, as they lie here.
+ *
+ *   POOL_LEAST      4191           final marks, then arcs: AT_ROOTS - AT_FINALS
  */
 #define SWARMBANNER_COUNTS 6u
 #define SWARMBANNER_TRANSITION_WORD 6u /* where in its row a transition's word begins */
@@ -230,6 +246,31 @@ size_t swarmbanner_replay(const uint8_t *file, size_t file_len,
                           uint8_t *memory, size_t memory_len,
                           size_t *record, size_t record_len,
                           size_t *reply, size_t reply_len);
+
+/*
+ * Draws the diagram of an expression. Its text is made of message numbers in decimal without leading zeros, where a whole run
+ * of digits is one number; groups in round brackets, up to 8 in one another; a star after a number or a group, once at most;
+ * and `|` between alternatives, of which any may be empty. Spaces, byte 32, may stand anywhere but inside a number. The empty
+ * text is an expression, of the empty word.
+ *
+ * DRAWN: the first SWARMBANNER_POOL_LEAST bytes of `pool` are the final marks and the arcs of a pool of so many states, in the
+ *   layout of the tables from SWARMBANNER_AT_FINALS up to SWARMBANNER_AT_ROOTS; entries beyond the states are 0, and the rest
+ *   of `pool` keeps its bytes. From the root, state 0, just the words of the expression are accepted. The other states are the
+ *   different sets of numbers of the text that some word can end on; a state comes before another if the shortest and lowest
+ *   word that leads to it does. To have it as the pool of a session:
+ *
+ *     memcpy(tables + SWARMBANNER_AT_FINALS, pool, SWARMBANNER_POOL_LEAST);
+ *     tables[SWARMBANNER_AT_COUNTS + 4] = (uint8_t)reply[1];
+ *
+ * REFUSED: `pool` is as it was. 18: more than SWARMBANNER_TEXT_MOST bytes. 19: no expression; the place is the length of the
+ *   longest beginning that some expression, of any length and depth, has too. Then the leftmost of these, at its first byte:
+ *   5, a number of SWARMBANNER_MESSAGES_MOST or more; 20, a group inside SWARMBANNER_DEPTH_MOST others; 21, a number after
+ *   SWARMBANNER_OCCURRENCES_MOST others, unless it is refused by 5. 22: more than SWARMBANNER_POOL_STATES_MOST states.
+ * NO_ROOM: `pool` has under SWARMBANNER_POOL_LEAST bytes or `reply` under SWARMBANNER_REPLY_LEAST entries.
+ */
+size_t swarmbanner_expression(const uint8_t *text, size_t text_len,
+                              uint8_t *pool, size_t pool_len,
+                              size_t *reply, size_t reply_len);
 
 #ifdef __cplusplus
 }

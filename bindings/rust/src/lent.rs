@@ -23,9 +23,9 @@ pub const OUTSIDE: usize = 1;
 pub const LEAVES: usize = 2;
 /// Contents of a set are bad. With it go the bad entry and the number of messages shown.
 pub const BAD: usize = 3;
-/// The file, the question or the tables are turned away. With it go the number and the place.
+/// The file, the question, the tables or the text are turned away. With it go the number and the place.
 pub const REFUSED: usize = 4;
-/// The space for the reply or the tables is too short. Nothing was written anywhere.
+/// The space for the reply, the tables or the pool is too short. Nothing was written anywhere.
 pub const NO_ROOM: usize = 5;
 /// The file was read.
 pub const READ: usize = 6;
@@ -45,6 +45,8 @@ pub const TRACE_REFUSED: usize = 12;
 pub const MEMORY_REFUSED: usize = 13;
 /// The file with the given tables was written. With it goes its length.
 pub const WRITTEN: usize = 14;
+/// The diagram of an expression was drawn. With it go its root, which is 0, and the number of its states.
+pub const DRAWN: usize = 15;
 
 /// The number of the layout that this crate is written for, SWARMBANNER_LAYOUT of the header. [`layout`] is the library's.
 pub const LAYOUT: usize = 2;
@@ -53,6 +55,12 @@ pub const LAYOUT: usize = 2;
 pub const FILE_MOST: usize = 16_384;
 /// Bytes that a trace can have.
 pub const TRACE_MOST: usize = 16_384;
+/// Bytes that the text of an expression can have.
+pub const TEXT_MOST: usize = 256;
+/// Groups of an expression that can lie in one another.
+pub const DEPTH_MOST: usize = 8;
+/// Numbers of messages that can stand in an expression.
+pub const OCCURRENCES_MOST: usize = 32;
 /// Machines that a file can have.
 pub const MACHINES_MOST: usize = 4;
 /// Control states that a file can have.
@@ -82,6 +90,8 @@ pub const CONTENTS_LEAST: usize = 32_768;
 pub const RECORD_LEAST: usize = RECORD_LENGTHS + QUEUES_MOST;
 /// Bytes of memory that a replay needs for each queue of the file; queue q has those from this times q on.
 pub const QUEUE_LEAST: usize = 1_024;
+/// Bytes that the pool of an expression needs: the final marks and the arcs, as they lie in the tables.
+pub const POOL_LEAST: usize = at::ROOTS - at::FINALS;
 
 /// Where in the record the state of each machine is.
 pub const RECORD_STATES: usize = 0;
@@ -139,6 +149,14 @@ mod c {
             memory_len: usize,
             record: *mut usize,
             record_len: usize,
+            reply: *mut usize,
+            reply_len: usize,
+        ) -> usize;
+        pub fn swarmbanner_expression(
+            text: *const u8,
+            text_len: usize,
+            pool: *mut u8,
+            pool_len: usize,
             reply: *mut usize,
             reply_len: usize,
         ) -> usize;
@@ -249,6 +267,41 @@ pub fn replay(file: &[u8], trace: &[u8], memory: &mut [u8], record: &mut [usize]
             memory.len(),
             record.as_mut_ptr(),
             record.len(),
+            reply.as_mut_ptr(),
+            reply.len(),
+        )
+    }
+}
+
+/// Draws the diagram of an expression: [`DRAWN`], [`REFUSED`] or [`NO_ROOM`].
+///
+/// Final marks and arcs fill the first [`POOL_LEAST`] bytes of the pool as they lie in the tables from [`at::FINALS`] up to
+/// [`at::ROOTS`], and what follows is as it was; after a refusal all of it is: 18 to 22, and 5 for a number that is no message's.
+///
+/// ```
+/// use swarmbanner::lent::{self, at, FILE_MOST, POOL_LEAST, SPACE_LEAST};
+///
+/// // Message 0 is sent and received; as it is, any number of them may wait.
+/// let r = [2, 1, 1, 0, 0, 1, 1, 2, 0, 0, 0, 1, 0, 1, 0, 1, 0, 0, 2, 0, 1, 0, 1, 1, 1, 0, 0, 1, 0];
+/// let (mut tables, mut pool, mut buffer, mut reply) = ([0; SPACE_LEAST], [0; POOL_LEAST], [0; FILE_MOST], [0; 3]);
+/// assert_eq!(lent::read(&r, &mut tables, &mut reply), lent::READ);
+///
+/// // Now none or one.
+/// assert_eq!(lent::expression(b"|0", &mut pool, &mut reply), lent::DRAWN);
+/// assert_eq!(reply, [0, 2, 0]);
+/// tables[at::COUNTS + 4] = reply[1] as u8;
+/// tables[at::FINALS..at::ROOTS].copy_from_slice(&pool);
+/// assert_eq!(lent::write(&tables, &mut buffer, &mut reply), lent::WRITTEN);
+/// assert_eq!(swarmbanner::check(&buffer[..reply[0]]).to_string(), "leaves 0 0 1: 0");
+/// ```
+pub fn expression(text: &[u8], pool: &mut [u8], reply: &mut [usize]) -> usize {
+    // SAFETY: each pointer and length are of one slice. Those written to are borrowed exclusively, so they overlap nothing.
+    unsafe {
+        c::swarmbanner_expression(
+            text.as_ptr(),
+            text.len(),
+            pool.as_mut_ptr(),
+            pool.len(),
             reply.as_mut_ptr(),
             reply.len(),
         )

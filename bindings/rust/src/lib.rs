@@ -25,15 +25,17 @@
 //! | see what a file has in it | [`read`] and [`Session`] |
 //! | make a session, or change one | [`Session::new`] and the methods after it |
 //! | make a file of a session | [`Session::write`] |
+//! | draw the diagram of an expression | [`expression`] and [`Diagram`] |
+//! | put a diagram into a session | [`Session::add_diagram`], [`Session::set_pool`] |
 //! | follow the contents that a reply shows | [`Failure`] and [`Way`] |
 //! | replay a trace, or many in the same memory | [`Replayer`], which gives the last [`Configuration`] |
 //! | replay a trace in memory of one's own | [`replay`] and [`Record`] |
 //! | lend memory of one's own | [`lent`] |
 //!
 //! The library must have the layout that this crate is written for, [`lent::LAYOUT`]; with any other, [`check`], [`Checker::new`],
-//! [`member`], [`read`], [`Session::write`], [`Session::write_into`], [`replay`] and [`Replayer::new`] panic.
+//! [`member`], [`read`], [`Session::write`], [`Session::write_into`], [`replay`], [`Replayer::new`] and [`expression`] panic.
 //!
-//! Replies, contents shown, tables, files written, records and queues come from the proved library. What this crate does with them,
+//! Replies, contents shown, tables, files written, records, queues and diagrams come from the proved library. What this crate does with them,
 //! the methods of [`Session`] among it, is plain Rust that was tested and not proved.
 
 #![deny(missing_docs)]
@@ -54,6 +56,7 @@ pub use refusal::Refusal;
 pub use replay::{replay, Configuration, Record, Replayed, Replayer};
 pub use reply::Reply;
 pub use session::{
-    read, Arc, BadEntry, DiagramState, Kind, Machine, PoolState, Queue, Session, SessionError, Transition,
+    expression, read, Arc, BadEntry, Diagram, DiagramState, Kind, Machine, PoolState, Queue, Session, SessionError,
+    Transition,
 };
 pub use way::{End, Failure, Way};

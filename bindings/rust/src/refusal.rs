@@ -1,7 +1,7 @@
 use std::error::Error;
 use std::fmt;
 
-/// Why a file, a question, a step of a trace or tables to be written are turned away.
+/// Why a file, a question, a step of a trace, tables to be written or an expression are turned away.
 ///
 /// ```
 /// let refusal = swarmbanner::read(&[]).unwrap_err();
@@ -10,17 +10,19 @@ use std::fmt;
 /// ```
 #[derive(Clone, Copy, Debug, PartialEq, Eq, Hash)]
 pub struct Refusal {
-    /// Which cause it is, 1 to 17.
+    /// Which cause it is, 1 to 22.
     pub number: u8,
-    /// A place in the file; for causes 12 and 13 a place in the contents, for 14 and 15 one in the trace, for 2, 11, 16
-    /// and 17 always 0. Causes 1, 3, 4 and 5 are a trace's too: [`Replayed`](crate::Replayed) says which of the two is meant.
+    /// A place in the file; for causes 12 and 13 a place in the contents, for 14 and 15 one in the trace, for 18 to 21 one in the
+    /// text of an expression, for 2, 11, 16, 17 and 22 always 0. Causes 1, 3, 4 and 5 are a trace's too:
+    /// [`Replayed`](crate::Replayed) says which of the two is meant. 5 is an expression's too, where [`expression`](crate::expression)
+    /// gives it.
     pub place: usize,
 }
 
 impl Refusal {
     /// From the first two numbers of a reply.
     pub(crate) fn told(reply: &[usize; 3]) -> Self {
-        let number = u8::try_from(reply[0]).expect("refusals are numbered 1 to 17");
+        let number = u8::try_from(reply[0]).expect("refusals are numbered 1 to 22");
         Refusal { number, place: reply[1] }
     }
 
@@ -44,6 +46,11 @@ impl Refusal {
             15 => "a queue would pass 1,024 messages",
             16 => "no session file is read into these tables",
             17 => "the buffer is shorter than the file",
+            18 => "the text has more than 256 bytes",
+            19 => "the text is no expression",
+            20 => "more than eight groups lie in one another",
+            21 => "more than 32 numbers stand in the text",
+            22 => "the diagram has more than 127 states",
             _ => "no cause has this number",
         }
     }
@@ -51,10 +58,25 @@ impl Refusal {
     /// The cause in words, and where.
     pub fn explain(&self) -> String {
         match self.number {
-            2 | 11 | 16 | 17 => self.cause().to_string(),
+            2 | 11 | 16 | 17 | 22 => self.cause().to_string(),
             12 | 13 => format!("{} (at message {} of the contents)", self.cause(), self.place),
             14 | 15 => format!("{} (at byte {} of the trace)", self.cause(), self.place),
+            18..=21 => format!("{} (at byte {} of the text)", self.cause(), self.place),
             _ => format!("{} (at byte {} of the file)", self.cause(), self.place),
+        }
+    }
+
+    /// The cause in words, and where, of a refusal that [`expression`](crate::expression) gave: 5 is one of the text then.
+    ///
+    /// ```
+    /// let refusal = swarmbanner::expression(b"0 32").unwrap_err();
+    /// assert_eq!(refusal.to_string(), "refused 5 at 2");
+    /// assert_eq!(refusal.explain_text(), "a number is no message's: they go from 0 to 31 (at byte 2 of the text)");
+    /// ```
+    pub fn explain_text(&self) -> String {
+        match self.number {
+            5 => format!("a number is no message's: they go from 0 to 31 (at byte {} of the text)", self.place),
+            _ => self.explain(),
         }
     }
 }

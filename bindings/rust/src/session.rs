@@ -1,5 +1,6 @@
 mod build;
 mod error;
+mod expression;
 mod flat;
 
 use std::ops::Range;
@@ -7,6 +8,7 @@ use std::ops::Range;
 use crate::Refusal;
 
 pub use error::SessionError;
+pub use expression::{expression, Diagram};
 pub use flat::read;
 
 /// A machine.
@@ -59,8 +61,8 @@ pub struct Transition {
     pub kind: Kind,
 }
 
-/// The number of a diagram state, which is never the number of a control state. [`Session::state`] makes one from a number, and
-/// [`Session::add_state`] gives the one of a new state.
+/// The number of a diagram state, which is never the number of a control state. [`Session::state`] makes one from a number,
+/// [`Session::add_state`] gives the one of a new state, and [`Session::add_diagram`] that of a new root.
 #[derive(Clone, Copy, Debug, PartialEq, Eq, PartialOrd, Ord, Hash)]
 pub struct DiagramState(u8);
 

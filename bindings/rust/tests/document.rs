@@ -216,8 +216,8 @@ fn samples() {
 
 #[test]
 fn every_cause_is_explained() {
-    let causes: std::collections::HashSet<&str> = (1..=17).map(|number| Refusal { number, place: 0 }.cause()).collect();
-    assert_eq!(causes.len(), 17);
+    let causes: std::collections::HashSet<&str> = (1..=22).map(|number| Refusal { number, place: 0 }.cause()).collect();
+    assert_eq!(causes.len(), 22);
     assert_eq!(Refusal { number: 11, place: 0 }.explain(), "the file has no such control state");
     assert_eq!(Refusal { number: 16, place: 0 }.explain(), "no session file is read into these tables");
     assert_eq!(Refusal { number: 17, place: 0 }.explain(), "the buffer is shorter than the file");

@@ -4,7 +4,7 @@ use swarmbanner::lent::{self, at};
 
 const HEADER: &str = include_str!("../../../include/swarmbanner.h");
 
-const NUMBERS: [(&str, usize); 47] = [
+const NUMBERS: [(&str, usize); 52] = [
     ("CLOSED", lent::CLOSED),
     ("OUTSIDE", lent::OUTSIDE),
     ("LEAVES", lent::LEAVES),
@@ -20,6 +20,7 @@ const NUMBERS: [(&str, usize); 47] = [
     ("TRACE_REFUSED", lent::TRACE_REFUSED),
     ("MEMORY_REFUSED", lent::MEMORY_REFUSED),
     ("WRITTEN", lent::WRITTEN),
+    ("DRAWN", lent::DRAWN),
     ("LAYOUT", lent::LAYOUT),
     ("REPLY_LEAST", lent::REPLY_LEAST),
     ("SPACE_LEAST", lent::SPACE_LEAST),
@@ -27,8 +28,12 @@ const NUMBERS: [(&str, usize); 47] = [
     ("CONTENTS_LEAST", lent::CONTENTS_LEAST),
     ("RECORD_LEAST", lent::RECORD_LEAST),
     ("QUEUE_LEAST", lent::QUEUE_LEAST),
+    ("POOL_LEAST", lent::POOL_LEAST),
     ("FILE_MOST", lent::FILE_MOST),
     ("TRACE_MOST", lent::TRACE_MOST),
+    ("TEXT_MOST", lent::TEXT_MOST),
+    ("DEPTH_MOST", lent::DEPTH_MOST),
+    ("OCCURRENCES_MOST", lent::OCCURRENCES_MOST),
     ("MACHINES_MOST", lent::MACHINES_MOST),
     ("CONTROL_STATES_MOST", lent::CONTROL_STATES_MOST),
     ("QUEUES_MOST", lent::QUEUES_MOST),

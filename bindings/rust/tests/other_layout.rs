@@ -2,7 +2,7 @@
 
 use std::panic::{catch_unwind, UnwindSafe};
 
-use swarmbanner::{check, lent, member, read, replay, Checker, Machine, Record, Replayer, Session};
+use swarmbanner::{check, expression, lent, member, read, replay, Checker, Machine, Record, Replayer, Session};
 
 /// What a call panics with.
 fn said<T>(call: impl FnOnce() -> T + UnwindSafe) -> Option<String> {
@@ -21,6 +21,7 @@ fn typed_calls_panic() {
     assert_eq!(said(|| read(&[])), Some(why.clone()));
     assert_eq!(said(|| replay(&[], &[], &mut [], &mut Record::default())), Some(why.clone()));
     assert_eq!(said(Replayer::new), Some(why.clone()));
+    assert_eq!(said(|| expression(&[])), Some(why.clone()));
     let session = Session::new(&[Machine { states: 1, start: 0 }], &[1]).expect("it is within its ranges");
     assert_eq!(said(|| session.write()), Some(why.clone()));
     assert_eq!(said(|| session.write_into(&mut [])), Some(why));

@@ -3,7 +3,9 @@
 use std::path::Path;
 
 use swarmbanner::lent::{self, at, FILE_MOST, SPACE_LEAST};
-use swarmbanner::{read, BadEntry, DiagramState, Kind, Machine, Refusal, Session, Transition};
+use swarmbanner::{
+    expression, read, BadEntry, DiagramState, Kind, Machine, Refusal, Session, SessionError, Transition,
+};
 
 const R: [u8; 29] = [2, 1, 1, 0, 0, 1, 1, 2, 0, 0, 0, 1, 0, 1, 0, 1, 0, 0, 2, 0, 1, 0, 1, 1, 1, 0, 0, 1, 0];
 const S: [u8; 27] = [1, 1, 0, 2, 1, 1, 1, 0, 0, 0, 1, 0, 1, 0, 2, 1, 2, 0, 0, 1, 1, 1, 1, 1, 1, 1, 0];
@@ -225,7 +227,7 @@ fn change(session: &mut Session, random: &mut Random) -> bool {
     let message = random.below(session.queues().iter().map(|queue| queue.messages.len()).sum::<usize>() + 1) as u8;
     let control = random.below(session.control_states() + 1);
     let entry = BadEntry { control, root: state };
-    let made = match random.below(16) {
+    let made = match random.below(17) {
         0 => session.set_start(random.below(4), random.below(4)),
         1 | 2 => session.add_transition(transition(session, random)).map(drop),
         3 => session.replace_transition(random.below(4), transition(session, random)).map(drop),
@@ -237,10 +239,19 @@ fn change(session: &mut Session, random: &mut Random) -> bool {
         12 => session.set_root(control, Some(state)),
         13 => session.set_root(control, None),
         14 => session.add_bad_entry(entry).map(drop),
+        15 => put_diagram(session, random),
         _ if random.is_one_in(2) => session.replace_bad_entry(random.below(3), entry).map(drop),
         _ => session.remove_bad_entry(random.below(3)).map(drop),
     };
     made.is_ok()
+}
+
+/// A diagram behind the pool or in its place, which may have messages that are not there.
+fn put_diagram(session: &mut Session, random: &mut Random) -> Result<(), SessionError> {
+    let text = ["", "0*", "(0|1)* 2", "0* 1*", "0 1* 0"][random.below(5)];
+    let diagram = expression(text.as_bytes()).expect("it is an expression");
+    let put = if random.is_one_in(2) { Session::add_diagram } else { Session::set_pool };
+    put(session, &diagram).map(drop)
 }
 
 /// Whether a root accepts a word with a message of an earlier queue after one of a later queue: a search by the definition,

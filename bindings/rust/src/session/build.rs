@@ -1,5 +1,7 @@
 use super::error::MACHINE_STATES_MOST;
-use super::{product, Arc, BadEntry, DiagramState, Kind, Machine, PoolState, Queue, Session, SessionError, Transition};
+use super::{
+    product, Arc, BadEntry, Diagram, DiagramState, Kind, Machine, PoolState, Queue, Session, SessionError, Transition,
+};
 use crate::lent::{
     BAD_ENTRIES_MOST, CONTROL_STATES_MOST, MACHINES_MOST, MESSAGES_MOST, POOL_STATES_MOST, QUEUES_MOST,
     TRANSITIONS_MOST, WORD_MOST,
@@ -258,9 +260,71 @@ impl Session {
         Ok(place_of(arcs, message).ok().map(|place| arcs.remove(place).target))
     }
 
+    /// Adds the states of a diagram after the others, and gives its root as a state of this session.
+    ///
+    /// # Errors
+    ///
+    /// Fails where there would be more than 127 states, or the diagram has a message that no queue has.
+    ///
+    /// ```
+    /// let r = [2, 1, 1, 0, 0, 1, 1, 2, 0, 0, 0, 1, 0, 1, 0, 1, 0, 0, 2, 0, 1, 0, 1, 1, 1, 0, 0, 1, 0];
+    /// let mut session = swarmbanner::read(&r)?;
+    /// let root = session.add_diagram(&swarmbanner::expression(b"| 0 | 0 0")?)?;
+    /// session.set_root(0, Some(root))?;
+    /// // At most two messages may wait now, so a third send leads out.
+    /// assert_eq!(swarmbanner::check(&session.write()?).to_string(), "leaves 0 0 2: 0 0");
+    /// # Ok::<(), Box<dyn std::error::Error>>(())
+    /// ```
+    pub fn add_diagram(&mut self, diagram: &Diagram) -> Changed<DiagramState> {
+        let before = self.pool.len();
+        demand(before + diagram.states().len() <= POOL_STATES_MOST, SessionError::PoolFull)?;
+        self.has_messages(diagram)?;
+        self.pool.extend(diagram.states().iter().map(|state| moved(state, before)));
+        Ok(moved_state(diagram.root(), before))
+    }
+
+    /// Puts the states of a diagram in the place of the whole pool, and gives its root as a state of this session. Roots and bad
+    /// entries keep the numbers of the states that they name.
+    ///
+    /// # Errors
+    ///
+    /// Fails where a root or a bad entry names a state that would not be there, or the diagram has a message that no queue has.
+    ///
+    /// ```
+    /// use swarmbanner::{Machine, Session};
+    ///
+    /// let mut session = Session::new(&[Machine { states: 1, start: 0 }], &[2, 1])?;
+    /// let root = session.set_pool(&swarmbanner::expression(b"(0|1)* 2*")?)?;
+    /// session.set_root(0, Some(root))?;
+    /// assert_eq!(swarmbanner::member(&session.write()?, 0, &[1, 0, 2]), Ok(true));
+    /// # Ok::<(), Box<dyn std::error::Error>>(())
+    /// ```
+    pub fn set_pool(&mut self, diagram: &Diagram) -> Changed<DiagramState> {
+        let named = self.roots.iter().flatten().chain(self.bad_entries.iter().map(|entry| &entry.root));
+        let mut beyond = named.filter(|state| state.index() >= diagram.states().len());
+        beyond.next().map_or(Ok(()), |&state| Err(SessionError::NoState { state }))?;
+        self.has_messages(diagram)?;
+        self.pool = diagram.states().to_vec();
+        Ok(diagram.root())
+    }
+
+    fn has_messages(&self, diagram: &Diagram) -> Changed<()> {
+        diagram.states().iter().flat_map(|state| &state.arcs).try_for_each(|arc| self.has_message(arc.message))
+    }
+
     fn has_state(&self, state: DiagramState) -> Changed<()> {
         demand(state.index() < self.pool.len(), SessionError::NoState { state })
     }
+}
+
+/// A state of a diagram behind so many others. All numbers are below 127.
+fn moved(state: &PoolState, by: usize) -> PoolState {
+    let arc = |arc: &Arc| Arc { target: moved_state(arc.target, by), ..*arc };
+    PoolState { arcs: state.arcs.iter().map(arc).collect(), ..*state }
+}
+
+fn moved_state(state: DiagramState, by: usize) -> DiagramState {
+    DiagramState((state.index() + by) as u8)
 }
 
 /// Where the arc for a message is, or where it would be.

@@ -97,9 +97,9 @@ pub enum SessionError {
         /// Its number.
         transition: usize,
     },
-    /// The pool has 127 states already.
+    /// The pool has 127 states already, or would have more with those of a diagram.
     PoolFull,
-    /// The pool has no such state: it is one of another session.
+    /// The pool has no such state: it is one of another session, or of a pool that is replaced.
     NoState {
         /// The state.
         state: DiagramState,

@@ -106,6 +106,19 @@ fn after_one(entry: u8) -> Option<DiagramState> {
     entry.checked_sub(1).map(DiagramState)
 }
 
+/// So many states, of the final marks and the arcs as they lie in the tables.
+pub(super) fn pool_of(marks_and_arcs: &[u8], count: usize) -> Vec<PoolState> {
+    let (marks, arcs) = marks_and_arcs.split_at(at::ARCS - at::FINALS);
+    let state = |(&mark, row): (&u8, &[u8])| {
+        let arcs = (0..).zip(row).filter_map(|(message, &entry)| {
+            let target = after_one(entry)?;
+            Some(Arc { message, target })
+        });
+        PoolState { is_final: mark == 1, arcs: arcs.collect() }
+    };
+    marks.iter().zip(arcs.chunks(at::ARC_ROW)).take(count).map(state).collect()
+}
+
 /// The tables as [`at`] says.
 struct Space<'a>(&'a [u8; SPACE_LEAST]);
 
@@ -119,7 +132,7 @@ impl Space<'_> {
             machines,
             queues: self.queues(queues),
             transitions: (0..transitions).map(|number| self.transition(number)).collect(),
-            pool: (0..pool).map(|state| self.pool_state(state)).collect(),
+            pool: pool_of(&self.0[at::FINALS..at::ROOTS], pool),
             roots: (0..control_states).map(|control| after_one(self.0[at::ROOTS + control])).collect(),
             bad_entries: (0..bad).map(|entry| self.bad_entry(entry)).collect(),
         }
@@ -163,15 +176,6 @@ impl Space<'_> {
             _ => Kind::Receive { queue, word },
         };
         Transition { machine: row[0].into(), from: row[1].into(), to: row[2].into(), kind }
-    }
-
-    fn pool_state(&self, state: usize) -> PoolState {
-        let row = self.row::<{ at::ARC_ROW }>(at::ARCS, state);
-        let arcs = (0..).zip(row).filter_map(|(message, &entry)| {
-            let target = after_one(entry)?;
-            Some(Arc { message, target })
-        });
-        PoolState { is_final: self.0[at::FINALS + state] == 1, arcs: arcs.collect() }
     }
 
     fn bad_entry(&self, entry: usize) -> BadEntry {
