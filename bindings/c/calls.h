@@ -11,7 +11,7 @@
 #define MORE 1000
 
 static struct lend file_lend, member_lend, space_lend, seen_lend, queue_lend, contents_lend, reply_lend;
-static struct lend trace_lend, memory_lend, record_lend, tables_lend, buffer_lend;
+static struct lend trace_lend, memory_lend, record_lend, tables_lend, buffer_lend, text_lend, pool_lend;
 static unsigned tests, failures;
 
 static void expect(int holds, const char *what, const char *name)
@@ -25,14 +25,14 @@ static void expect(int holds, const char *what, const char *name)
 
 /* How many entries of each kind are lent. */
 struct lengths {
-    size_t space, seen, queue, contents, memory, record, buffer, reply;
+    size_t space, seen, queue, contents, memory, record, buffer, pool, reply;
 };
 
 #define MEMORY_LEAST (SWARMBANNER_QUEUES_MOST * SWARMBANNER_QUEUE_LEAST)
 
 static const struct lengths least = {SWARMBANNER_SPACE_LEAST, SWARMBANNER_TABLE_LEAST, SWARMBANNER_TABLE_LEAST,
                                      SWARMBANNER_CONTENTS_LEAST, MEMORY_LEAST, SWARMBANNER_RECORD_LEAST,
-                                     SWARMBANNER_FILE_MOST, SWARMBANNER_REPLY_LEAST};
+                                     SWARMBANNER_FILE_MOST, SWARMBANNER_POOL_LEAST, SWARMBANNER_REPLY_LEAST};
 
 static struct lengths plenty(void)
 {
@@ -45,6 +45,7 @@ static struct lengths plenty(void)
     more.memory += MORE;
     more.record += 7;
     more.buffer += MORE;
+    more.pool += MORE;
     more.reply += 5;
     return more;
 }
@@ -91,6 +92,14 @@ static size_t call_write(const uint8_t *tables, size_t length, struct lengths n)
     const uint8_t *lent = length == 0 ? NULL : lend_copy(&tables_lend, tables, length);
 
     return swarmbanner_write(lent, length, lend_or_null(&buffer_lend, n.buffer), n.buffer, lend_reply(n), n.reply);
+}
+
+/* So is the text. */
+static size_t call_expression(const uint8_t *text, size_t length, struct lengths n)
+{
+    const uint8_t *lent = length == 0 ? NULL : lend_copy(&text_lend, text, length);
+
+    return swarmbanner_expression(lent, length, lend_or_null(&pool_lend, n.pool), n.pool, lend_reply(n), n.reply);
 }
 
 static int replied(size_t first, size_t second, size_t third)

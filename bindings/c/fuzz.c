@@ -1,5 +1,5 @@
 /*
- * One input: all five calls on it, held to each other and to the definitions, on memory as `lend.h` lends it.
+ * One input: all six calls on it, held to each other and to the definitions, on memory as `lend.h` lends it.
  *
  * `fuzz.h` says what an input is. libFuzzer calls it, or `fuzz_loop.c`.
  */
@@ -7,6 +7,7 @@
 
 #include "fuzz.h"
 #include "lend.h"
+#include "sketch.h"
 #include "spell.h"
 #include "swarmbanner.h"
 
@@ -14,13 +15,14 @@
 #define CONTENTS_MOST 255
 #define PAIRS_MOST 1066385472u
 #define TRACE_ROOM (SWARMBANNER_TRACE_MOST + MORE)
+#define TEXT_ROOM (2 * SWARMBANNER_TEXT_MOST + MORE)
 #define MEMORY_ROOM (SWARMBANNER_QUEUES_MOST * SWARMBANNER_QUEUE_LEAST + MORE)
 
 static struct lend file_lend, asked_lend, trace_lend, space_lend, seen_lend, queue_lend, contents_lend, memory_lend,
-    record_lend, tables_lend, buffer_lend, reply_lend;
+    record_lend, tables_lend, buffer_lend, text_lend, pool_lend, reply_lend;
 
 #ifdef SWARMBANNER_LIBFUZZER
-#include "generate.h"
+#include "generate_text.h"
 
 /*
  * The library is not built for coverage. What a reply says stands in for it: an input that gets further into a file, or
@@ -33,16 +35,20 @@ size_t LLVMFuzzerCustomMutator(uint8_t *data, size_t size, size_t most, unsigned
 
 /*
  * Nearly every change breaks a file. A small number in the place of another is the one most likely to leave a session. Now
- * and then the file is one of its own, with enough memory, no question and a pattern of four bytes.
+ * and then file and text are new, with enough memory, no question and a pattern of four bytes.
  */
 size_t LLVMFuzzerCustomMutator(uint8_t *data, size_t size, size_t most, unsigned seed)
 {
-    if (seed % 16 == 1 && most >= INPUT_HEAD + 4 + GENERATED_MOST) {
+    if (seed % 16 == 1 && most >= INPUT_HEAD + 4 + GENERATED_TEXT_MOST + GENERATED_MOST) {
+        size_t text = generate_text(seed, data + INPUT_HEAD + 4);
+
         memset(data, 0, INPUT_HEAD);
         data[INPUT_PATTERN] = 4;
         data[INPUT_TRACE] = (uint8_t)(seed >> 8);
+        data[INPUT_TEXT] = (uint8_t)text;
+        data[INPUT_TEXT_HIGH] = (uint8_t)(text / 256);
         memcpy(data + INPUT_HEAD, &seed, 4);
-        return INPUT_HEAD + 4 + generate_file(seed, data + INPUT_HEAD + 4);
+        return INPUT_HEAD + 4 + text + generate_file(seed, data + INPUT_HEAD + 4 + text);
     }
     if (size <= INPUT_HEAD || seed % 4 == 0)
         return LLVMFuzzerMutate(data, size, most);
@@ -69,7 +75,7 @@ static void reach(size_t kind, size_t first, size_t second)
 #endif
 
 /* How often each kind of reply was met, so that a run that tries too little is seen to. */
-static unsigned long met[SWARMBANNER_WRITTEN + 1];
+static unsigned long met[SWARMBANNER_DRAWN + 1];
 
 /* Of files with a word of sixteen: how often they were closed, and left by sending or receiving one (1 and 2). */
 static unsigned long long_closed, long_left[3];
@@ -79,6 +85,9 @@ static unsigned long step_refused[SWARMBANNER_REFUSED_FULL + 1], went_round;
 
 /* How often writing refused by each number, and how often tables that were changed are those of another file. */
 static unsigned long write_refused[SWARMBANNER_REFUSED_BUFFER + 1], written_changed;
+
+/* How often drawing refused by each number, and the most states that were drawn. */
+static unsigned long draw_refused[SWARMBANNER_REFUSED_STATES + 1], most_states;
 
 static int has_met(unsigned long times, const char *what)
 {
@@ -98,23 +107,30 @@ int fuzz_met_enough(void)
            has_met(step_refused[14], "step refused by 14") & has_met(step_refused[15], "step refused by 15") &
            has_met(went_round, "a queue that goes round") & has_met(met[SWARMBANNER_WRITTEN], "a file written") &
            has_met(write_refused[16], "tables refused by 16") & has_met(write_refused[17], "a buffer refused by 17") &
-           has_met(written_changed, "tables changed and written");
+           has_met(written_changed, "tables changed and written") & has_met(met[SWARMBANNER_DRAWN], "an expression drawn") &
+           has_met(most_states > 64, "a diagram of more than 64 states") & has_met(draw_refused[5], "a text refused by 5") &
+           has_met(draw_refused[18], "a text refused by 18") & has_met(draw_refused[19], "a text refused by 19") &
+           has_met(draw_refused[20], "a text refused by 20") & has_met(draw_refused[21], "a text refused by 21") &
+           has_met(draw_refused[22], "a text refused by 22");
 }
 
 static void report(void)
 {
     static const char *const names[] = {"closed", "outside", "leaves", "bad", "refused", "no room", "read", "yes", "no",
-                                        "end", "left", "step refused", "trace refused", "memory refused", "written"};
+                                        "end", "left", "step refused", "trace refused", "memory refused", "written",
+                                        "drawn"};
     size_t kind;
 
-    for (kind = 0; kind <= SWARMBANNER_WRITTEN; kind++)
-        printf("%s %lu%s", names[kind], met[kind], kind < SWARMBANNER_WRITTEN ? ", " : "\n");
+    for (kind = 0; kind <= SWARMBANNER_DRAWN; kind++)
+        printf("%s %lu%s", names[kind], met[kind], kind < SWARMBANNER_DRAWN ? ", " : "\n");
     printf("words of %u: closed %lu, left by sending %lu, by receiving %lu\n", SWARMBANNER_WORD_MOST, long_closed,
            long_left[1], long_left[2]);
     printf("steps refused: by 3 %lu, 4 %lu, 5 %lu, 14 %lu, 15 %lu; queues that went round %lu\n", step_refused[3],
            step_refused[4], step_refused[5], step_refused[14], step_refused[15], went_round);
     printf("tables changed and written %lu; writing refused: by 16 %lu, 17 %lu\n", written_changed, write_refused[16],
            write_refused[17]);
+    printf("drawing refused: by 5 %lu, 18 %lu, 19 %lu, 20 %lu, 21 %lu, 22 %lu; most states %lu\n", draw_refused[5],
+           draw_refused[18], draw_refused[19], draw_refused[20], draw_refused[21], draw_refused[22], most_states);
 }
 
 static void must(int holds, const char *what)
@@ -141,13 +157,14 @@ static int is(const struct told *told, size_t kind, size_t first, size_t second)
 
 /* How much is lent of what. Mostly enough; else one of them is one short, or much shorter. */
 struct lengths {
-    size_t space, seen, queue, contents, record, reply;
+    size_t space, seen, queue, contents, record, pool, reply;
     size_t memory_less, tables_less, buffer_less; /* than the queues of the file, the tables and the file want */
     size_t more;                                  /* than these */
 };
 
 static const struct lengths enough = {SWARMBANNER_SPACE_LEAST, SWARMBANNER_TABLE_LEAST, SWARMBANNER_TABLE_LEAST,
-                                      SWARMBANNER_CONTENTS_LEAST, SWARMBANNER_RECORD_LEAST, SWARMBANNER_REPLY_LEAST, 0, 0, 0, 0};
+                                      SWARMBANNER_CONTENTS_LEAST, SWARMBANNER_RECORD_LEAST, SWARMBANNER_POOL_LEAST,
+                                      SWARMBANNER_REPLY_LEAST, 0, 0, 0, 0};
 
 static struct lengths lengths_of(uint8_t choice)
 {
@@ -156,6 +173,7 @@ static struct lengths lengths_of(uint8_t choice)
     size_t more = choice % MORE;
 
     switch (choice / 16) {
+    case 6: n.pool -= less; break;
     case 7: n.tables_less = less; break;
     case 8: n.buffer_less = less; break;
     case 9: n.memory_less = less * 300; break;
@@ -171,6 +189,7 @@ static struct lengths lengths_of(uint8_t choice)
         n.queue += MORE - more;
         n.contents += more;
         n.record += more;
+        n.pool += more;
         n.reply += more;
         n.more = more;
     }
@@ -187,7 +206,7 @@ static struct told told_of(size_t kind, const struct lengths *n)
 {
     struct told told = {kind, {0, 0, 0}};
 
-    must(kind <= SWARMBANNER_WRITTEN, "no kind of reply");
+    must(kind <= SWARMBANNER_DRAWN, "no kind of reply");
     met[kind]++;
     if (!has_room(n)) {
         must(kind == SWARMBANNER_NO_ROOM, "a reply without room");
@@ -700,6 +719,53 @@ static void calls_of_writing(const struct lengths *n, int is_read, const uint8_t
     call_write(n, damaged);
 }
 
+/* A pool that was drawn is that of a file, one queue having all messages, and a word is inside just if the pool accepts it. */
+static void drawn_is_taken(const uint8_t *pool, size_t states, const uint8_t *word, size_t length)
+{
+    static uint8_t drawn[SWARMBANNER_SPACE_LEAST], bytes[SWARMBANNER_FILE_MOST];
+    size_t reply[SWARMBANNER_REPLY_LEAST], state = 1, kind, i;
+
+    memset(drawn, 0, sizeof drawn);
+    drawn[SWARMBANNER_AT_COUNTS] = drawn[SWARMBANNER_AT_COUNTS + 1] = drawn[SWARMBANNER_AT_STATES] = 1;
+    drawn[SWARMBANNER_AT_COUNTS + 2] = drawn[SWARMBANNER_AT_MESSAGES] = SWARMBANNER_MESSAGES_MOST;
+    drawn[SWARMBANNER_AT_COUNTS + 4] = (uint8_t)states;
+    memcpy(drawn + SWARMBANNER_AT_FINALS, pool, SWARMBANNER_POOL_LEAST);
+    drawn[SWARMBANNER_AT_ROOTS] = 1;
+    kind = swarmbanner_write(drawn, sizeof drawn, bytes, sizeof bytes, reply, SWARMBANNER_REPLY_LEAST);
+    must(kind == SWARMBANNER_WRITTEN, "what was drawn is not written");
+    for (i = 0; i < length && word[i] < SWARMBANNER_MESSAGES_MOST; i++)
+        state = state > 0 ? pool[SWARMBANNER_POOL_STATES_MOST + (state - 1) * SWARMBANNER_ARC_ROW + word[i]] : 0;
+    kind = swarmbanner_member(bytes, reply[0], 0, word, i, reply, SWARMBANNER_REPLY_LEAST);
+    must(kind == (state > 0 && pool[state - 1] == 1 ? SWARMBANNER_YES : SWARMBANNER_NO), "a word is inside otherwise than drawn");
+}
+
+/* Drawing a text says what it must, and leaves the pool as it must. */
+static void call_expression(const struct lengths *n, const uint8_t *text, size_t length, const uint8_t *word, size_t count)
+{
+    static uint8_t expected_pool[SWARMBANNER_POOL_LEAST];
+    const uint8_t *lent = lend_copy(&text_lend, text, length);
+    uint8_t *pool = lend_bytes(&pool_lend, n->pool);
+    struct told told = told_of(swarmbanner_expression(lent, length, pool, n->pool, lend_reply(n), n->reply), n), expected;
+
+    if (!has_room(n) || n->pool < SWARMBANNER_POOL_LEAST) {
+        must(told.kind == SWARMBANNER_NO_ROOM, "a pool without room");
+        must(lend_kept(&pool_lend) && lend_kept(&reply_lend), "pool or reply has changed without room");
+        return;
+    }
+    expected.kind = sketch_expression(text, length, expected_pool, expected.number);
+    must(same(&told, &expected), "drawing says something else");
+    reach(told.kind, told.number[0], told.number[1]);
+    if (told.kind == SWARMBANNER_REFUSED) {
+        draw_refused[told.number[0]]++;
+        must(lend_kept(&pool_lend), "the pool has changed after a refusal");
+        return;
+    }
+    must(memcmp(pool, expected_pool, sizeof expected_pool) == 0, "another pool is drawn");
+    must(lend_kept_from(&pool_lend, sizeof expected_pool), "the rest of the pool has changed");
+    most_states = told.number[1] > most_states ? told.number[1] : most_states;
+    drawn_is_taken(pool, told.number[1], word, count);
+}
+
 /* A verdict means what it says, as far as it can be seen from here. */
 static void verdict_holds(const struct told *told, size_t control, const uint8_t *asked, size_t count)
 {
@@ -793,6 +859,8 @@ static void make_room(void)
     lend_make(&record_lend, (SWARMBANNER_RECORD_LEAST + MORE) * sizeof(size_t));
     lend_make(&tables_lend, SWARMBANNER_SPACE_LEAST + MORE);
     lend_make(&buffer_lend, SWARMBANNER_FILE_MOST + MORE);
+    lend_make(&text_lend, TEXT_ROOM);
+    lend_make(&pool_lend, SWARMBANNER_POOL_LEAST + MORE);
     lend_make(&reply_lend, (SWARMBANNER_REPLY_LEAST + MORE) * sizeof(size_t));
     atexit(report);
 }
@@ -800,8 +868,8 @@ static void make_room(void)
 int LLVMFuzzerTestOneInput(const uint8_t *data, size_t size)
 {
     struct lengths n;
-    size_t count, pattern_len;
-    const uint8_t *asked, *pattern, *rest;
+    size_t count, pattern_len, text_len;
+    const uint8_t *asked, *pattern, *text, *rest;
 
     if (reply_lend.memory == NULL)
         make_room();
@@ -814,11 +882,16 @@ int LLVMFuzzerTestOneInput(const uint8_t *data, size_t size)
     pattern = asked + count;
     size -= count;
     pattern_len = data[INPUT_PATTERN] < size ? data[INPUT_PATTERN] : size;
-    rest = pattern + pattern_len;
-    file_len = size - pattern_len;
-    if (file_len > SWARMBANNER_FILE_MOST + MORE)
+    text = pattern + pattern_len;
+    size -= pattern_len;
+    text_len = data[INPUT_TEXT] + 256u * data[INPUT_TEXT_HIGH];
+    text_len = text_len < size ? text_len : size;
+    rest = text + text_len;
+    file_len = size - text_len;
+    if (file_len > SWARMBANNER_FILE_MOST + MORE || text_len > TEXT_ROOM)
         return 0;
     file = lend_copy(&file_lend, rest, file_len);
+    call_expression(&n, text, text_len, asked, count);
     calls_agree(&n, data, asked, count, pattern, pattern_len);
     must(memcmp(file, rest, file_len) == 0, "the file has changed");
     return 0;

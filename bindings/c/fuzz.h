@@ -1,6 +1,6 @@
 /*
  * What an input of `fuzz.c` is made of: a head, the messages asked about, a pattern for the trace and for what is changed in
- * the tables, and the file.
+ * the tables, the text of an expression, and the file.
  */
 #ifndef FUZZ_H
 #define FUZZ_H
@@ -15,11 +15,13 @@ enum {
     INPUT_CONTROL_HIGH, /* in two bytes */
     INPUT_ASKED,        /* how many messages are asked about */
     INPUT_PATTERN,      /* how long the pattern is */
-    INPUT_TRACE,        /* how the trace is made from it: */
+    INPUT_TRACE,        /* how the trace is made from it: see below */
+    INPUT_TEXT,         /* how long the text is, */
+    INPUT_TEXT_HIGH,    /* in two bytes */
     INPUT_HEAD
 };
 
-/* 1 to 128 times the pattern, by the low three bits; */
+/* A trace is 1 to 128 times the pattern, by the low three bits; */
 #define TRACE_REPEAT(byte) ((size_t)1 << (byte) % 8)
 
 /* its bytes as they are, or with this bit each of them picks one of the transitions that can be taken then; */

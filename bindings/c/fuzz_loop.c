@@ -2,10 +2,10 @@
  * A loop of its own for `fuzz.c`, where libFuzzer is not to be had: fuzz_loop SEED COUNT FILE..
  *
  * The session files named, and others with long words, are changed at random: bytes set, moved, taken out, put in, cut off,
- * or joined with another. Traces are patterns at random, most of them steered.
+ * or joined with another. Traces are patterns at random, most of them steered. Expressions are changed in a sign or two.
  */
 #include "fuzz.h"
-#include "generate.h"
+#include "generate_text.h"
 #include "swarmbanner.h"
 
 #include <stdio.h>
@@ -99,13 +99,29 @@ static size_t put_pattern(uint8_t *at)
     return length;
 }
 
+/* An expression, mostly as it is, or signs at random. */
+static size_t put_text(uint8_t *at)
+{
+    static const char signs[] = "0123  (()||**x";
+    size_t length = generate_text(next(), at), changes = below(3) / 2 * (1 + below(2)), i;
+
+    if (below(8) == 0)
+        for (length = below(30), changes = 0, i = 0; i < length; i++)
+            at[i] = (uint8_t)signs[below(sizeof signs - 1)];
+    for (i = 0; i < changes && length > 0; i++)
+        at[below(length)] = (uint8_t)(below(10) == 0 ? next() : (uint64_t)signs[below(sizeof signs - 1)]);
+    input[INPUT_TEXT] = (uint8_t)length;
+    input[INPUT_TEXT_HIGH] = (uint8_t)(length / 256);
+    return length;
+}
+
 static void one(size_t count)
 {
     int is_generated = below(2) == 0;
     /* a generated file is new by itself */
     size_t changes = is_generated ? below(3) / 2 : below(4), length, asked, begins, i;
 
-    /* a question of up to three messages, a pattern, and the file */
+    /* a question of up to three messages, a pattern, a text, and the file */
     asked = below(4);
     input[INPUT_LENGTHS] = (uint8_t)next();
     input[INPUT_CONTROL] = (uint8_t)below(is_generated ? 4 : 20);
@@ -114,6 +130,7 @@ static void one(size_t count)
     for (i = 0; i < asked; i++)
         input[INPUT_HEAD + i] = (uint8_t)below(5);
     begins = INPUT_HEAD + asked + put_pattern(input + INPUT_HEAD + asked);
+    begins += put_text(input + begins);
     length = begins + (is_generated ? generate_file(next(), input + begins) : put_named(input + begins, count));
     for (i = 0; i < changes; i++)
         length = change(begins, length);

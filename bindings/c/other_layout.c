@@ -1,6 +1,6 @@
 /*
  * Stands in for a library of another layout: each call answers what a program that does not ask first would print as
- * `closed 0`, `end 0` or `written 0`.
+ * `closed 0`, `end 0`, `written 0` or a diagram.
  */
 #include "swarmbanner.h"
 
@@ -53,4 +53,11 @@ size_t swarmbanner_write(const uint8_t *tables, size_t tables_len, uint8_t *buff
 {
     (void)tables, (void)tables_len, (void)buffer, (void)buffer_len;
     return answer(SWARMBANNER_WRITTEN, reply, reply_len);
+}
+
+size_t swarmbanner_expression(const uint8_t *text, size_t text_len, uint8_t *pool, size_t pool_len,
+                              size_t *reply, size_t reply_len)
+{
+    (void)text, (void)text_len, (void)pool, (void)pool_len;
+    return answer(SWARMBANNER_DRAWN, reply, reply_len);
 }

@@ -1,11 +1,12 @@
 /*
  * What the header promises, call by call: the fourteen cases of document 01, long words, replays worked out by hand, files
- * written back and tables that no file has, and what is done to lent memory.
+ * written back and tables that no file has, diagrams of expressions, and what is done to lent memory.
  */
 #define _DEFAULT_SOURCE
 
 #include "calls.h"
 #include "files.h"
+#include "test_expression.h"
 #include "test_write.h"
 
 /* Two states, messages 1 to 16 in queue 1; sent in that order, received in the other. */
@@ -157,7 +158,7 @@ static void short_memory(void)
 static void long_files(void)
 {
     static uint8_t bytes[SWARMBANNER_FILE_MOST + 1];
-    struct lengths none = {0, 0, 0, 0, 0, SWARMBANNER_RECORD_LEAST, 0, SWARMBANNER_REPLY_LEAST};
+    struct lengths none = {0, 0, 0, 0, 0, SWARMBANNER_RECORD_LEAST, 0, 0, SWARMBANNER_REPLY_LEAST};
     const uint8_t *file;
 
     memset(bytes, 5, sizeof bytes);
@@ -480,6 +481,8 @@ int main(void)
     lend_make(&record_lend, most.record * sizeof(size_t));
     lend_make(&tables_lend, SWARMBANNER_SPACE_LEAST + MORE);
     lend_make(&buffer_lend, most.buffer);
+    lend_make(&text_lend, SWARMBANNER_TEXT_MOST + MORE);
+    lend_make(&pool_lend, most.pool);
     lend_make(&reply_lend, most.reply * sizeof(size_t));
     for (i = 0; i < CASES; i++) {
         check_case(&cases[i], least);
@@ -507,6 +510,7 @@ int main(void)
     queue_goes_round();
     same_bytes();
     writing();
+    expressions();
     printf("%u tests, %u failures\n", tests, failures);
     return failures > 0;
 }

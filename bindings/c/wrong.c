@@ -3,6 +3,7 @@
  * that callers come here and `__real_` is the library.
  */
 #include "swarmbanner.h"
+#include "wrong_expression.h"
 
 #include <string.h>
 
