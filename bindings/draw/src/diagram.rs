@@ -2,7 +2,7 @@
 
 use std::collections::{BTreeMap, BTreeSet};
 
-use swarmbanner::{DiagramState, End, Session, Way};
+use swarmbanner::{DiagramState, End, PoolState, Queue, Way};
 
 use crate::dot::{Attribute, Dot};
 use crate::text::ranges;
@@ -13,7 +13,9 @@ const LOST: &str = Tone::Lost.line();
 
 /// A diagram whose nodes have a prefix of their own, since pictures may have the same state twice.
 pub struct Diagram<'a> {
-    pub session: &'a Session,
+    pub pool: &'a [PoolState],
+    /// The queues of the messages; without any, messages stand alone.
+    pub queues: &'a [Queue],
     pub prefix: &'a str,
     pub title: &'a str,
     pub root: Option<DiagramState>,
@@ -65,7 +67,7 @@ impl Diagram<'_> {
         let mut found: Vec<DiagramState> = self.root.into_iter().collect();
         while let Some(state) = found.pop() {
             if reached.insert(state) {
-                found.extend(self.session.pool()[state.index()].arcs.iter().map(|arc| arc.target));
+                found.extend(self.pool[state.index()].arcs.iter().map(|arc| arc.target));
             }
         }
         reached
@@ -74,7 +76,7 @@ impl Diagram<'_> {
     fn draw_state(&self, dot: &mut Dot, state: DiagramState) {
         let label = state.index().to_string();
         let mut attributes: Vec<Attribute> = vec![("label", &label)];
-        if self.session.is_final(state) {
+        if self.pool[state.index()].is_final {
             attributes.push(("shape", "doublecircle"));
         }
         if let Some(way) = self.way.filter(|way| way.states.contains(&state)) {
@@ -93,7 +95,7 @@ impl Diagram<'_> {
     /// Arcs to the same state share an arrow, but those on the way have arrows of their own.
     fn draw_arcs(&self, dot: &mut Dot, state: DiagramState) {
         let mut others: BTreeMap<DiagramState, Vec<u8>> = BTreeMap::new();
-        for arc in &self.session.pool()[state.index()].arcs {
+        for arc in &self.pool[state.index()].arcs {
             let places = self.way.map_or(vec![], |way| way.places(state, arc.message));
             if places.is_empty() {
                 others.entry(arc.target).or_default().push(arc.message);
@@ -113,11 +115,14 @@ impl Diagram<'_> {
     fn messages(&self, messages: &[u8]) -> String {
         let mut by_queue: BTreeMap<Option<usize>, Vec<usize>> = BTreeMap::new();
         for &message in messages {
-            by_queue.entry(self.session.queue_of(message)).or_default().push(message.into());
+            let queue = self.queues.iter().position(|queue| queue.messages.contains(&message));
+            by_queue.entry(queue).or_default().push(message.into());
         }
-        let lines =
-            by_queue.iter().filter_map(|(queue, messages)| Some(format!("q{}: {}", (*queue)?, ranges(messages))));
-        lines.collect::<Vec<_>>().join("\n")
+        let line = |(queue, messages): (&Option<usize>, &Vec<usize>)| match queue {
+            Some(queue) => format!("q{queue}: {}", ranges(messages)),
+            None => ranges(messages),
+        };
+        by_queue.iter().map(line).collect::<Vec<_>>().join("\n")
     }
 
     fn draw_lost(&self, dot: &mut Dot) {

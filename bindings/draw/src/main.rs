@@ -2,19 +2,13 @@
 //! `text` and TRACE.
 
 use std::ffi::{OsStr, OsString};
-use std::fs;
-use std::io;
-use std::os::unix::ffi::OsStrExt;
-use std::path::{Path, PathBuf};
-use std::process::{self, ExitCode};
+use std::path::Path;
+use std::process::ExitCode;
 
 use swarmbanner::{Refusal, Replayer};
-use swarmbanner_draw::{pictures, replay_pictures, Picture};
-use swarmbanner_explain::command::{read_once, reason, Command, NOT_TRIED, REFUSED};
+use swarmbanner_draw::{pictures, replay_pictures, save, Complaint, Picture};
+use swarmbanner_explain::command::{read_once, Command, NOT_TRIED, REFUSED};
 use swarmbanner_explain::{Refused, Trace};
-
-/// Laying out more arrows takes minutes and shows nothing.
-const ARROWS_MOST: usize = 1500;
 
 fn main() -> ExitCode {
     let words: Vec<OsString> = std::env::args_os().skip(1).collect();
@@ -44,13 +38,6 @@ fn usage(mut command: Command) -> ExitCode {
     ExitCode::from(command.status())
 }
 
-/// A complaint has names of files in it, which are bytes of any kind.
-type Complaint = Vec<u8>;
-
-fn about(path: &Path, why: &str) -> Complaint {
-    [path.as_os_str().as_bytes(), b" cannot be written: ", why.as_bytes()].concat()
-}
-
 fn draw(
     command: &mut Command,
     folder: &Path,
@@ -71,8 +58,7 @@ fn draw(
         }
         Told::Drawn(line, drawn) => {
             command.say(line.as_bytes());
-            fs::create_dir_all(folder).map_err(|error| about(folder, &reason(&error)))?;
-            drawn.iter().try_for_each(|picture| write(command, folder, file, picture))
+            drawn.iter().try_for_each(|picture| save(command, folder, &named(file, picture), picture))
         }
     }
 }
@@ -114,14 +100,6 @@ fn refused(bytes: &[u8], line: String, refusal: Refusal) -> Told {
     Told::Refused([vec![line], Refused::new(bytes, refusal).lines()].concat())
 }
 
-/// Writes a picture, and an SVG beside it.
-fn write(command: &Command, folder: &Path, file: &OsStr, picture: &Picture) -> Result<(), Complaint> {
-    let path = folder.join(named(file, picture));
-    fs::write(&path, &picture.dot).map_err(|error| about(&path, &reason(&error)))?;
-    command.say(path.as_os_str().as_bytes());
-    render(command, picture, &path)
-}
-
 /// A number of a control state that the file has.
 fn within(control: &str, count: usize) -> Result<usize, Complaint> {
     let number = control.parse().ok().filter(|&number| number < count);
@@ -132,25 +110,6 @@ fn within(control: &str, count: usize) -> Result<usize, Complaint> {
 fn named(file: &OsStr, picture: &Picture) -> OsString {
     let stem = if file == "-" { OsStr::new("input") } else { Path::new(file).file_stem().unwrap_or_default() };
     let mut name = stem.to_os_string();
-    name.push(format!("-{}.dot", picture.name));
+    name.push(format!("-{}", picture.name));
     name
-}
-
-/// An SVG beside the DOT, where Graphviz is installed. A name that begins with a dash is no option of dot's, as it has a folder.
-fn render(command: &Command, picture: &Picture, dot: &Path) -> Result<(), Complaint> {
-    let svg: PathBuf = dot.with_extension("svg");
-    let none = |why: &str| {
-        command.complain_of(&[why.as_bytes(), b", so there is no ", svg.as_os_str().as_bytes()]);
-        Ok(())
-    };
-    if picture.arrows > ARROWS_MOST {
-        return none(&format!("{} arrows are too many for a picture", picture.arrows));
-    }
-    match process::Command::new("dot").arg("-Tsvg").arg("-o").arg(&svg).arg(dot).status() {
-        Ok(status) if status.success() => command.say(svg.as_os_str().as_bytes()),
-        Ok(status) => return Err(about(&svg, &format!("dot ended with {status}"))),
-        Err(error) if error.kind() == io::ErrorKind::NotFound => return none("dot (Graphviz) is not installed"),
-        Err(error) => return Err(about(&svg, &format!("dot: {}", reason(&error)))),
-    }
-    Ok(())
 }

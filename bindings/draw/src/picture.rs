@@ -9,7 +9,8 @@ use crate::tone::Tone;
 /// A picture and what it is called.
 #[derive(Clone, Debug, PartialEq, Eq)]
 pub struct Picture {
-    /// What it shows, as the end of a file name: `machines`, `control-3`, `leaves-1-16`, `bad-0`, `replay-machines`, `replay-3`.
+    /// What it shows, as the end of a file name: `machines`, `control-3`, `leaves-1-16`, `bad-0`, `replay-machines`, `replay-3`; or
+    /// as the whole of it: `expression`.
     pub name: String,
     /// The DOT.
     pub dot: String,
@@ -57,6 +58,14 @@ pub fn replay_pictures(
     pictures
 }
 
+/// The picture of an expression: its text, and below it the diagram that was drawn of it.
+pub fn expression_picture(text: &[u8], diagram: &swarmbanner::Diagram) -> Picture {
+    let mut dot = Dot::new(&text::expression(text));
+    let (pool, root) = (diagram.states(), Some(diagram.root()));
+    Diagram { pool, queues: &[], prefix: "a", title: "its words", root, way: None }.draw(&mut dot);
+    picture("expression".to_string(), dot.finish())
+}
+
 /// The transition that led outside, or that was not taken. A file has 128 of them at most, so each that is in a trace has one
 /// byte there.
 fn failing(replayed: &Replayed, trace: &[u8]) -> Option<usize> {
@@ -75,7 +84,8 @@ fn picture(name: String, (dot, arrows): (String, usize)) -> Picture {
 fn draw_control(session: &Session, control: usize) -> Picture {
     let mut dot = Dot::new(&text::control(session, control));
     let title = if session.root(control).is_some() { "its set" } else { "its set is empty" };
-    Diagram { session, prefix: "a", title, root: session.root(control), way: None }.draw(&mut dot);
+    let (pool, queues) = (session.pool(), session.queues());
+    Diagram { pool, queues, prefix: "a", title, root: session.root(control), way: None }.draw(&mut dot);
     picture(format!("control-{control}"), dot.finish())
 }
 
@@ -89,10 +99,11 @@ fn draw_failure(session: &Session, failure: &Failure) -> Picture {
 /// Up to two diagrams, the first above the second.
 fn draw_ways(session: &Session, title: &str, ways: &[(String, &Way)]) -> (String, usize) {
     let mut dot = Dot::new(title);
+    let (pool, queues) = (session.pool(), session.queues());
     // Clusters are laid out from below.
     for (prefix, (title, way)) in ["a", "b"].into_iter().zip(ways).rev() {
         let root = way.states.first().copied();
-        Diagram { session, prefix, title, root, way: Some(way) }.draw(&mut dot);
+        Diagram { pool, queues, prefix, title, root, way: Some(way) }.draw(&mut dot);
     }
     dot.finish()
 }

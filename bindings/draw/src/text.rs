@@ -8,6 +8,9 @@ const MESSAGES_SHOWN: usize = 16;
 /// More messages of a word than this stand on further lines beside an arrow.
 const MESSAGES_ON_A_LINE: usize = 8;
 
+/// More signs of an expression than this stand on further lines above its picture.
+const SIGNS_ON_A_LINE: usize = 100;
+
 /// More runs of numbers than this are not written out. A word of sixteen in turn from two arcs has eight on each.
 const RUNS_SHOWN: usize = 8;
 
@@ -59,6 +62,16 @@ pub fn control(session: &Session, control: usize) -> String {
     let states = session.machine_states(control).expect("the control state is one of the session");
     let states: Vec<String> = states.iter().map(usize::to_string).collect();
     format!("control state {control} = ({})", states.join(", "))
+}
+
+/// The text of an expression, which has digits, spaces and signs alone, in lines.
+pub fn expression(text: &[u8]) -> String {
+    let lines: Vec<_> = text.chunks(SIGNS_ON_A_LINE).map(String::from_utf8_lossy).collect();
+    if text.iter().all(|&byte| byte == b' ') {
+        "the empty word".to_string()
+    } else {
+        lines.join("\n")
+    }
 }
 
 /// Ascending numbers, with runs as `first-last`.

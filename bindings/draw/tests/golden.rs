@@ -1,7 +1,7 @@
 //! Pictures of small files and replays, held to the DOT kept in `tests/golden`.
 
-use swarmbanner::Replayer;
-use swarmbanner_draw::{pictures, replay_pictures, Picture};
+use swarmbanner::{expression, Replayer};
+use swarmbanner_draw::{expression_picture, pictures, replay_pictures, Picture};
 
 /// Case c of document 01: `leaves 0 0 1: 0`. One 0 may wait, so a second send is lost.
 const C: &str = "02 01 01 00 00 01 01 02 00 00 00 01 00 01 00 01 00 00 02 00 01 00 02 01 01 00 01 01 00 01 00";
@@ -130,4 +130,21 @@ fn a_replay_that_ends_at_something_bad() {
     assert_pictures(&drawn, &[("replay-machines", machines), ("replay-0", replay)]);
     let replay = replay.replace("refused 5 at 1 after 1", "end 1");
     assert_pictures(&replayed(E, &[0], "end 1"), &[("replay-machines", machines), ("replay-0", &replay)]);
+}
+
+/// Messages stand alone, as an expression has no queues.
+#[test]
+fn expressions() {
+    let picture = |text: &str| expression_picture(text.as_bytes(), &expression(text.as_bytes()).expect(text));
+    let golden = include_str!("golden/expression.dot");
+    assert_pictures(&[picture("(0|1)* 2")], &[("expression", golden)]);
+    let golden = include_str!("golden/expression-empty.dot");
+    assert_pictures(&[picture("")], &[("expression", golden)]);
+    assert!(picture(&" 0".repeat(32)).dot.contains("label=\" 0 0 0"), "a text of up to 100 bytes has one line");
+    let long = picture(&format!("{}0", " ".repeat(255)));
+    assert!(
+        long.dot.contains(&format!("label=\"{0}\\n{0}\\n{1}0\";", " ".repeat(100), " ".repeat(55))),
+        "{}",
+        long.dot
+    );
 }

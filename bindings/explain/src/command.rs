@@ -25,6 +25,9 @@ const BYTES_READ: u64 = 16_385;
 /// A text that is typed may have so many bytes: for a trace some sixty for each number, for a session many times the longest.
 const TEXT_MOST: u64 = 1_048_576;
 
+/// The text of an expression may have 256 bytes; one more shows that it is too long.
+const EXPRESSION_READ: usize = 257;
+
 /// The files among words: all that does not begin with a dash, `-` itself, and what follows `--`.
 pub fn files(words: impl Iterator<Item = OsString>) -> Vec<OsString> {
     let mut ended = false;
@@ -142,6 +145,20 @@ impl Command {
             self.untried(&[name.as_bytes(), format!(" has more than {TEXT_MOST} bytes of text").as_bytes()]);
             return None;
         }
+        Some(text)
+    }
+
+    /// The text of an expression: the word as it is, or standard input for `-`, without the newline at its end. None where that
+    /// could not be read, which is said.
+    pub fn expression(&mut self, word: &OsStr) -> Option<Vec<u8>> {
+        let mut text = match word == "-" {
+            true => self.bytes(word, EXPRESSION_READ as u64 + 1)?,
+            false => word.as_bytes().to_vec(),
+        };
+        if word == "-" && text.ends_with(b"\n") {
+            text.pop();
+        }
+        text.truncate(EXPRESSION_READ);
         Some(text)
     }
 

@@ -1,5 +1,5 @@
-//! What a session file has in it, what a verdict on it means and what a replay does: in words, by field, and as JSON. And a session as
-//! lines of text that can be edited, there and back.
+//! What a session file has in it, what a verdict on it means, what a replay does and what an expression gives: in words, by field, and
+//! as JSON. And a session as lines of text that can be edited, there and back.
 //!
 //! Replies and tables come from the proved library. The words are plain Rust, tested and not proved.
 
@@ -7,6 +7,7 @@
 #![forbid(unsafe_code)]
 
 pub mod command;
+mod expression;
 mod fields;
 mod json;
 mod lines;
@@ -19,6 +20,7 @@ mod trace;
 mod typed;
 mod words;
 
+pub use expression::{described, field_4, state_lines, undrawn};
 pub use fields::{Fields, Limit, Stop};
 pub use json::object;
 pub use lines::lines;

@@ -22,9 +22,9 @@ pub fn lines(session: &Session) -> Vec<String> {
 }
 
 /// An item and the comment behind it; without an item, a comment alone.
-type Line = (String, String);
+pub(crate) type Line = (String, String);
 
-fn in_columns(part: &[Line]) -> Vec<String> {
+pub(crate) fn in_columns(part: &[Line]) -> Vec<String> {
     let lengths = part.iter().map(|(item, _)| item.len());
     let column = lengths.filter(|&length| length <= COLUMN_MOST).max().unwrap_or(0);
     let line = |(item, comment): &Line| match item.is_empty() {
@@ -73,12 +73,13 @@ fn item_of(transition: &Transition) -> String {
 }
 
 fn pool(session: &Session) -> Vec<Line> {
-    let line = |(state, number): (&PoolState, usize)| (item_of_state(state), format!("state {number}"));
+    let line = |(state, number): (&PoolState, usize)| (item_of_state(state, 0), format!("state {number}"));
     session.pool().iter().zip(0..).map(line).collect()
 }
 
-fn item_of_state(state: &PoolState) -> String {
-    let arc = |arc: &Arc| format!("{}>{}", arc.message, arc.target.index());
+/// A diagram state behind so many others that its arcs do not count.
+pub(crate) fn item_of_state(state: &PoolState, before: usize) -> String {
+    let arc = |arc: &Arc| format!("{}>{}", arc.message, before + arc.target.index());
     let is_final = state.is_final.then(|| "final".to_string());
     let words = ["state".to_string()].into_iter().chain(is_final).chain(state.arcs.iter().map(arc));
     words.collect::<Vec<_>>().join(" ")

@@ -1,6 +1,6 @@
 //! What a session file has in it, field by field, with the byte that each part begins at.
 
-use swarmbanner::Session;
+use swarmbanner::{PoolState, Session};
 
 use crate::fields::Fields;
 use crate::lines::messages_of;
@@ -61,14 +61,15 @@ fn transitions(session: &Session, places: &Fields) -> Vec<String> {
 
 fn pool(session: &Session, places: &Fields) -> Vec<String> {
     let numbered = session.pool().iter().zip(&places.pool).zip(0..);
-    let line = |((state, place), number): ((&swarmbanner::PoolState, &usize), usize)| {
-        let kind = if state.is_final { "final" } else { "not final" };
-        let arcs: Vec<String> =
-            state.arcs.iter().map(|arc| format!("{} to {}", arc.message, arc.target.index())).collect();
-        let arcs = if arcs.is_empty() { "no arcs".to_string() } else { arcs.join(", ") };
-        format!("{number}, byte {place}: {kind}; {arcs}")
-    };
-    numbered.map(line).collect()
+    numbered.map(|((state, place), number)| format!("{number}, byte {place}: {}", marks_and_arcs(state))).collect()
+}
+
+/// Whether a diagram state is final, and where it leads.
+pub(crate) fn marks_and_arcs(state: &PoolState) -> String {
+    let kind = if state.is_final { "final" } else { "not final" };
+    let arcs: Vec<String> = state.arcs.iter().map(|arc| format!("{} to {}", arc.message, arc.target.index())).collect();
+    let arcs = if arcs.is_empty() { "no arcs".to_string() } else { arcs.join(", ") };
+    format!("{kind}; {arcs}")
 }
 
 /// A control state with the states of its machines.

@@ -66,16 +66,24 @@ impl Refusal {
         }
     }
 
-    /// The cause in words, and where, of a refusal that [`expression`](crate::expression) gave: 5 is one of the text then.
+    /// The cause in words, of a refusal that [`expression`](crate::expression) gave: 5 is about a number of the text then.
+    pub fn cause_in_text(&self) -> &'static str {
+        match self.number {
+            5 => "a number is 32 or more, so it is no message's",
+            _ => self.cause(),
+        }
+    }
+
+    /// The cause in words, and where, of a refusal that [`expression`](crate::expression) gave.
     ///
     /// ```
     /// let refusal = swarmbanner::expression(b"0 32").unwrap_err();
     /// assert_eq!(refusal.to_string(), "refused 5 at 2");
-    /// assert_eq!(refusal.explain_text(), "a number is no message's: they go from 0 to 31 (at byte 2 of the text)");
+    /// assert_eq!(refusal.explain_in_text(), "a number is 32 or more, so it is no message's (at byte 2 of the text)");
     /// ```
-    pub fn explain_text(&self) -> String {
+    pub fn explain_in_text(&self) -> String {
         match self.number {
-            5 => format!("a number is no message's: they go from 0 to 31 (at byte {} of the text)", self.place),
+            5 => format!("{} (at byte {} of the text)", self.cause_in_text(), self.place),
             _ => self.explain(),
         }
     }

@@ -138,8 +138,8 @@ fn as_many_states_as_there_can_be() {
 
 #[test]
 fn every_refusal_in_words() {
-    let explained = |text: &str| expression(text.as_bytes()).expect_err(text).explain_text();
-    assert_eq!(explained("32"), "a number is no message's: they go from 0 to 31 (at byte 0 of the text)");
+    let explained = |text: &str| expression(text.as_bytes()).expect_err(text).explain_in_text();
+    assert_eq!(explained("32"), "a number is 32 or more, so it is no message's (at byte 0 of the text)");
     assert_eq!(explained(&" ".repeat(257)), "the text has more than 256 bytes (at byte 256 of the text)");
     assert_eq!(explained("01"), "the text is no expression (at byte 1 of the text)");
     assert_eq!(explained(&nested(9)), "more than eight groups lie in one another (at byte 8 of the text)");

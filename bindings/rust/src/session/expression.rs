@@ -63,7 +63,7 @@ impl fmt::Display for Diagram {
 ///
 /// Fails by 18 where the text has more than 256 bytes, by 19 where it is no expression, then at the leftmost of them by 5 for a
 /// number of 32 or more, by 20 for a ninth group in one another and by 21 for a thirty-third number, and last by 22 where there
-/// are more than 127 states. [`Refusal::explain_text`] has the cause in words.
+/// are more than 127 states. [`Refusal::explain_in_text`] has the cause in words.
 ///
 /// # Panics
 ///
@@ -76,7 +76,7 @@ impl fmt::Display for Diagram {
 ///
 /// let refusal = swarmbanner::expression(b"(0|1)** 2").unwrap_err();
 /// assert_eq!(refusal.to_string(), "refused 19 at 6");
-/// assert_eq!(refusal.explain_text(), "the text is no expression (at byte 6 of the text)");
+/// assert_eq!(refusal.explain_in_text(), "the text is no expression (at byte 6 of the text)");
 /// # Ok::<(), swarmbanner::Refusal>(())
 /// ```
 pub fn expression(text: &[u8]) -> Result<Diagram, Refusal> {
