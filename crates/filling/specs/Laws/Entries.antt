@@ -3,7 +3,7 @@ use mathlib.Core.Path.{_≡_, refl, sym, ap, ap₂, subst, _∙_}
 use mathlib.Core.Bool.{Bool, true, false, cond, not}
 use mathlib.Core.List.{List, [], _∷_}
 use Prim.Native.Nat.{ℕ, zero, suc, _+_, _-_, _*_, _/_, _%_, _≤_, _<_}
-use borrow.Author.Tests.{eq-eqb, ne-eqb}
+use borrow.Author.Tests.{eq-eqb, ne-eqb, eqb-true, eqb-false}
 use native.Mathlib.Omega.{arith}
 use native.Mathlib.Nat.{add-zero, zero-add, add-sub-cancel-left, sub-zero}
 use lib.Dec.{eqb, ltb}
@@ -12,6 +12,7 @@ use lib.Seq.{getD-set-same, getD-set-other}
 use lib.Bits.{bitAnd}
 use Rattle.numbers.specs.Laws.Written.{at-or-other}
 use Rattle.tables.specs.Limits.{mostMessages, mostPool}
+use Rattle.model.specs.Laws.Basics.{byTest}
 use Rattle.occurrences.specs.Sets.{meet, marked}
 use Rattle.subsets.specs.States.{nextOf, placeFrom}
 use Rattle.filling.specs.Filled.{entriesFrom, arcTo, rowEntry, arcEntry, finalMark}
@@ -35,6 +36,34 @@ module _ (f : ℕ → ℕ) where
   unfolding entriesFrom
   entries-long zero i T = refl
   entries-long (suc left) i T = entries-long left (i + 1) (set T i (f i)) ∙ length-set T i (f i)
+
+  -- an entry before them, one of them, one behind them
+  pub entries-before : (left i k : ℕ) (T : List ℕ) → k < i → getD (entriesFrom f left i T) k 0 ≡ getD T k 0
+  unfolding entriesFrom
+  entries-before zero i k T h = refl
+  entries-before (suc left) i k T h =
+      entries-before left (i + 1) k (set T i (f i)) (omega arith) ∙ getD-set-other T i k (f i) 0 (λ e. omega arith)
+
+  pub entries-at : (left i k : ℕ) (T : List ℕ) → i ≤ k → k < i + left → k < length T → getD (entriesFrom f left i T) k 0 ≡ f k
+  unfolding entriesFrom
+  entries-at zero i k T a b h = absurd (omega arith)
+  entries-at (suc left) i k T a b h =
+      byTest (eqb k i)
+      (λ t.
+        let e : k ≡ i = eqb-true k i t in
+        ap (λ j. getD (entriesFrom f left (i + 1) (set T i (f i))) j 0) e
+        ∙ entries-before left (i + 1) i (set T i (f i)) (omega arith)
+        ∙ getD-set-same T i (f i) 0 (omega arith)
+        ∙ ap f (sym e))
+      (λ t.
+        let e : k ≡ i → ⊥ = eqb-false k i t in
+        entries-at left (i + 1) k (set T i (f i)) (omega (arith, e)) (omega arith) (omega (arith, length-set T i (f i))))
+
+  pub entries-beyond : (left i k : ℕ) (T : List ℕ) → i + left ≤ k → getD (entriesFrom f left i T) k 0 ≡ getD T k 0
+  unfolding entriesFrom
+  entries-beyond zero i k T h = refl
+  entries-beyond (suc left) i k T h =
+      entries-beyond left (i + 1) k (set T i (f i)) (omega arith) ∙ getD-set-other T i k (f i) 0 (λ e. omega arith)
 
 -- the same entries by another function
 pub entries-same : (f g : ℕ → ℕ) (left i : ℕ) (T : List ℕ) → ((k : ℕ) → i ≤ k → k < i + left → f k ≡ g k)
