@@ -1,3 +1,4 @@
 -- What follows from the definitions.
 pub mod Sets
 pub mod Tables
+pub mod Marked
