@@ -2,3 +2,4 @@
 pub mod Sets
 pub mod Tables
 pub mod Marked
+pub mod Rest
