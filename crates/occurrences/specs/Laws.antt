@@ -3,3 +3,4 @@ pub mod Sets
 pub mod Tables
 pub mod Marked
 pub mod Rest
+pub mod Follows
