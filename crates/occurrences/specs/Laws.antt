@@ -4,3 +4,4 @@ pub mod Tables
 pub mod Marked
 pub mod Rest
 pub mod Follows
+pub mod Places
