@@ -5,3 +5,4 @@ pub mod Marked
 pub mod Rest
 pub mod Follows
 pub mod Places
+pub mod Letters
