@@ -6,3 +6,4 @@ pub mod Rest
 pub mod Follows
 pub mod Places
 pub mod Letters
+pub mod Language
