@@ -7,3 +7,4 @@ pub mod Follows
 pub mod Places
 pub mod Letters
 pub mod Language
+pub mod EndsOn
