@@ -44,12 +44,12 @@ pub place-is : (N : List ℕ) (i y : ℕ) → Mem y N → Place N i y
 place-is (x ∷ N) i y m =
     byTest (eqb x y)
     (λ t.
-      record {
-        at = 0;
-        within = omega arith;
-        there-it-is = eqb-true x y t;
-        is = ap (λ b. cond b (i + 1) (placeFrom (i + 1) N y)) t ∙ (let e : i + 1 ≡ i + 0 + 1 = omega arith in e);
-      })
+    record {
+      at = 0;
+      within = omega arith;
+      there-it-is = eqb-true x y t;
+      is = ap (λ b. cond b (i + 1) (placeFrom (i + 1) N y)) t ∙ (let e : i + 1 ≡ i + 0 + 1 = omega arith in e);
+    })
     (λ t. later t (place-is N (i + 1) y (tail t m)))
   where
     tail : eqb x y ≡ false → Mem y (x ∷ N) → Mem y N
@@ -90,7 +90,7 @@ module _ (A : Automaton) (few : length (states A) ≤ mostPool) where
       let r : (i * mostMessages + m) % mostMessages ≡ m = omega arith in
       let e : getD (poolFor A N .arcs) (i * mostMessages + m) 0 ≡ arcEntry N (A .first) (A .follow) (A .label) (i * mostMessages + m) =
       entries-at (arcEntry N (A .first) (A .follow) (A .label)) (length N * mostMessages) 0 (i * mostMessages + m) (replicate poolArcs 0)
-        (omega arith) (omega arith) (omega (arith, length-replicate {A = ℕ} poolArcs 0)) in
+      (omega arith) (omega arith) (omega (arith, length-replicate {A = ℕ} poolArcs 0)) in
       ap (λ b. elim b [ true ↦ arcAt (poolFor A N .arcs) i m | false ↦ none ]) (lt-ltb m mostMessages l)
       ∙ ap target (e ∙ ap (λ k. arcTo N (after A (getD N k 0) ((i * mostMessages + m) % mostMessages))) q ∙ ap (λ k. arcTo N (after A (getD N i 0) k)) r)
 
@@ -98,7 +98,7 @@ module _ (A : Automaton) (few : length (states A) ≤ mostPool) where
   final-is i h =
       let e : getD (poolFor A N .finals) i 0 ≡ finalMark (A .skips) (A .last) (getD N i 0) =
       entries-at (λ k. finalMark (A .skips) (A .last) (getD N k 0)) (length N) 0 i (replicate mostPool 0) (omega arith) (omega arith)
-        (omega (arith, length-replicate {A = ℕ} mostPool 0)) in
+      (omega (arith, length-replicate {A = ℕ} mostPool 0)) in
       ap (λ k. eqb k 1) e ∙ by (ends A (getD N i 0))
     where
       by : (b : Bool) → eqb (cond b 1 0) 1 ≡ b
@@ -148,22 +148,22 @@ module _ (A : Automaton) (few : length (states A) ≤ mostPool) where
   step-stands v x i m e h g =
       byTest (ltb m mostMessages)
       (λ t.
-        let y : ℕ = after A x m in
-        let left : node (m ∷ v) ≡ move A x m =
-        ap (λ o. Explore.along mostMessages (move A) o m) e ∙ ap (λ b. elim b [ true ↦ move A x m | false ↦ none ]) t in
-        let right : Diagram.along P (some i) m ≡ target (arcTo N y) =
-        arc-is i m h (ltb-true m mostMessages t) ∙ ap (λ z. target (arcTo N (after A z m))) g in
-        byTest (eqb y 0)
-        (λ z.
-          also (left ∙ ap (λ b. cond b none (some y)) z) (right ∙ ap (λ b. target (cond b 0 (placeFrom 0 N y))) z) nowhere)
-        (λ z.
-          let to : node (m ∷ v) ≡ some y = left ∙ ap (λ b. cond b none (some y)) z in
-          also to right (set-target y (eqb-false y 0 z) (node-in (m ∷ v) y to))))
+      let y : ℕ = after A x m in
+      let left : node (m ∷ v) ≡ move A x m =
+      ap (λ o. Explore.along mostMessages (move A) o m) e ∙ ap (λ b. elim b [ true ↦ move A x m | false ↦ none ]) t in
+      let right : Diagram.along P (some i) m ≡ target (arcTo N y) =
+      arc-is i m h (ltb-true m mostMessages t) ∙ ap (λ z. target (arcTo N (after A z m))) g in
+      byTest (eqb y 0)
+      (λ z.
+      also (left ∙ ap (λ b. cond b none (some y)) z) (right ∙ ap (λ b. target (cond b 0 (placeFrom 0 N y))) z) nowhere)
+      (λ z.
+      let to : node (m ∷ v) ≡ some y = left ∙ ap (λ b. cond b none (some y)) z in
+      also to right (set-target y (eqb-false y 0 z) (node-in (m ∷ v) y to))))
       (λ t.
-        also
-        (ap (λ o. Explore.along mostMessages (move A) o m) e ∙ ap (λ b. elim b [ true ↦ move A x m | false ↦ none ]) t)
-        (ap (λ b. elim b [ true ↦ arcAt (poolFor A N .arcs) i m | false ↦ none ]) t)
-        nowhere)
+      also
+      (ap (λ o. Explore.along mostMessages (move A) o m) e ∙ ap (λ b. elim b [ true ↦ move A x m | false ↦ none ]) t)
+      (ap (λ b. elim b [ true ↦ arcAt (poolFor A N .arcs) i m | false ↦ none ]) t)
+      nowhere)
 
   stands-on : (v : List ℕ) (m : ℕ) (o r : Option ℕ) → node v ≡ o → Stands N o r → Stands N (node (m ∷ v)) (Diagram.along P r m)
   stands-on v m o r e nowhere = also (ap (λ z. Explore.along mostMessages (move A) z m) e) refl nowhere

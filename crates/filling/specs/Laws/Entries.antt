@@ -50,14 +50,14 @@ module _ (f : ℕ → ℕ) where
   entries-at (suc left) i k T a b h =
       byTest (eqb k i)
       (λ t.
-        let e : k ≡ i = eqb-true k i t in
-        ap (λ j. getD (entriesFrom f left (i + 1) (set T i (f i))) j 0) e
-        ∙ entries-before left (i + 1) i (set T i (f i)) (omega arith)
-        ∙ getD-set-same T i (f i) 0 (omega arith)
-        ∙ ap f (sym e))
+      let e : k ≡ i = eqb-true k i t in
+      ap (λ j. getD (entriesFrom f left (i + 1) (set T i (f i))) j 0) e
+      ∙ entries-before left (i + 1) i (set T i (f i)) (omega arith)
+      ∙ getD-set-same T i (f i) 0 (omega arith)
+      ∙ ap f (sym e))
       (λ t.
-        let e : k ≡ i → ⊥ = eqb-false k i t in
-        entries-at left (i + 1) k (set T i (f i)) (omega (arith, e)) (omega arith) (omega (arith, length-set T i (f i))))
+      let e : k ≡ i → ⊥ = eqb-false k i t in
+      entries-at left (i + 1) k (set T i (f i)) (omega (arith, e)) (omega arith) (omega (arith, length-set T i (f i))))
 
   pub entries-beyond : (left i k : ℕ) (T : List ℕ) → i + left ≤ k → getD (entriesFrom f left i T) k 0 ≡ getD T k 0
   unfolding entriesFrom

@@ -147,3 +147,12 @@ meet-low k x y l = lt-of-le-of-lt (and-le-r x y) l
 
 pub only-low : (k : ℕ) → only k < 2 ^ mostOccurrences
 only-low k = byTest (ltb k mostOccurrences) (λ e. rw e (pow-lt (ltb-true k mostOccurrences e))) (λ e. rw e (pow-pos mostOccurrences))
+
+-- the same set, by its members
+pub same-members : (x y : ℕ) → ((p : ℕ) → (has x p ≡ true) ↔ (has y p ≡ true)) → x ≡ y
+same-members x y same =
+    same-set x y
+    (λ p.
+    byTest (has x p)
+    (λ a. a ∙ sym (same p .0 a))
+    (λ a. byTest (has y p) (λ b. false-not-true a (same p .1 b)) (λ b. a ∙ sym b)))
