@@ -1,0 +1,3 @@
+-- What the proofs of scanning rest on.
+pub mod Runs
+pub mod Values

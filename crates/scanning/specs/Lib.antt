@@ -1,0 +1,3 @@
+-- What contracts of scanning say; laws stand under Laws.
+pub mod Runs
+pub mod Laws
