@@ -1,0 +1,3 @@
+-- What contracts of parsing say; laws stand under Laws.
+pub mod Steps
+pub mod Laws
