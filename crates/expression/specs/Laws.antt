@@ -5,3 +5,4 @@ pub mod Comes
 pub mod Refusals
 pub mod Language
 pub mod Numbering
+pub mod Count
