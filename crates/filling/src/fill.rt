@@ -1,7 +1,7 @@
 // The tables of a pool from the list of states: where each message leads from each, and which are final.
+use occurrence_sets::sets::OCCURRENCES;
+use occurrence_sets::sets::marked;
 use subsets::grow::place_of;
-use subsets::next::OCCURRENCES;
-use subsets::next::marked;
 use subsets::next::next;
 use tables::kinds::DiagramState;
 use tables::tables::ARCS;

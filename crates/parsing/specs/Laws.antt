@@ -1,6 +1,5 @@
 -- What the proofs of parsing rest on.
 pub mod Machine
-pub mod Sets
 pub mod Factors
 pub mod Cycle
 pub mod Groups

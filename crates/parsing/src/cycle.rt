@@ -8,7 +8,7 @@ use crate::parts::sequence;
 use crate::parts::skip;
 use crate::parts::stands;
 use crate::parts::starred;
-use crate::sets::OCCURRENCES;
+use occurrence_sets::sets::OCCURRENCES;
 use scanning::digits::is_digit;
 ghost use Rattle.parsing.specs.Steps.{Ready, ItemReady, Alternatives, Alternative, Item, Whole};
 

@@ -1,10 +1,10 @@
 // The parts of a text: what is known of a part that was read, how two make one, and the reading that does not go round in the grammar.
-use crate::sets::OCCURRENCES;
-use crate::sets::connect;
-use crate::sets::only;
-use crate::sets::put;
-use crate::sets::union;
-use crate::sets::when;
+use occurrence_sets::sets::OCCURRENCES;
+use occurrence_sets::sets::connect;
+use occurrence_sets::sets::only;
+use occurrence_sets::sets::put;
+use occurrence_sets::sets::union;
+use occurrence_sets::sets::when;
 use scanning::digits::run_at;
 ghost use mathlib.Core.Path.{_≡_};
 ghost use mathlib.Core.Bool.{_&&_};

@@ -1,4 +1,4 @@
 -- What follows from the definitions.
-pub mod Loops
+pub mod Places
 pub mod Numbering
 pub mod Growing

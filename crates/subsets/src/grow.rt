@@ -1,7 +1,7 @@
 // The states, found breadth first: each goes to the end of the list, unless it is there.
-use crate::next::OCCURRENCES;
-use crate::next::marked;
 use crate::next::next;
+use occurrence_sets::sets::OCCURRENCES;
+use occurrence_sets::sets::marked;
 use tables::kinds::DiagramState;
 use tables::kinds::Message;
 ghost use mathlib.Core.Path.{_≡_};

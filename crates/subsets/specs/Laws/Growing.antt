@@ -29,7 +29,7 @@ use Rattle.queue_order.specs.Laws.Testing.{expand-on}
 use Rattle.occurrences.specs.Sets.{meet, marked}
 use Rattle.subsets.specs.States.{nextOf, setFor, statesFrom, placeFrom}
 use Rattle.subsets.specs.Grows.{aState, Grows, FoundStates}
-use Rattle.subsets.specs.Laws.Loops.{place-mem}
+use Rattle.subsets.specs.Laws.Places.{place-mem}
 use Rattle.subsets.specs.Laws.Numbering.{nodes-are}
 
 -- ONE SET MORE

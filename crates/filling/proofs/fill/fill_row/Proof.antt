@@ -8,7 +8,7 @@ use Rattle.filling.proofs.fill.fill_row.Tie as tie
 use Rattle.filling.proofs.fill.fill_row.Reads as reads
 use Rattle.filling.proofs.fill.fill_row.Lts as lts
 use Rattle.filling.proofs.fill.arc_to.Reads as arc-to-reads
-use Rattle.subsets.proofs.next.marked.Reads as marked-reads
+use Rattle.occurrence_sets.proofs.sets.marked.Reads as marked-reads
 
 abbrev Inv-loop : tie.InvT-loop
 Inv-loop next label states row arcs₀ m₀ arcs m = RowFilled states next label row arcs₀ arcs m × (m ≤ mostMessages)

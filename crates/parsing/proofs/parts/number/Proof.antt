@@ -8,8 +8,8 @@ use Rattle.parsing.proofs.parts.number.Tie as tie
 use Rattle.parsing.proofs.parts.number.Reads as reads
 use Rattle.parsing.proofs.parts.number.Lts as lts
 use Rattle.parsing.proofs.parts.starred.Reads as starred-reads
-use Rattle.parsing.proofs.sets.only.Reads as only-reads
-use Rattle.parsing.proofs.sets.put.Reads as put-reads
+use Rattle.occurrence_sets.proofs.sets.only.Reads as only-reads
+use Rattle.occurrence_sets.proofs.sets.put.Reads as put-reads
 use Rattle.scanning.proofs.digits.run_at.Reads as run-at-reads
 
 -- src/parts.rt:119:9

@@ -5,9 +5,9 @@ use Rattle.parsing.proofs.parts.sequence.Tie as tie
 use Rattle.parsing.proofs.parts.sequence.Reads as reads
 use Rattle.parsing.proofs.parts.sequence.Lts as lts
 use Rattle.parsing.proofs.parts.both.Reads as both-reads
-use Rattle.parsing.proofs.sets.connect.Reads as connect-reads
-use Rattle.parsing.proofs.sets.union.Reads as union-reads
-use Rattle.parsing.proofs.sets.when.Reads as when-reads
+use Rattle.occurrence_sets.proofs.sets.connect.Reads as connect-reads
+use Rattle.occurrence_sets.proofs.sets.union.Reads as union-reads
+use Rattle.occurrence_sets.proofs.sets.when.Reads as when-reads
 
 -- src/parts.rt:72:5
 connect-requires : tie.Need-connect-requires

@@ -9,7 +9,7 @@ use Rattle.parsing.proofs.parts.starred.Reads as reads
 use Rattle.parsing.proofs.parts.starred.Lts as lts
 use Rattle.parsing.proofs.parts.skip.Reads as skip-reads
 use Rattle.parsing.proofs.parts.stands.Reads as stands-reads
-use Rattle.parsing.proofs.sets.connect.Reads as connect-reads
+use Rattle.occurrence_sets.proofs.sets.connect.Reads as connect-reads
 
 -- src/parts.rt:99:9
 skip-requires : tie.Need-skip-requires

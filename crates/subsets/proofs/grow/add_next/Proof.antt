@@ -8,7 +8,7 @@ use Rattle.subsets.proofs.grow.add_next.Tie as tie
 use Rattle.subsets.proofs.grow.add_next.Reads as reads
 use Rattle.subsets.proofs.grow.add_next.Lts as lts
 use Rattle.subsets.proofs.grow.add.Reads as add-reads
-use Rattle.subsets.proofs.next.marked.Reads as marked-reads
+use Rattle.occurrence_sets.proofs.sets.marked.Reads as marked-reads
 
 abbrev Inv-loop : tie.InvT-loop
 Inv-loop next label states₀ count found₀ m₀ states found m = Adding states₀ count next label states found m × (m ≤ mostMessages)

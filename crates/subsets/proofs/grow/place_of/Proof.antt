@@ -4,7 +4,7 @@ use Prim.Native.Nat.{_≤_, _-_}
 use mathlib.Core.Path.{_≡_, refl, sym, ap, _∙_}
 use lib.ListN.{length, drop}
 use Rattle.subsets.specs.States.{placeFrom}
-use Rattle.subsets.specs.Laws.Loops.{place-here, place-on, place-none}
+use Rattle.subsets.specs.Laws.Places.{place-here, place-on, place-none}
 use Rattle.subsets.proofs.grow.place_of.Statement.{statement}
 use Rattle.subsets.proofs.grow.place_of.Tie as tie
 use Rattle.subsets.proofs.grow.place_of.Reads as reads

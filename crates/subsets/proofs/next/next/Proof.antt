@@ -1,11 +1,11 @@
 use mathlib.Core.Path.{sym, _∙_}
-use Rattle.subsets.specs.Laws.Loops.{next-start, next-set}
+use Rattle.subsets.specs.Laws.Places.{next-start, next-set}
 use borrow.Author.Needs.{needs}
 use Rattle.subsets.proofs.next.next.Statement.{statement}
 use Rattle.subsets.proofs.next.next.Tie as tie
 use Rattle.subsets.proofs.next.next.Reads as reads
 use Rattle.subsets.proofs.next.next.Lts as lts
-use Rattle.subsets.proofs.next.gather.Reads as gather-reads
+use Rattle.occurrence_sets.proofs.sets.gather.Reads as gather-reads
 
 -- src/next.rt:57:9
 returns : tie.Need-returns

@@ -4,11 +4,11 @@ use Prim.Native.Nat.{_≤_, _-_}
 use mathlib.Core.Path.{_≡_, refl, sym, _∙_}
 use Rattle.grammar.specs.Offends.{mostOccurrences}
 use Rattle.occurrences.specs.Sets.{gather, gatherFrom}
-use Rattle.subsets.specs.Laws.Loops.{gather-skip, gather-on, gather-end}
-use Rattle.subsets.proofs.next.gather.Statement.{statement}
-use Rattle.subsets.proofs.next.gather.Tie as tie
-use Rattle.subsets.proofs.next.gather.Reads as reads
-use Rattle.subsets.proofs.next.gather.Lts as lts
+use Rattle.occurrence_sets.specs.Laws.Gathering.{gather-skip, gather-on, gather-end}
+use Rattle.occurrence_sets.proofs.sets.gather.Statement.{statement}
+use Rattle.occurrence_sets.proofs.sets.gather.Tie as tie
+use Rattle.occurrence_sets.proofs.sets.gather.Reads as reads
+use Rattle.occurrence_sets.proofs.sets.gather.Lts as lts
 
 abbrev Inv-loop : tie.InvT-loop
 Inv-loop set follow sum₀ rest₀ i₀ sum rest i = (gatherFrom (mostOccurrences - i) i rest follow sum ≡ gather set follow) × (i ≤ mostOccurrences)

@@ -1,9 +1,9 @@
 use borrow.Author.Needs.{needs}
 use borrow.Author.Tests.{lt-ltb, le-ltb}
-use Rattle.parsing.proofs.sets.put.Statement.{statement}
-use Rattle.parsing.proofs.sets.put.Tie as tie
-use Rattle.parsing.proofs.sets.put.Reads as reads
-use Rattle.parsing.proofs.sets.put.Lts as lts
+use Rattle.occurrence_sets.proofs.sets.put.Statement.{statement}
+use Rattle.occurrence_sets.proofs.sets.put.Tie as tie
+use Rattle.occurrence_sets.proofs.sets.put.Reads as reads
+use Rattle.occurrence_sets.proofs.sets.put.Lts as lts
 
 -- src/sets.rt:32:9
 element-write-label : tie.Need-element-write-label

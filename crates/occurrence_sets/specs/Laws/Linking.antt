@@ -8,6 +8,7 @@ use lib.ListN.{getD, set}
 use borrow.Author.Tests.{lt-ltb, le-ltb, eq-eqb, ne-eqb}
 use native.Mathlib.Omega.{arith}
 use native.Mathlib.Nat.{one-mul, mod-eq-of-lt, pow-suc, one-le-pow, pow-le-pow-right, sub-eq-zero-of-le}
+use Rattle.numbers.specs.Laws.Parts.{one-more}
 use Rattle.grammar.specs.Offends.{mostOccurrences}
 use Rattle.occurrences.specs.Sets.{union, only, linkFrom, link}
 
@@ -19,9 +20,6 @@ only-shift k h =
 
 pub only-none : (k : ℕ) → mostOccurrences ≤ k → only k ≡ 0
 only-none k h = ap (λ t. cond t (2 ^ k) 0) (le-ltb k mostOccurrences h)
-
-one-more : {i n : ℕ} → i < n → n - i ≡ suc (n - (i + 1))
-one-more h = omega arith
 
 -- A LOOP that adds to what may follow: what is left of the set, from the occurrence i on, goes into this table
 pub record Linking (from to : ℕ) (F₀ : List ℕ) (rest i : ℕ) (F : List ℕ) : Type 0 where

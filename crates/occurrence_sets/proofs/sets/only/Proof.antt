@@ -1,10 +1,10 @@
 use borrow.Author.Needs.{needs}
 use mathlib.Core.Path.{sym}
-use Rattle.parsing.specs.Laws.Sets.{only-shift, only-none}
-use Rattle.parsing.proofs.sets.only.Statement.{statement}
-use Rattle.parsing.proofs.sets.only.Tie as tie
-use Rattle.parsing.proofs.sets.only.Reads as reads
-use Rattle.parsing.proofs.sets.only.Lts as lts
+use Rattle.occurrence_sets.specs.Laws.Linking.{only-shift, only-none}
+use Rattle.occurrence_sets.proofs.sets.only.Statement.{statement}
+use Rattle.occurrence_sets.proofs.sets.only.Tie as tie
+use Rattle.occurrence_sets.proofs.sets.only.Reads as reads
+use Rattle.occurrence_sets.proofs.sets.only.Lts as lts
 
 -- src/sets.rt:12:34
 cast-result : tie.Need-cast-result

@@ -4,12 +4,12 @@ use Prim.Native.Nat.{_≤_, _-_}
 use mathlib.Core.Path.{_≡_, refl, sym, ap, _∙_}
 use Rattle.grammar.specs.Offends.{mostOccurrences}
 use Rattle.occurrences.specs.Sets.{marked, markedFrom}
-use Rattle.subsets.specs.Laws.Loops.{marked-skip, marked-on, marked-end}
-use Rattle.subsets.proofs.next.marked.Statement.{statement}
-use Rattle.subsets.proofs.next.marked.Tie as tie
-use Rattle.subsets.proofs.next.marked.Reads as reads
-use Rattle.subsets.proofs.next.marked.Lts as lts
-use Rattle.subsets.proofs.next.only.Reads as only-reads
+use Rattle.occurrence_sets.specs.Laws.Gathering.{marked-skip, marked-on, marked-end}
+use Rattle.occurrence_sets.proofs.sets.marked.Statement.{statement}
+use Rattle.occurrence_sets.proofs.sets.marked.Tie as tie
+use Rattle.occurrence_sets.proofs.sets.marked.Reads as reads
+use Rattle.occurrence_sets.proofs.sets.marked.Lts as lts
+use Rattle.occurrence_sets.proofs.sets.only.Reads as only-reads
 
 abbrev Inv-loop : tie.InvT-loop
 Inv-loop label m sum₀ i₀ sum i = (markedFrom (mostOccurrences - i) i m label sum ≡ marked m label) × (i ≤ mostOccurrences)

@@ -2,12 +2,12 @@ use borrow.Author.Needs.{needs}
 use mathlib.Core.Logic.{⊎-elim}
 use Prim.Native.Nat.{_-_}
 use Rattle.grammar.specs.Offends.{mostOccurrences}
-use Rattle.parsing.specs.Laws.Sets.{Linking, linking-begins, linking-with, linking-without, linking-ends}
-use Rattle.parsing.proofs.sets.connect.Statement.{statement}
-use Rattle.parsing.proofs.sets.connect.Tie as tie
-use Rattle.parsing.proofs.sets.connect.Reads as reads
-use Rattle.parsing.proofs.sets.connect.Lts as lts
-use Rattle.parsing.proofs.sets.union.Reads as union-reads
+use Rattle.occurrence_sets.specs.Laws.Linking.{Linking, linking-begins, linking-with, linking-without, linking-ends}
+use Rattle.occurrence_sets.proofs.sets.connect.Statement.{statement}
+use Rattle.occurrence_sets.proofs.sets.connect.Tie as tie
+use Rattle.occurrence_sets.proofs.sets.connect.Reads as reads
+use Rattle.occurrence_sets.proofs.sets.connect.Lts as lts
+use Rattle.occurrence_sets.proofs.sets.union.Reads as union-reads
 
 abbrev Inv-loop : tie.InvT-loop
 Inv-loop from to follow₀ rest₀ i₀ follow rest i = Linking from to follow₀ rest i follow

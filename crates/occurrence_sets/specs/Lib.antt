@@ -1,0 +1,2 @@
+-- What the loops over sets of occurrences do.
+pub mod Laws

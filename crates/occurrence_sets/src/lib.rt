@@ -1,0 +1,2 @@
+// Sets of occurrences, and tables with an entry for each occurrence.
+pub mod sets;
