@@ -1,3 +1,4 @@
 -- What the proofs of scanning rest on.
 pub mod Runs
 pub mod Values
+pub mod Limits

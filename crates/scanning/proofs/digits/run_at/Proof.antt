@@ -18,43 +18,43 @@ Inv-loop s at value₀ next₀ value next = Running s at value next
 abbrev μ-loop : tie.MeasureT-loop
 μ-loop s at value₀ next₀ value next = length s - next
 
--- src/digits.rt:35:5
+-- src/digits.rt:39:5
 loop-holds : tie.Need-loop-holds Inv-loop μ-loop
 loop-holds c = running-begins _ _
 
--- src/digits.rt:36:17
+-- src/digits.rt:40:17
 shared-slice-read-b : tie.Need-shared-slice-read-b Inv-loop μ-loop
 shared-slice-read-b c = search needs
 
--- src/digits.rt:37:13
+-- src/digits.rt:41:13
 is-digit-requires : tie.Need-is-digit-requires Inv-loop μ-loop
 is-digit-requires c κs = search needs
 
--- src/digits.rt:38:13
+-- src/digits.rt:42:13
 returns : tie.Need-returns Inv-loop μ-loop
 returns c = running-ends (c .before .before .before .before .loop .inv) (λ h. sym (c .before .is-digit .ensures) ∙ not-true _ (c .if1 .taken))
 
--- src/digits.rt:40:35
+-- src/digits.rt:44:35
 sub-with-digit : tie.Need-sub-with-digit Inv-loop μ-loop
 sub-with-digit c = digit-range _ (sym (c .before .is-digit .ensures) ∙ not-false _ (c .if1 .left)) .0
 
--- src/digits.rt:40:9
+-- src/digits.rt:44:9
 with-digit-requires : tie.Need-with-digit-requires Inv-loop μ-loop
 with-digit-requires c κs = search needs
 
--- src/digits.rt:41:9
+-- src/digits.rt:45:9
 add-next : tie.Need-add-next Inv-loop μ-loop
 add-next c = search needs
 
--- src/digits.rt:35:5
+-- src/digits.rt:39:5
 loop-less : tie.Need-loop-less Inv-loop μ-loop
 loop-less c = search needs
 
--- src/digits.rt:35:5
+-- src/digits.rt:39:5
 loop-again : tie.Need-loop-again Inv-loop μ-loop
 loop-again c = running-on (c .before .before .before .before .before .loop .inv) (c .before .before .before .before .loop-test .taken) (sym (c .before .before .is-digit .ensures) ∙ not-false _ (c .before .if1 .left)) (c .with-digit .ensures)
 
--- src/digits.rt:30:1
+-- src/digits.rt:34:1
 returns-2 : tie.Need-returns-2 Inv-loop μ-loop
 returns-2 c = running-ends (c .before .loop .inv) (λ h. absurd (omega (arith, c .loop-test .left)))
 

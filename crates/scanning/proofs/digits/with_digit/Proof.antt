@@ -18,7 +18,7 @@ add-n c = search needs
 cast-if1 : tie.Need-cast-if1
 cast-if1 c = search needs
 
--- src/digits.rt:27:35
+-- src/digits.rt:28:9
 cast-result : tie.Need-cast-result
 cast-result c = search needs
 
