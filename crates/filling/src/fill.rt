@@ -1,5 +1,5 @@
 // The tables of a pool from the list of states: where each message leads from each, and which are final.
-use occurrence_sets::sets::OCCURRENCES;
+use occurrence_sets::sets::MOST_OCCURRENCES;
 use occurrence_sets::sets::marked;
 use subsets::grow::place_of;
 use subsets::next::next;
@@ -28,7 +28,7 @@ fn arc_to(states: &[u32], set: u32) -> u8
 // The arcs of one state, its row of the table, out of what may come next.
 fn fill_row(
     next: u32,
-    label: &[u8; OCCURRENCES],
+    label: &[u8; MOST_OCCURRENCES],
     states: &[u32],
     row: usize,
     arcs: &mut [u8; POOL_ARCS],
@@ -48,8 +48,8 @@ fn fill_row(
 // The arcs of all states.
 pub fn fill_arcs(
     first: u32,
-    follow: &[u32; OCCURRENCES],
-    label: &[u8; OCCURRENCES],
+    follow: &[u32; MOST_OCCURRENCES],
+    label: &[u8; MOST_OCCURRENCES],
     states: &[u32],
     arcs: &mut [u8; POOL_ARCS],
 )

@@ -4,12 +4,12 @@ ghost use mathlib.Core.Path.{_≡_};
 ghost use mathlib.Core.Bool.{cond};
 ghost use Rattle.occurrences.specs.Sets.{union, only, put, link, gather, marked};
 
-pub const OCCURRENCES: usize = 32;
+pub const MOST_OCCURRENCES: usize = 32;
 
 pub fn only(k: usize) -> u32
     ensures { λ r. ⌜ r ≡ only k ⌝ }
 {
-    if k < OCCURRENCES { 1u32 << k } else { 0 }
+    if k < MOST_OCCURRENCES { 1u32 << k } else { 0 }
 }
 
 pub fn union(x: u32, y: u32) -> u32
@@ -25,21 +25,21 @@ pub fn when(test: bool, set: u32) -> u32
     if test { set } else { 0 }
 }
 
-pub fn put(k: usize, v: u8, label: &mut [u8; OCCURRENCES])
+pub fn put(k: usize, v: u8, label: &mut [u8; MOST_OCCURRENCES])
     ensures { λ _. ⌜ now (label .exit) ≡ put k v (now (label .entry)) ⌝ }
 {
-    if k < OCCURRENCES {
+    if k < MOST_OCCURRENCES {
         label[k] = v;
     }
 }
 
 // What may follow the occurrences of a set is more by another set.
-pub fn connect(from: u32, to: u32, follow: &mut [u32; OCCURRENCES])
+pub fn connect(from: u32, to: u32, follow: &mut [u32; MOST_OCCURRENCES])
     ensures { λ _. ⌜ now (follow .exit) ≡ link from to (now (follow .entry)) ⌝ }
 {
     let mut rest = from;
     let mut i: usize = 0;
-    while i < OCCURRENCES {
+    while i < MOST_OCCURRENCES {
         let sum = union(follow[i], to);
         if rest % 2 == 1 {
             follow[i] = sum;
@@ -50,12 +50,12 @@ pub fn connect(from: u32, to: u32, follow: &mut [u32; OCCURRENCES])
 }
 
 // The occurrences of a message.
-pub fn marked(label: &[u8; OCCURRENCES], m: u8) -> u32
+pub fn marked(label: &[u8; MOST_OCCURRENCES], m: u8) -> u32
     ensures { λ r. ⌜ r ≡ marked m (now (label .entry)) ⌝ }
 {
     let mut sum: u32 = 0;
     let mut i: usize = 0;
-    while i < OCCURRENCES {
+    while i < MOST_OCCURRENCES {
         if label[i] != m {
             i += 1;
             continue;
@@ -67,13 +67,13 @@ pub fn marked(label: &[u8; OCCURRENCES], m: u8) -> u32
 }
 
 // What may follow the occurrences of a set.
-pub fn gather(set: u32, follow: &[u32; OCCURRENCES]) -> u32
+pub fn gather(set: u32, follow: &[u32; MOST_OCCURRENCES]) -> u32
     ensures { λ r. ⌜ r ≡ gather set (now (follow .entry)) ⌝ }
 {
     let mut sum: u32 = 0;
     let mut rest = set;
     let mut i: usize = 0;
-    while i < OCCURRENCES {
+    while i < MOST_OCCURRENCES {
         let here = rest % 2;
         rest = rest / 2;
         if here != 1 {

@@ -8,7 +8,7 @@ use crate::parts::sequence;
 use crate::parts::skip;
 use crate::parts::stands;
 use crate::parts::starred;
-use occurrence_sets::sets::OCCURRENCES;
+use occurrence_sets::sets::MOST_OCCURRENCES;
 use scanning::digits::is_digit;
 ghost use Rattle.parsing.specs.Steps.{Ready, ItemReady, Alternatives, Alternative, Item, Whole};
 
@@ -17,8 +17,8 @@ fn alternatives(
     s: &[u8],
     at: usize,
     k: usize,
-    label: &mut [u8; OCCURRENCES],
-    follow: &mut [u32; OCCURRENCES],
+    label: &mut [u8; MOST_OCCURRENCES],
+    follow: &mut [u32; MOST_OCCURRENCES],
 ) -> Step
     requires { ⌜ Ready (now s) at k ⌝ }
     ensures { λ r. ⌜ Alternatives (now (s .entry)) at k (now (label .entry)) (now (follow .entry)) (now (label .exit)) (now (follow .exit)) r ⌝ }
@@ -44,20 +44,21 @@ fn alternative(
     s: &[u8],
     at: usize,
     k: usize,
-    label: &mut [u8; OCCURRENCES],
-    follow: &mut [u32; OCCURRENCES],
+    label: &mut [u8; MOST_OCCURRENCES],
+    follow: &mut [u32; MOST_OCCURRENCES],
 ) -> Step
     requires { ⌜ Ready (now s) at k ⌝ }
     ensures { λ r. ⌜ Alternative (now (s .entry)) at k (now (label .entry)) (now (follow .entry)) (now (label .exit)) (now (follow .exit)) r ⌝ }
 {
     if ends(s, at) {
-        return Step::Read(Part {
+        let empty = Part {
             next: at,
             count: k,
             first: 0,
             last: 0,
             skips: true,
-        });
+        };
+        return Step::Read(empty);
     }
     match item(s, at, k, label, follow) {
         Step::Read(head) => match alternative(s, head.next, head.count, label, follow) {
@@ -73,8 +74,8 @@ fn item(
     s: &[u8],
     at: usize,
     k: usize,
-    label: &mut [u8; OCCURRENCES],
-    follow: &mut [u32; OCCURRENCES],
+    label: &mut [u8; MOST_OCCURRENCES],
+    follow: &mut [u32; MOST_OCCURRENCES],
 ) -> Step
     requires { ⌜ ItemReady (now s) at k ⌝ }
     ensures { λ r. ⌜ Item (now (s .entry)) at k (now (label .entry)) (now (follow .entry)) (now (label .exit)) (now (follow .exit)) r ⌝ }
@@ -100,7 +101,11 @@ fn item(
 }
 
 // The whole text: the part that it is, or the place where it leaves the grammar. A bracket may close nothing.
-pub fn parse(s: &[u8], label: &mut [u8; OCCURRENCES], follow: &mut [u32; OCCURRENCES]) -> Step
+pub fn parse(
+    s: &[u8],
+    label: &mut [u8; MOST_OCCURRENCES],
+    follow: &mut [u32; MOST_OCCURRENCES],
+) -> Step
     ensures { λ r. ⌜ Whole (now (s .entry)) (now (label .entry)) (now (follow .entry)) (now (label .exit)) (now (follow .exit)) r ⌝ }
 {
     let from = skip(s, 0);

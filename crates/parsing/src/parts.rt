@@ -1,5 +1,5 @@
 // The parts of a text: what is known of a part that was read, how two make one, and the reading that does not go round in the grammar.
-use occurrence_sets::sets::OCCURRENCES;
+use occurrence_sets::sets::MOST_OCCURRENCES;
 use occurrence_sets::sets::connect;
 use occurrence_sets::sets::only;
 use occurrence_sets::sets::put;
@@ -29,6 +29,7 @@ pub enum Step {
     Stuck(usize),
 }
 
+// Does this byte stand there?
 pub(crate) fn stands(s: &[u8], at: usize, b: u8) -> bool
     ensures { λ r. ⌜ r ≡ standsAt (now (s .entry)) at b ⌝ }
 {
@@ -60,13 +61,15 @@ pub(crate) fn skip(s: &[u8], at: usize) -> usize
     next
 }
 
+// A function, so that a part is made in one way.
 fn both(a: bool, b: bool) -> bool
     ensures { λ r. ⌜ r ≡ (a && b) ⌝ }
 {
     a && b
 }
 
-pub(crate) fn sequence(head: Part, rest: Part, follow: &mut [u32; OCCURRENCES]) -> Part
+// Two parts side by side.
+pub(crate) fn sequence(head: Part, rest: Part, follow: &mut [u32; MOST_OCCURRENCES]) -> Part
     ensures { λ r. ⌜ Sequenced head rest (now (follow .entry)) (now (follow .exit)) r ⌝ }
 {
     connect(head.last, rest.first, follow);
@@ -79,6 +82,7 @@ pub(crate) fn sequence(head: Part, rest: Part, follow: &mut [u32; OCCURRENCES]) 
     }
 }
 
+// One part or the other.
 pub(crate) fn either(head: Part, rest: Part) -> Part
     ensures { λ r. ⌜ Eithered head rest r ⌝ }
 {
@@ -92,7 +96,12 @@ pub(crate) fn either(head: Part, rest: Part) -> Part
 }
 
 // A number or a group that ends at this place, with the star that may stand behind it.
-pub(crate) fn starred(s: &[u8], part: Part, end: usize, follow: &mut [u32; OCCURRENCES]) -> Part
+pub(crate) fn starred(
+    s: &[u8],
+    part: Part,
+    end: usize,
+    follow: &mut [u32; MOST_OCCURRENCES],
+) -> Part
     ensures { λ r. ⌜ Starred (now (s .entry)) part end (now (follow .entry)) (now (follow .exit)) r ⌝ }
 {
     let next = skip(s, end);
@@ -121,8 +130,8 @@ pub(crate) fn number(
     s: &[u8],
     at: usize,
     k: usize,
-    label: &mut [u8; OCCURRENCES],
-    follow: &mut [u32; OCCURRENCES],
+    label: &mut [u8; MOST_OCCURRENCES],
+    follow: &mut [u32; MOST_OCCURRENCES],
 ) -> Step
     requires { ⌜ NumberReady (now s) at k ⌝ }
     ensures { λ r. ⌜ Item (now (s .entry)) at k (now (label .entry)) (now (follow .entry)) (now (label .exit)) (now (follow .exit)) r ⌝ }

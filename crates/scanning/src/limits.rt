@@ -2,6 +2,7 @@
 use crate::digits::MESSAGE_LIMIT;
 use crate::digits::is_digit;
 use crate::digits::run_at;
+use occurrence_sets::sets::MOST_OCCURRENCES;
 ghost use mathlib.Core.Path.{_≡_};
 ghost use mathlib.Core.Bool.{cond, not, _&&_};
 ghost use Prim.Native.Nat.{_+_, _≤_, _<_};
@@ -11,8 +12,6 @@ ghost use Rattle.grammar.specs.Offends.{offence, limits};
 ghost use Rattle.scanning.specs.Said.{saidLimit, When};
 
 const MOST_DEPTH: usize = 8;
-
-pub const MOST_OCCURRENCES: usize = 32;
 
 // The refusals' numbers, and 0 where there is none.
 const KEPT: usize = 0;

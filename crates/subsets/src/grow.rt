@@ -1,6 +1,6 @@
 // The states, found breadth first: each goes to the end of the list, unless it is there.
 use crate::next::next;
-use occurrence_sets::sets::OCCURRENCES;
+use occurrence_sets::sets::MOST_OCCURRENCES;
 use occurrence_sets::sets::marked;
 use tables::kinds::DiagramState;
 use tables::kinds::Message;
@@ -45,7 +45,7 @@ fn add(set: u32, states: &mut [u32], count: usize) -> usize
 }
 
 // The sets that the messages lead to, out of those that may come next.
-fn add_next(next: u32, label: &[u8; OCCURRENCES], states: &mut [u32], count: usize) -> usize
+fn add_next(next: u32, label: &[u8; MOST_OCCURRENCES], states: &mut [u32], count: usize) -> usize
     requires { ⌜ count + mostMessages ≤ length (now states) ⌝ }
     ensures { λ r. ⌜ Grows (now (states .entry)) count mostMessages (gather (setFor next (now (label .entry))) mostMessages 0) (now (states .exit)) r ⌝ }
 {
@@ -62,8 +62,8 @@ fn add_next(next: u32, label: &[u8; OCCURRENCES], states: &mut [u32], count: usi
 // All states, or more than a diagram may have. Returns how many were found.
 pub fn grow(
     first: u32,
-    follow: &[u32; OCCURRENCES],
-    label: &[u8; OCCURRENCES],
+    follow: &[u32; MOST_OCCURRENCES],
+    label: &[u8; MOST_OCCURRENCES],
     states: &mut [u32],
 ) -> usize
     requires { ⌜ length (now states) ≡ mostPool + mostMessages ⌝ }

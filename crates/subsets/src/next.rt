@@ -1,11 +1,11 @@
 // What may come next after the start or a set of occurrences.
-use occurrence_sets::sets::OCCURRENCES;
+use occurrence_sets::sets::MOST_OCCURRENCES;
 use occurrence_sets::sets::gather;
 ghost use mathlib.Core.Path.{_≡_};
 ghost use Rattle.subsets.specs.States.{nextOf};
 
 // What may come next: at the start, which is 0, what may begin a word.
-pub fn next(first: u32, follow: &[u32; OCCURRENCES], state: u32) -> u32
+pub fn next(first: u32, follow: &[u32; MOST_OCCURRENCES], state: u32) -> u32
     ensures { λ r. ⌜ r ≡ nextOf first (now (follow .entry)) state ⌝ }
 {
     if state == 0 {

@@ -15,43 +15,43 @@ Inv-loop from to follow₀ rest₀ i₀ follow rest i = Linking from to follow�
 abbrev μ-loop : tie.MeasureT-loop
 μ-loop from to follow₀ rest₀ i₀ follow rest i = mostOccurrences - i
 
--- src/sets.rt:42:5
+-- src/sets.rt:41:5
 loop-holds : tie.Need-loop-holds Inv-loop μ-loop
 loop-holds c = linking-begins _ _ _
 
--- src/sets.rt:43:25
+-- src/sets.rt:42:25
 mul-union : tie.Need-mul-union Inv-loop μ-loop
 mul-union c = search needs
 
--- src/sets.rt:43:25
+-- src/sets.rt:42:25
 element-copy-out-union : tie.Need-element-copy-out-union Inv-loop μ-loop
 element-copy-out-union c = search needs
 
--- src/sets.rt:43:13
+-- src/sets.rt:42:13
 union-requires : tie.Need-union-requires Inv-loop μ-loop
 union-requires c κs = search needs
 
--- src/sets.rt:45:13
+-- src/sets.rt:44:13
 mul-follow : tie.Need-mul-follow Inv-loop μ-loop
 mul-follow c = search needs
 
--- src/sets.rt:45:13
+-- src/sets.rt:44:13
 element-write-follow : tie.Need-element-write-follow Inv-loop μ-loop
 element-write-follow c = search needs
 
--- src/sets.rt:48:9
+-- src/sets.rt:47:9
 add-i : tie.Need-add-i Inv-loop μ-loop
 add-i c = search needs
 
--- src/sets.rt:42:5
+-- src/sets.rt:41:5
 loop-less : tie.Need-loop-less Inv-loop μ-loop
 loop-less c = search needs
 
--- src/sets.rt:42:5
+-- src/sets.rt:41:5
 loop-again : tie.Need-loop-again Inv-loop μ-loop
 loop-again c = ⊎-elim (λ w. linking-with (c .before .before .before .before .loop .inv) (c .before .before .before .loop-test .taken) (w .0 .taken) (c .before .union .ensures) (w .1)) (λ w. linking-without (c .before .before .before .before .loop .inv) (c .before .before .before .loop-test .taken) (w .0 .left) (w .1)) (c .if1 .came)
 
--- src/sets.rt:37:1
+-- src/sets.rt:36:1
 returns : tie.Need-returns Inv-loop μ-loop
 returns c = linking-ends (c .before .loop .inv) (c .loop-test .left)
 

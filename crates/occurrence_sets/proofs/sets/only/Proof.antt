@@ -6,19 +6,19 @@ use Rattle.occurrence_sets.proofs.sets.only.Tie as tie
 use Rattle.occurrence_sets.proofs.sets.only.Reads as reads
 use Rattle.occurrence_sets.proofs.sets.only.Lts as lts
 
--- src/sets.rt:12:34
+-- src/sets.rt:11:39
 cast-result : tie.Need-cast-result
 cast-result c = search needs
 
--- src/sets.rt:12:26
+-- src/sets.rt:11:31
 shl-result : tie.Need-shl-result
 shl-result c = search needs
 
--- src/sets.rt:9:1
+-- src/sets.rt:8:1
 returns : tie.Need-returns
 returns c = only-shift _ (c .if1 .taken)
 
--- src/sets.rt:9:1
+-- src/sets.rt:8:1
 returns-2 : tie.Need-returns-2
 returns-2 c = sym (only-none _ (c .if1 .left))
 

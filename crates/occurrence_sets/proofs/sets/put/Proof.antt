@@ -5,15 +5,15 @@ use Rattle.occurrence_sets.proofs.sets.put.Tie as tie
 use Rattle.occurrence_sets.proofs.sets.put.Reads as reads
 use Rattle.occurrence_sets.proofs.sets.put.Lts as lts
 
--- src/sets.rt:32:9
+-- src/sets.rt:31:9
 element-write-label : tie.Need-element-write-label
 element-write-label c = search needs
 
--- src/sets.rt:28:1
+-- src/sets.rt:27:1
 returns : tie.Need-returns
 returns c = rw (lt-ltb _ _ (c .if1 .taken))
 
--- src/sets.rt:28:1
+-- src/sets.rt:27:1
 returns-2 : tie.Need-returns-2
 returns-2 c = rw (le-ltb _ _ (c .if1 .left))
 

@@ -78,7 +78,7 @@ alternative-ends-requires : (t : ℕ) → alternative-lts.Need-ends-requires (
 ) (alternative-at t) alternative.Post
 alternative-ends-requires t c κs = search needs
 
--- src/cycle.rt:54:9
+-- src/cycle.rt:61:9
 alternative-returns : (t : ℕ) → alternative-lts.Need-returns (
   ends-reads.Asked,
   ends-reads.Learnt,
@@ -91,7 +91,7 @@ alternative-returns : (t : ℕ) → alternative-lts.Need-returns (
 ) (alternative-at t) alternative.Post
 alternative-returns t c = went (alternative-none (c .before .before .before .pre .1) (sym (c .before .ends .ensures) ∙ c .if1 .taken))
 
--- src/cycle.rt:56:11
+-- src/cycle.rt:63:11
 alternative-item-requires : (t : ℕ) → alternative-lts.Need-item-requires (
   ends-reads.Asked,
   ends-reads.Learnt,
@@ -104,7 +104,7 @@ alternative-item-requires : (t : ℕ) → alternative-lts.Need-item-requires (
 ) (alternative-at t) alternative.Post
 alternative-item-requires t c κs = (omega (arith, c .before .before .before .before .before .pre .0), item-ready (c .before .before .before .before .before .pre .1) (sym (c .before .before .before .ends .ensures) ∙ c .before .before .if1 .left))
 
--- src/cycle.rt:57:20
+-- src/cycle.rt:64:20
 alternative-enum-known-head : (t : ℕ) → alternative-lts.Need-enum-known-head (
   ends-reads.Asked,
   ends-reads.Learnt,
@@ -117,7 +117,7 @@ alternative-enum-known-head : (t : ℕ) → alternative-lts.Need-enum-known-head
 ) (alternative-at t) alternative.Post
 alternative-enum-known-head t c = search needs
 
--- src/cycle.rt:57:35
+-- src/cycle.rt:64:35
 alternative-alternative-requires : (t : ℕ) → alternative-lts.Need-alternative-requires (
   ends-reads.Asked,
   ends-reads.Learnt,
@@ -132,7 +132,7 @@ alternative-alternative-requires t c κs =
     let w = did (c .before .before .before .before .before .item .ensures) (c .before .before .before .head .given .1) in
     (omega (arith, c .before .before .before .before .before .before .before .before .before .before .before .pre .0, w .reads .on, w .within), after-item w)
 
--- src/cycle.rt:58:24
+-- src/cycle.rt:65:24
 alternative-enum-known-rest : (t : ℕ) → alternative-lts.Need-enum-known-rest (
   ends-reads.Asked,
   ends-reads.Learnt,
@@ -145,7 +145,7 @@ alternative-enum-known-rest : (t : ℕ) → alternative-lts.Need-enum-known-rest
 ) (alternative-at t) alternative.Post
 alternative-enum-known-rest t c = search needs
 
--- src/cycle.rt:58:44
+-- src/cycle.rt:65:44
 alternative-sequence-requires : (t : ℕ) → alternative-lts.Need-sequence-requires (
   ends-reads.Asked,
   ends-reads.Learnt,
@@ -158,7 +158,7 @@ alternative-sequence-requires : (t : ℕ) → alternative-lts.Need-sequence-requ
 ) (alternative-at t) alternative.Post
 alternative-sequence-requires t c κs = search needs
 
--- src/cycle.rt:59:25
+-- src/cycle.rt:66:25
 alternative-enum-known-place : (t : ℕ) → alternative-lts.Need-enum-known-place (
   ends-reads.Asked,
   ends-reads.Learnt,
@@ -171,7 +171,7 @@ alternative-enum-known-place : (t : ℕ) → alternative-lts.Need-enum-known-pla
 ) (alternative-at t) alternative.Post
 alternative-enum-known-place t c = search needs
 
--- src/cycle.rt:61:21
+-- src/cycle.rt:68:21
 alternative-enum-known-place-2 : (t : ℕ) → alternative-lts.Need-enum-known-place-2 (
   ends-reads.Asked,
   ends-reads.Learnt,
@@ -442,7 +442,7 @@ alternatives-returns-4 : (t : ℕ) → alternatives-lts.Need-returns-4 (
 ) (alternatives-at t) alternatives.Post
 alternatives-returns-4 t c = stops (halted (c .before .before .before .alternative .ensures) (c .before .place2 .given .1))
 
--- src/cycle.rt:76:13
+-- src/cycle.rt:83:13
 item-shared-slice-read-b : (t : ℕ) → item-lts.Need-shared-slice-read-b (
   is-digit-reads.Asked,
   is-digit-reads.Learnt,
@@ -459,7 +459,7 @@ item-shared-slice-read-b : (t : ℕ) → item-lts.Need-shared-slice-read-b (
 ) (item-at t) item.Post
 item-shared-slice-read-b t c = item-here (c .before .before .pre .1)
 
--- src/cycle.rt:77:8
+-- src/cycle.rt:84:8
 item-is-digit-requires : (t : ℕ) → item-lts.Need-is-digit-requires (
   is-digit-reads.Asked,
   is-digit-reads.Learnt,
@@ -476,7 +476,7 @@ item-is-digit-requires : (t : ℕ) → item-lts.Need-is-digit-requires (
 ) (item-at t) item.Post
 item-is-digit-requires t c κs = search needs
 
--- src/cycle.rt:78:9
+-- src/cycle.rt:85:9
 item-number-requires : (t : ℕ) → item-lts.Need-number-requires (
   is-digit-reads.Asked,
   is-digit-reads.Learnt,
@@ -493,7 +493,7 @@ item-number-requires : (t : ℕ) → item-lts.Need-number-requires (
 ) (item-at t) item.Post
 item-number-requires t c κs = number-ready (c .before .before .before .before .before .before .pre .1) (sym (c .before .before .before .is-digit .ensures) ∙ c .before .before .if1 .taken)
 
--- src/cycle.rt:78:9
+-- src/cycle.rt:85:9
 item-returns : (t : ℕ) → item-lts.Need-returns (
   is-digit-reads.Asked,
   is-digit-reads.Learnt,
@@ -510,7 +510,7 @@ item-returns : (t : ℕ) → item-lts.Need-returns (
 ) (item-at t) item.Post
 item-returns t c = c .number .ensures
 
--- src/cycle.rt:81:9
+-- src/cycle.rt:88:9
 item-returns-2 : (t : ℕ) → item-lts.Need-returns-2 (
   is-digit-reads.Asked,
   is-digit-reads.Learnt,
@@ -527,7 +527,7 @@ item-returns-2 : (t : ℕ) → item-lts.Need-returns-2 (
 ) (item-at t) item.Post
 item-returns-2 t c = stops (item-none (c .before .before .before .before .before .pre .1) (sym (c .before .before .is-digit .ensures) ∙ c .before .if1 .left) (c .if2 .taken))
 
--- src/cycle.rt:83:24
+-- src/cycle.rt:90:24
 item-add-skip : (t : ℕ) → item-lts.Need-add-skip (
   is-digit-reads.Asked,
   is-digit-reads.Learnt,
@@ -544,7 +544,7 @@ item-add-skip : (t : ℕ) → item-lts.Need-add-skip (
 ) (item-at t) item.Post
 item-add-skip t c = omega (arith, item-here (c .before .before .before .before .before .pre .1))
 
--- src/cycle.rt:83:9
+-- src/cycle.rt:90:9
 item-skip-requires : (t : ℕ) → item-lts.Need-skip-requires (
   is-digit-reads.Asked,
   is-digit-reads.Learnt,
@@ -561,7 +561,7 @@ item-skip-requires : (t : ℕ) → item-lts.Need-skip-requires (
 ) (item-at t) item.Post
 item-skip-requires t c κs = search needs
 
--- src/cycle.rt:84:11
+-- src/cycle.rt:91:11
 item-alternatives-requires : (t : ℕ) → item-lts.Need-alternatives-requires (
   is-digit-reads.Asked,
   is-digit-reads.Learnt,
@@ -578,7 +578,7 @@ item-alternatives-requires : (t : ℕ) → item-lts.Need-alternatives-requires (
 ) (item-at t) item.Post
 item-alternatives-requires t c κs = (omega (arith, c .before .before .before .before .before .before .before .before .pre .0, group-falls (c .before .before .before .before .before .before .before .before .pre .1) (c .before .before .before .if2 .left) (c .before .before .skip .ensures)), group-ready (c .before .before .before .before .before .before .before .before .pre .1) (c .before .before .before .if2 .left) (c .before .before .skip .ensures))
 
--- src/cycle.rt:85:20
+-- src/cycle.rt:92:20
 item-enum-known-group : (t : ℕ) → item-lts.Need-enum-known-group (
   is-digit-reads.Asked,
   is-digit-reads.Learnt,
@@ -595,7 +595,7 @@ item-enum-known-group : (t : ℕ) → item-lts.Need-enum-known-group (
 ) (item-at t) item.Post
 item-enum-known-group t c = search needs
 
--- src/cycle.rt:87:17
+-- src/cycle.rt:94:17
 item-stands-requires : (t : ℕ) → item-lts.Need-stands-requires (
   is-digit-reads.Asked,
   is-digit-reads.Learnt,
@@ -612,7 +612,7 @@ item-stands-requires : (t : ℕ) → item-lts.Need-stands-requires (
 ) (item-at t) item.Post
 item-stands-requires t c κs = search needs
 
--- src/cycle.rt:88:17
+-- src/cycle.rt:95:17
 item-returns-3 : (t : ℕ) → item-lts.Need-returns-3 (
   is-digit-reads.Asked,
   is-digit-reads.Learnt,
@@ -631,7 +631,7 @@ item-returns-3 t c =
     stops
     (group-open (c .before .before .before .before .before .before .before .before .before .before .before .before .before .before .pre .1) (c .before .before .before .before .before .before .before .before .before .if2 .left) (c .before .before .before .before .before .before .before .before .skip .ensures) (did (c .before .before .before .before .before .alternatives .ensures) (c .before .before .before .group .given .1)) (sym (c .before .stands .ensures) ∙ not-true _ (c .if3 .taken)))
 
--- src/cycle.rt:90:42
+-- src/cycle.rt:97:42
 item-add-starred : (t : ℕ) → item-lts.Need-add-starred (
   is-digit-reads.Asked,
   is-digit-reads.Learnt,
@@ -649,7 +649,7 @@ item-add-starred : (t : ℕ) → item-lts.Need-add-starred (
 item-add-starred t c =
     omega (arith, stands-there (c .before .before .before .before .before .before .before .before .before .before .before .before .before .before .args .s .now) (c .before .before .before .group .given .0 .0 .next) 41 (sym (c .before .stands .ensures) ∙ not-false _ (c .if3 .left)) .0)
 
--- src/cycle.rt:90:24
+-- src/cycle.rt:97:24
 item-starred-requires : (t : ℕ) → item-lts.Need-starred-requires (
   is-digit-reads.Asked,
   is-digit-reads.Learnt,
@@ -666,7 +666,7 @@ item-starred-requires : (t : ℕ) → item-lts.Need-starred-requires (
 ) (item-at t) item.Post
 item-starred-requires t c κs = search needs
 
--- src/cycle.rt:92:21
+-- src/cycle.rt:99:21
 item-enum-known-place : (t : ℕ) → item-lts.Need-enum-known-place (
   is-digit-reads.Asked,
   is-digit-reads.Learnt,
@@ -683,7 +683,7 @@ item-enum-known-place : (t : ℕ) → item-lts.Need-enum-known-place (
 ) (item-at t) item.Post
 item-enum-known-place t c = search needs
 
--- src/cycle.rt:66:1
+-- src/cycle.rt:73:1
 item-returns-4 : (t : ℕ) → item-lts.Need-returns-4 (
   is-digit-reads.Asked,
   is-digit-reads.Learnt,
@@ -703,7 +703,7 @@ item-returns-4 t c =
     (c .starred .ensures .becomes _ _ _ _ _
     (group-closed (c .before .before .before .before .before .before .before .before .before .before .before .before .before .before .before .before .pre .1) (c .before .before .before .before .before .before .before .before .before .before .before .if2 .left) (c .before .before .before .before .before .before .before .before .before .before .skip .ensures) (did (c .before .before .before .before .before .before .before .alternatives .ensures) (c .before .before .before .before .before .group .given .1)) (sym (c .before .before .before .stands .ensures) ∙ not-false _ (c .before .before .if3 .left))))
 
--- src/cycle.rt:66:1
+-- src/cycle.rt:73:1
 item-returns-5 : (t : ℕ) → item-lts.Need-returns-5 (
   is-digit-reads.Asked,
   is-digit-reads.Learnt,

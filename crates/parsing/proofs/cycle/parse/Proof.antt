@@ -9,34 +9,34 @@ use Rattle.parsing.proofs.cycle.parse.Lts as lts
 use Rattle.parsing.proofs.cycle.alternatives.Reads as alternatives-reads
 use Rattle.parsing.proofs.parts.skip.Reads as skip-reads
 
--- src/cycle.rt:104:9
+-- src/cycle.rt:111:9
 skip-requires : tie.Need-skip-requires
 skip-requires c κs = search needs
 
--- src/cycle.rt:105:11
+-- src/cycle.rt:112:11
 alternatives-requires : tie.Need-alternatives-requires
 alternatives-requires c κs = text-ready (c .before .before .before .before .args .s .now) (c .before .before .skip .ensures)
 
--- src/cycle.rt:106:20
+-- src/cycle.rt:113:20
 enum-known-part : tie.Need-enum-known-part
 enum-known-part c = search needs
 
--- src/cycle.rt:109:17
+-- src/cycle.rt:116:17
 returns : tie.Need-returns
 returns c =
     let w = did (c .before .before .before .before .alternatives .ensures) (c .before .before .part .given .1) in
     outside (w .within) (text-closed (c .before .before .before .before .before .before .before .before .before .args .s .now) (c .before .before .before .before .before .before .before .skip .ensures) w (c .if1 .taken))
 
--- src/cycle.rt:113:21
+-- src/cycle.rt:120:21
 enum-known-place : tie.Need-enum-known-place
 enum-known-place c = search needs
 
--- src/cycle.rt:97:1
+-- src/cycle.rt:104:1
 returns-2 : tie.Need-returns-2
 returns-2 c =
     whole (text-parses (c .before .before .before .before .before .before .before .before .before .args .s .now) (c .before .before .before .before .before .before .before .skip .ensures) (did (c .before .before .before .before .alternatives .ensures) (c .before .before .part .given .1)) (c .if1 .left))
 
--- src/cycle.rt:97:1
+-- src/cycle.rt:104:1
 returns-3 : tie.Need-returns-3
 returns-3 c =
     let h = halted (c .before .before .before .alternatives .ensures) (c .before .place .given .1) in

@@ -5,19 +5,19 @@ use Rattle.parsing.proofs.parts.ends.Tie as tie
 use Rattle.parsing.proofs.parts.ends.Reads as reads
 use Rattle.parsing.proofs.parts.ends.Lts as lts
 
--- src/parts.rt:43:9
+-- src/parts.rt:44:9
 returns : tie.Need-returns
 returns c = rw (le-leb _ _ (c .if1 .taken))
 
--- src/parts.rt:45:13
+-- src/parts.rt:46:13
 shared-slice-read-b : tie.Need-shared-slice-read-b
 shared-slice-read-b c = search needs
 
--- src/parts.rt:39:1
+-- src/parts.rt:40:1
 returns-2 : tie.Need-returns-2
 returns-2 c = rw (lt-leb _ _ (c .before .before .if1 .left), eq-eqb _ _ (c .if2 .taken))
 
--- src/parts.rt:39:1
+-- src/parts.rt:40:1
 returns-3 : tie.Need-returns-3
 returns-3 c = rw (lt-leb _ _ (c .before .before .if1 .left), ne-eqb _ _ (c .if2 .left))
 

@@ -9,31 +9,31 @@ use Rattle.occurrence_sets.proofs.sets.connect.Reads as connect-reads
 use Rattle.occurrence_sets.proofs.sets.union.Reads as union-reads
 use Rattle.occurrence_sets.proofs.sets.when.Reads as when-reads
 
--- src/parts.rt:72:5
+-- src/parts.rt:75:5
 connect-requires : tie.Need-connect-requires
 connect-requires c κs = search needs
 
--- src/parts.rt:76:34
+-- src/parts.rt:79:34
 when-requires : tie.Need-when-requires
 when-requires c κs = search needs
 
--- src/parts.rt:76:16
+-- src/parts.rt:79:16
 union-requires : tie.Need-union-requires
 union-requires c κs = search needs
 
--- src/parts.rt:77:32
+-- src/parts.rt:80:32
 when-requires-2 : tie.Need-when-requires-2
 when-requires-2 c κs = search needs
 
--- src/parts.rt:77:15
+-- src/parts.rt:80:15
 union-requires-2 : tie.Need-union-requires-2
 union-requires-2 c κs = search needs
 
--- src/parts.rt:78:16
+-- src/parts.rt:81:16
 both-requires : tie.Need-both-requires
 both-requires c κs = search needs
 
--- src/parts.rt:69:1
+-- src/parts.rt:72:1
 returns : tie.Need-returns
 returns c =
     record {

@@ -5,15 +5,15 @@ use Rattle.parsing.proofs.parts.stands.Tie as tie
 use Rattle.parsing.proofs.parts.stands.Reads as reads
 use Rattle.parsing.proofs.parts.stands.Lts as lts
 
--- src/parts.rt:35:21
+-- src/parts.rt:36:21
 shared-slice-read-result : tie.Need-shared-slice-read-result
 shared-slice-read-result c = search needs
 
--- src/parts.rt:32:1
+-- src/parts.rt:33:1
 returns : tie.Need-returns
 returns c = rw (lt-ltb _ _ (c .before .if1 .taken))
 
--- src/parts.rt:32:1
+-- src/parts.rt:33:1
 returns-2 : tie.Need-returns-2
 returns-2 c = rw (le-ltb _ _ (c .if1 .left))
 

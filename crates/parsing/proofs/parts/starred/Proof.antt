@@ -11,31 +11,31 @@ use Rattle.parsing.proofs.parts.skip.Reads as skip-reads
 use Rattle.parsing.proofs.parts.stands.Reads as stands-reads
 use Rattle.occurrence_sets.proofs.sets.connect.Reads as connect-reads
 
--- src/parts.rt:99:9
+-- src/parts.rt:107:9
 skip-requires : tie.Need-skip-requires
 skip-requires c κs = search needs
 
--- src/parts.rt:100:9
+-- src/parts.rt:108:9
 stands-requires : tie.Need-stands-requires
 stands-requires c κs = search needs
 
--- src/parts.rt:101:9
+-- src/parts.rt:109:9
 returns : tie.Need-returns
 returns c = star-none (c .before .before .skip .ensures) (sym (c .before .stands .ensures) ∙ not-true _ (c .if1 .taken))
 
--- src/parts.rt:103:5
+-- src/parts.rt:117:5
 connect-requires : tie.Need-connect-requires
 connect-requires c κs = search needs
 
--- src/parts.rt:104:26
+-- src/parts.rt:118:26
 add-skip : tie.Need-add-skip
 add-skip c = omega (arith, stands-there (c .before .before .before .before .before .before .args .s .now) (c .before .before .before .before .skip .result) 42 (sym (c .before .before .before .stands .ensures) ∙ not-false _ (c .before .before .if1 .left)) .0)
 
--- src/parts.rt:104:9
+-- src/parts.rt:118:9
 skip-requires-2 : tie.Need-skip-requires-2
 skip-requires-2 c κs = search needs
 
--- src/parts.rt:96:1
+-- src/parts.rt:99:1
 returns-2 : tie.Need-returns-2
 returns-2 c = star-there (c .before .before .before .before .before .skip .ensures) (sym (c .before .before .before .before .stands .ensures) ∙ not-false _ (c .before .before .before .if1 .left)) (c .skip2 .ensures) (c .before .connect .ensures)
 
