@@ -6,3 +6,4 @@ pub mod Refusals
 pub mod Language
 pub mod Numbering
 pub mod Count
+pub mod Drawing

@@ -1,1 +1,2 @@
 // From a text to the pool and root of its diagram.
+pub mod draw;

@@ -1,0 +1,31 @@
+-- What the code answers, in the words of the definition: for each case the number and the values of document 02.
+use mathlib.Core.List.{List}
+use Prim.Native.Nat.{ℕ}
+use lib.ListN.{replicate}
+use Rattle.tables.specs.Limits.{mostPool}
+use Rattle.tables.specs.Pool.{poolArcs}
+use Rattle.occurrences.specs.Positions.{Automaton}
+use Rattle.parsing.specs.declared.parts.Part.{Part}
+use Rattle.expression.specs.Expression.{Drawn, root, refused, mostText}
+use Rattle.expression.specs.Expression as Expression
+use Rattle.expression.specs.declared.draw.Reply.{Reply}
+use Rattle.expression.specs.declared.draw.Reply.the-variants.{Root, TooLong, Outside, Offender, TooManyStates}
+use Rattle.expression.specs.declared.draw.Drawing.{Drawing}
+
+abbrev pub saidReply : Reply → Expression.Reply
+saidReply (Root s) = root (s .0)
+saidReply TooLong = refused 18 mostText
+saidReply (Outside p) = refused 19 p
+saidReply (Offender k p) = refused k p
+saidReply TooManyStates = refused 22 0
+
+abbrev pub saidDrawing : Drawing → Drawn
+saidDrawing d = record { reply = saidReply (d .reply); pool = d .pool }
+
+-- a reply with a pool that is all 0
+abbrev pub beside : Expression.Reply → Drawn
+beside R = record { reply = R; pool = record { count = 0; finals = replicate mostPool 0; arcs = replicate poolArcs 0 } }
+
+-- the automaton that the parse leaves in a part and two tables
+abbrev pub automatonOf : Part → List ℕ → List ℕ → Automaton
+automatonOf p F L = record { skips = p .skips; first = p .first; last = p .last; follow = F; label = L }

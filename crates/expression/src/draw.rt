@@ -1,0 +1,93 @@
+// The diagram for just the language of an expression, or why there is none.
+use filling::fill::fill_arcs;
+use filling::fill::fill_finals;
+use occurrence_sets::sets::MOST_OCCURRENCES;
+use parsing::cycle::parse;
+use parsing::parts::Part;
+use parsing::parts::Step;
+use scanning::limits::Limit;
+use scanning::limits::check;
+use subsets::grow::ROOM;
+use subsets::grow::grow;
+use tables::kinds::DiagramState;
+use tables::tables::POOL_ARCS;
+use tables::tables::Pool;
+ghost use mathlib.Core.Path.{_≡_};
+ghost use Rattle.expression.specs.Expression.{draw, expression};
+ghost use Rattle.expression.specs.Said.{saidReply, beside, saidDrawing, automatonOf};
+
+// The most bytes of a text.
+pub const MOST_TEXT: usize = 256;
+
+pub enum Reply {
+    // the state from which just the language is accepted
+    Root(DiagramState),
+    // more bytes than a text may have
+    TooLong,
+    // outside the grammar, with the length of the longest beginning that some text of the grammar shares
+    Outside(usize),
+    // the leftmost offender against the limits, with its number and place
+    Offender(usize, usize),
+    // more states than a diagram may have
+    TooManyStates,
+}
+
+pub struct Drawing {
+    pub reply: Reply,
+    pub pool: Pool,
+}
+
+// Beside a refusal the pool is all 0.
+fn turned_away(reply: Reply) -> Drawing
+    ensures { λ r. ⌜ saidDrawing r ≡ beside (saidReply reply) ⌝ }
+{
+    Drawing {
+        reply,
+        pool: Pool {
+            count: 0,
+            finals: [0u8; DiagramState::LIMIT],
+            arcs: [0u8; POOL_ARCS],
+        },
+    }
+}
+
+// The diagram for a text that keeps within the limits.
+fn draw(part: Part, follow: &[u32; MOST_OCCURRENCES], label: &[u8; MOST_OCCURRENCES]) -> Drawing
+    ensures { λ r. ⌜ saidDrawing r ≡ draw (automatonOf part (now (follow .entry)) (now (label .entry))) ⌝ }
+{
+    let mut states = [0u32; ROOM];
+    let count = grow(part.first, follow, label, &mut states);
+    if DiagramState::LIMIT < count {
+        return turned_away(Reply::TooManyStates);
+    }
+    let mut finals = [0u8; DiagramState::LIMIT];
+    fill_finals(part.skips, part.last, &states[..count], &mut finals);
+    let mut arcs = [0u8; POOL_ARCS];
+    fill_arcs(part.first, follow, label, &states[..count], &mut arcs);
+    Drawing {
+        reply: Reply::Root(DiagramState(0)),
+        pool: Pool {
+            count: count as u8,
+            finals,
+            arcs,
+        },
+    }
+}
+
+// The pool and root for just the language of a text, or a refusal with its place.
+pub fn expression(text: &[u8]) -> Drawing
+    ensures { λ r. ⌜ saidDrawing r ≡ expression (now (text .entry)) ⌝ }
+{
+    if MOST_TEXT < text.len() {
+        return turned_away(Reply::TooLong);
+    }
+    let mut label = [0u8; MOST_OCCURRENCES];
+    let mut follow = [0u32; MOST_OCCURRENCES];
+    match parse(text, &mut label, &mut follow) {
+        Step::Stuck(place) => turned_away(Reply::Outside(place)),
+        Step::Read(part) => match check(text) {
+            Limit::Passed(number, place) => turned_away(Reply::Offender(number, place)),
+            Limit::Kept => draw(part, &follow, &label),
+        },
+    }
+}

@@ -1,0 +1,3 @@
+-- What C is told of an expression.
+pub mod Drawn
+pub mod Laws
