@@ -56,7 +56,7 @@ pub fn bare(kind: usize) -> Told
     }
 }
 
-fn refused(number: usize, place: usize) -> Told
+pub fn refused(number: usize, place: usize) -> Told
     ensures { λ r. ⌜ r ≡ toldRefusal number place ⌝ }
 {
     Told {

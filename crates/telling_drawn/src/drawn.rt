@@ -54,8 +54,11 @@ pub fn put_drawn(space: &mut [u8], reply: Reply, pool: Pool)
     requires { ⌜ poolLeast ≤ length (now space) ⌝ }
     ensures { λ u. ⌜ now (space .exit) ≡ poolAfter (saidReply reply) pool (now (space .entry)) ⌝ }
 {
-    let Reply::Root(_) = reply else {
-        return;
-    };
-    put_tables(space, pool)
+    match reply {
+        Reply::Root(_) => put_tables(space, pool),
+        Reply::TooLong => {}
+        Reply::Outside(_) => {}
+        Reply::Offender(_, _) => {}
+        Reply::TooManyStates => {}
+    }
 }
