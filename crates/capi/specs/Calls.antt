@@ -20,6 +20,8 @@ use Rattle.flat.specs.Written.{writeReplyAt}
 use Rattle.telling.specs.Told.{NO-ROOM, toldReply, toldAnswer, toldMember, toldWritten, replyAfter}
 use Rattle.telling.specs.Replays.{toldReplay, runAfter, recordLeast, blank}
 use Rattle.telling.specs.declared.told.Told.{Told}
+use Rattle.expression.specs.Expression.{expression}
+use Rattle.telling_drawn.specs.Drawn.{toldDrawn, poolLeast, poolAfter}
 
 -- THE NUMBER OF THE LAYOUT: a layout of tables that differs in any entry, or another reply, has another. 1 had words of four messages
 abbrev pub layout : ℕ
@@ -80,3 +82,15 @@ pub record ReplayCall (file trace memory₀ run₀ reply₀ : List ℕ) (r : ℕ
   pub reply : reply₁ ≡ keepUnless (replayFits run₀ reply₀) (replyAfter (replayTold file trace memory₀) reply₀) reply₀
   pub run : run₁ ≡ keepUnless (replayFits run₀ reply₀) (runAfter (outcomeOf file trace memory₀ .reply) (outcomeOf file trace memory₀ .lent) run₀) run₀
   pub memory : memory₁ ≡ keepUnless (replayFits run₀ reply₀) (outcomeOf file trace memory₀ .queues) memory₀
+
+-- the pool that a call is about; is there space for it, and for a reply?
+abbrev pub drawnTold : List ℕ → Told
+drawnTold text = toldDrawn (expression text .reply) (expression text .pool .count)
+
+abbrev pub drawnFits : List ℕ → List ℕ → Bool
+drawnFits pool reply = leb poolLeast (length pool) && replyFits reply
+
+pub record ExpressionCall (text pool₀ reply₀ : List ℕ) (r : ℕ) (pool₁ reply₁ : List ℕ) : Type 0 where
+  pub kind : r ≡ kindIf (drawnFits pool₀ reply₀) (drawnTold text)
+  pub pool : pool₁ ≡ keepUnless (drawnFits pool₀ reply₀) (poolAfter (expression text .reply) (expression text .pool) pool₀) pool₀
+  pub reply : reply₁ ≡ keepUnless (drawnFits pool₀ reply₀) (replyAfter (drawnTold text) reply₀) reply₀

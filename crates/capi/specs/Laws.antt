@@ -46,27 +46,27 @@ use Rattle.capi.specs.Calls.{replyFits, kindIf, keepUnless, spaceAfter, 
 use Rattle.telling.specs.declared.told.Told.{Told}
 
 -- ROOM FOR THE OUTPUT, or none
-kind-none : (b : Bool) (t : Told) → b ≡ false → NO-ROOM ≡ kindIf b t
+pub kind-none : (b : Bool) (t : Told) → b ≡ false → NO-ROOM ≡ kindIf b t
 kind-none b t e = sym (ap (λ x. kindIf x t) e)
 
-changed : (b : Bool) (before after : List ℕ) → b ≡ true → after ≡ keepUnless b after before
+pub changed : (b : Bool) (before after : List ℕ) → b ≡ true → after ≡ keepUnless b after before
 changed b before after e = sym (ap (λ x. keepUnless x after before) e)
 
-kept : (b : Bool) (before after : List ℕ) → b ≡ false → before ≡ keepUnless b after before
+pub kept : (b : Bool) (before after : List ℕ) → b ≡ false → before ≡ keepUnless b after before
 kept b before after e = sym (ap (λ x. keepUnless x after before) e)
 
 -- what is told where there is room
 module _ (b : Bool) (room : b ≡ true) {t u : Told} {reply reply₁ : List ℕ} {r : ℕ} (same : t ≡ u) (w : Tells t reply reply₁ r) where
-  tells-kind : r ≡ kindIf b u
+  pub tells-kind : r ≡ kindIf b u
   tells-kind = w .kind ∙ ap (λ (x : Told). x .kind) same ∙ sym (ap (λ x. kindIf x u) room)
 
-  tells-reply : reply₁ ≡ keepUnless b (replyAfter u reply) reply
+  pub tells-reply : reply₁ ≡ keepUnless b (replyAfter u reply) reply
   tells-reply = w .reply ∙ ap (λ (x : Told). replyAfter x reply) same ∙ changed b reply (replyAfter u reply) room
 
-first-none : (a b : Bool) → a ≡ false → (a && b) ≡ false
+pub first-none : (a b : Bool) → a ≡ false → (a && b) ≡ false
 first-none a b e = ap (λ x. x && b) e
 
-second-none : (a b : Bool) → b ≡ false → (a && b) ≡ false
+pub second-none : (a b : Bool) → b ≡ false → (a && b) ≡ false
 second-none true b e = e
 second-none false b e = refl
 

@@ -1,6 +1,7 @@
 // What C calls. A call whose output space is too short answers NO_ROOM and touches nothing.
 use answer::printed;
 use diagram::member::member;
+use expression::draw::expression;
 use flat::places::TABLES_LEAST;
 use flat::put::put_tables;
 use flat::write::write_flat;
@@ -22,9 +23,12 @@ use telling::told::tell_member;
 use telling::told::tell_refusal;
 use telling::told::tell_verdict;
 use telling::told::tell_written;
+use telling_drawn::drawn::POOL_LEAST;
+use telling_drawn::drawn::put_drawn;
+use telling_drawn::drawn::tell_drawn;
 use verdict::check::check;
 ghost use mathlib.Core.Path.{_≡_};
-ghost use Rattle.capi.specs.Calls.{layout, ReadCall, WriteCall, MemberCall, CheckCall, ReplayCall};
+ghost use Rattle.capi.specs.Calls.{layout, ReadCall, WriteCall, MemberCall, CheckCall, ReplayCall, ExpressionCall};
 
 // The number of the layout.
 const LAYOUT: usize = 2;
@@ -136,4 +140,23 @@ pub extern "C" fn swarmbanner_replay(
     let record = replayed.record;
     put_run(run, why, record);
     put_told(reply, tell_replay(ended))
+}
+
+// The pool and root for just the language of an expression. Final marks and arcs fill the front of the pool's space; after a refusal it is as
+// it was.
+#[no_mangle]
+pub extern "C" fn swarmbanner_expression(text: &[u8], pool: &mut [u8], reply: &mut [usize]) -> usize
+    ensures { λ r. ⌜ ExpressionCall (now (text .entry)) (now (pool .entry)) (now (reply .entry)) r (now (pool .exit)) (now (reply .exit)) ⌝ }
+{
+    if pool.len() < POOL_LEAST {
+        return NO_ROOM;
+    }
+    if reply.len() < REPLY_LEAST {
+        return NO_ROOM;
+    }
+    let drawing = expression(text);
+    let said = drawing.reply;
+    let tables = drawing.pool;
+    put_drawn(pool, said, tables);
+    put_told(reply, tell_drawn(said, tables.count))
 }
