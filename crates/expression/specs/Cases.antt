@@ -1,8 +1,7 @@
 -- Small texts, and what comes of them.
 use mathlib.Core.Path.{_≡_, refl}
 use mathlib.Core.Bool.{true, false}
-use mathlib.Core.List.{List, [], _∷_, map}
-use lib.ListN.{getD}
+use mathlib.Core.List.{[], _∷_, map}
 use Rattle.explore.specs.Explore.{explore, rounds, expand, fresh, starts, childrenFrom}
 use Rattle.grammar.specs.Tree.{letter, empty, sequence, either, star}
 use Rattle.grammar.specs.Parse.{run}

@@ -17,7 +17,7 @@ use Rattle.grammar.specs.Grammar.{Text, Outside}
 use Rattle.grammar.specs.Offends.{Offends, Leftmost}
 use Rattle.occurrences.specs.Sets.{has}
 use Rattle.occurrences.specs.EndsOn.{EndsOn}
-use Rattle.expression.specs.Expression.{Drawn, root, mostText, turnedAway, expression}
+use Rattle.expression.specs.Expression.{root, mostText, turnedAway, expression}
 
 -- a pool and its root, which is state 0
 abbrev pub Draws : List ℕ → Declared.Pool → Type 0

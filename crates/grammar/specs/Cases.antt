@@ -1,9 +1,9 @@
 -- Small texts, parsed and measured.
 use mathlib.Core.Path.{_≡_, refl}
-use mathlib.Core.List.{List, [], _∷_}
+use mathlib.Core.List.{[], _∷_}
 use Rattle.grammar.specs.Tree.{letter, empty, sequence, either, star}
 use Rattle.grammar.specs.Parse.{parsed, stuck, parse, run}
-use Rattle.grammar.specs.Offends.{kept, passed, limits, limitsFrom}
+use Rattle.grammar.specs.Offends.{passed, limits, limitsFrom}
 
 -- (0|1)* 2
 both-and-two : parse (40 ∷ 48 ∷ 124 ∷ 49 ∷ 41 ∷ 42 ∷ 32 ∷ 50 ∷ [])

@@ -8,7 +8,6 @@ use lib.Dec.{eqb}
 use Rattle.explore.specs.Explore.{explore}
 use Rattle.tables.specs.Limits.{mostMessages, mostPool}
 use Rattle.occurrences.specs.Sets.{meet, gather, marked}
-use Rattle.occurrences.specs.Positions.{Automaton}
 
 -- what may come next: at the start what may begin a word, at a set what may follow one of its occurrences
 abbrev pub nextOf : ℕ → List ℕ → ℕ → ℕ

@@ -1,6 +1,6 @@
 -- What comes of a text, case by case.
-use mathlib.Core.Path.{_≡_, refl, sym, ap, subst, _∙_}
-use mathlib.Core.Bool.{Bool, true, false}
+use mathlib.Core.Path.{_≡_, refl, sym, ap, subst}
+use mathlib.Core.Bool.{Bool}
 use mathlib.Core.List.{List}
 use Prim.Native.Nat.{ℕ, _-_, _≤_, _<_}
 use borrow.Author.Tests.{ltb-true, ltb-false}
@@ -13,9 +13,9 @@ use Rattle.grammar.specs.Tree.{Tree}
 use Rattle.grammar.specs.Parse.{Parsed, parsed, stuck, parse}
 use Rattle.grammar.specs.Offends.{Limit, kept, passed, limits}
 use Rattle.model.specs.Laws.Basics.{byTest}
-use Rattle.occurrences.specs.Positions.{Automaton, automaton}
+use Rattle.occurrences.specs.Positions.{automaton}
 use Rattle.filling.specs.Filled.{poolFor}
-use Rattle.expression.specs.Expression.{Reply, Drawn, root, refused, mostText, turnedAway, states, numbered, draw, limited, read, measured, expression}
+use Rattle.expression.specs.Expression.{Drawn, root, refused, mostText, turnedAway, states, numbered, draw, limited, read, measured, expression}
 
 pub data Comes (s : List ℕ) : Drawn → Type 0 where
   long : mostText < length s → Comes s (turnedAway 18 mostText)

@@ -1,10 +1,10 @@
 -- A diagram is refused for its states exactly if there are more of them than it may have.
 use mathlib.Core.Path.{_≡_, refl, sym, ap, subst, _∙_}
-use mathlib.Core.Logic.{_↔_, _⊎_, inl, inr, Iff·symm, Iff·trans}
-use mathlib.Core.Bool.{Bool, true, false}
+use mathlib.Core.Logic.{_↔_, inl, inr, Iff·symm, Iff·trans}
+use mathlib.Core.Bool.{true}
 use mathlib.Core.Option.{Option, none, some, Option·some-injective}
-use mathlib.Core.List.{List, [], _∷_, map, reverse, reverse-reverse, cons-ne-nil}
-use Prim.Native.Nat.{ℕ, zero, suc, _^_, _≤_, _<_}
+use mathlib.Core.List.{List, [], _∷_, reverse, cons-ne-nil}
+use Prim.Native.Nat.{ℕ, _^_, _≤_, _<_}
 use native.Mathlib.Omega.{arith}
 use lib.Dec.{eqb}
 use lib.ListN.{length, length-map, length-reverse}
@@ -17,7 +17,7 @@ use Rattle.explore.specs.Laws.Meaning.{distinct, sound-word, enough-from, size-
 use Rattle.tables.specs.Limits.{mostPool, mostMessages}
 use Rattle.grammar.specs.Tree.{Tree, size}
 use Rattle.grammar.specs.Parse.{parsed, parse}
-use Rattle.grammar.specs.Offends.{mostOccurrences, limits, kept}
+use Rattle.grammar.specs.Offends.{mostOccurrences}
 use Rattle.grammar.specs.Laws.Running.{stuck-not-parsed}
 use Rattle.grammar.specs.Laws.Sound.{parsed-spelled}
 use Rattle.grammar.specs.Laws.Complete.{spelled-parsed, one-tree}
@@ -29,7 +29,7 @@ use Rattle.occurrences.specs.EndsOn.{EndsOn}
 use Rattle.occurrences.specs.Laws.Sets.{some-member, same-members}
 use Rattle.occurrences.specs.Laws.Letters.{Low}
 use Rattle.occurrences.specs.Laws.Arrives.{Node, node-set, node-none, stored-node-set}
-use Rattle.expression.specs.Expression.{Drawn, root, turnedAway, states, expression}
+use Rattle.expression.specs.Expression.{Drawn, turnedAway, states, expression}
 use Rattle.expression.specs.Means.{EndSet, StateOf, TooManyStates}
 use Rattle.expression.specs.Laws.Standing.{eqb-equality}
 use Rattle.expression.specs.Laws.Comes.{Comes, long, outside, offender, many, drawn, comes, numberOf}

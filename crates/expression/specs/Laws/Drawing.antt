@@ -1,11 +1,10 @@
 -- The pool that the code fills from its list of states is the definition's.
-use mathlib.Core.Path.{_≡_, refl, sym, ap, ap₂, subst, _∙_}
+use mathlib.Core.Path.{_≡_, sym, ap, ap₂, subst, _∙_}
 use mathlib.Core.Bool.{Bool}
 use mathlib.Core.List.{List}
 use Prim.Native.Nat.{ℕ, _-_, _*_, _≤_, _<_}
 use native.Mathlib.Omega.{arith}
 use borrow.Author.Tests.{lt-ltb, le-ltb}
-use lib.Dec.{ltb}
 use lib.ListN.{length, getD, take, replicate}
 use lib.Seq.{length-take-le}
 use Rattle.tables.specs.Limits.{mostMessages, mostPool}
@@ -14,7 +13,7 @@ use Rattle.tables.specs.declared.tables.Pool.{Pool}
 use Rattle.occurrences.specs.Positions.{Automaton, automaton, follows, labels}
 use Rattle.subsets.specs.Grows.{FoundStates}
 use Rattle.filling.specs.Filled.{entriesFrom, arcEntry, finalMark, poolFor}
-use Rattle.grammar.specs.Parse.{Parsed, parsed, stuck, parse}
+use Rattle.grammar.specs.Parse.{Parsed, stuck, parse}
 use Rattle.grammar.specs.Offends.{mostOccurrences, Limit, kept, passed, limits}
 use Rattle.scanning.specs.Said.{saidLimit}
 use Rattle.scanning.specs.declared.limits.Limit.{Limit as Answer}

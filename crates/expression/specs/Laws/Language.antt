@@ -1,30 +1,28 @@
 -- The pool of a text has just the language of its tree.
 use mathlib.Core.Path.{_≡_, refl, sym, ap, subst, _∙_}
 use mathlib.Core.Logic.{_↔_}
-use mathlib.Core.Bool.{Bool, true, false}
-use mathlib.Core.Option.{Option, none, some, Option·some-injective}
-use mathlib.Core.List.{List, [], reverse}
-use Prim.Native.Nat.{ℕ, _≤_, _<_}
-use native.Mathlib.Omega.{arith}
-use lib.ListN.{length, getD}
-use Rattle.explore.specs.Explore.{reach}
+use mathlib.Core.Bool.{true}
+use mathlib.Core.Option.{Option, some, Option·some-injective}
+use mathlib.Core.List.{List}
+use Prim.Native.Nat.{ℕ, _≤_}
+use lib.ListN.{length}
 use Rattle.model.specs.Diagram as Diagram
 use Rattle.model.specs.Laws.Basics.{none-not-some, false-not-true}
-use Rattle.tables.specs.Limits.{mostPool, mostMessages}
+use Rattle.tables.specs.Limits.{mostPool}
 use Rattle.tables.specs.declared.tables.Pool as Declared
 use Rattle.queue_order.specs.Pool.{poolOf}
-use Rattle.grammar.specs.Tree.{Tree, Word, size, letters}
+use Rattle.grammar.specs.Tree.{Tree, size}
 use Rattle.grammar.specs.Grammar.{Text}
-use Rattle.grammar.specs.Parse.{Parsed, parsed, stuck, parse}
-use Rattle.grammar.specs.Offends.{mostOccurrences, kept, limits}
+use Rattle.grammar.specs.Parse.{parsed, parse}
+use Rattle.grammar.specs.Offends.{mostOccurrences}
 use Rattle.grammar.specs.Laws.Sound.{parsed-spelled}
-use Rattle.grammar.specs.Laws.Complete.{spelled-parsed, one-tree}
+use Rattle.grammar.specs.Laws.Complete.{one-tree}
 use Rattle.grammar.specs.Laws.Numbers.{kept-bounds}
-use Rattle.occurrences.specs.Positions.{Automaton, automaton, move, ends}
+use Rattle.occurrences.specs.Positions.{Automaton, automaton, ends}
 use Rattle.occurrences.specs.Laws.Letters.{Low}
 use Rattle.occurrences.specs.Laws.Arrives.{language}
 use Rattle.filling.specs.Filled.{poolFor}
-use Rattle.expression.specs.Expression.{Drawn, root, mostText, turnedAway, states, expression}
+use Rattle.expression.specs.Expression.{Drawn, root, states, expression}
 use Rattle.expression.specs.Means.{Draws, JustTheLanguage, OneTree}
 use Rattle.expression.specs.Laws.Standing.{Stands, nowhere, at, stands, final-is}
 use Rattle.expression.specs.Laws.Comes.{Comes, long, outside, offender, many, drawn, comes, drawn-not-refused}

@@ -1,15 +1,15 @@
 -- The states are numbered by the shortest, lowest word, and each but the start is a set that words end on.
 use mathlib.Core.Path.{_≡_, refl, sym, ap, subst, _∙_}
-use mathlib.Core.Logic.{_↔_, _⊎_, inl, inr, ⊎-elim, Iff·symm, Iff·trans}
-use mathlib.Core.Bool.{Bool, true, false}
+use mathlib.Core.Logic.{_↔_, _⊎_, ⊎-elim, Iff·symm, Iff·trans}
+use mathlib.Core.Bool.{true}
 use mathlib.Core.Option.{Option, none, some, Option·some-injective}
-use mathlib.Core.List.{List, [], _∷_, map, reverse, reverse-reverse, cons-ne-nil}
+use mathlib.Core.List.{List, [], _∷_, reverse, reverse-reverse, cons-ne-nil}
 use Prim.Native.Nat.{ℕ, zero, suc, _≤_, _<_}
 use native.Mathlib.Omega.{arith}
 use lib.Dec.{eqb}
 use lib.ListN.{length, getD, getElem?, length-map}
 use Rattle.explore.specs.Mem.{Mem}
-use Rattle.explore.specs.Order.{Before, Shortlex, AtMost, Earlier}
+use Rattle.explore.specs.Order.{Before, Shortlex, AtMost}
 use Rattle.explore.specs.Explore.{Entry, Precedes, reach, leads, explore}
 use Rattle.explore.specs.Laws.Order.{before-is, not-after-reads}
 use Rattle.explore.specs.Laws.Meaning.{sound, sound-word, in-order, least-way}

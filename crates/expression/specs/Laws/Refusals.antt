@@ -1,20 +1,18 @@
 -- What the refusals of the text mean: 18, 19, and 5, 20 and 21.
-use mathlib.Core.Path.{_≡_, refl, sym, ap, ap₂, subst, _∙_}
-use mathlib.Core.Logic.{_↔_, _⊎_, inl, inr, ⊎-elim}
+use mathlib.Core.Path.{_≡_, refl, sym, ap, ap₂, _∙_}
+use mathlib.Core.Logic.{_⊎_, inl, inr, ⊎-elim}
 use mathlib.Core.List.{List}
-use Prim.Native.Nat.{ℕ, _-_, _≤_, _<_}
+use Prim.Native.Nat.{ℕ, _-_, _<_}
 use native.Mathlib.Omega.{arith}
 use lib.ListN.{length}
-use Rattle.tables.specs.Limits.{mostPool}
-use Rattle.grammar.specs.Tree.{Tree}
-use Rattle.grammar.specs.Grammar.{Text, Outside}
+use Rattle.grammar.specs.Grammar.{Outside}
 use Rattle.grammar.specs.Parse.{Parsed, parsed, stuck, parse}
 use Rattle.grammar.specs.Offends.{Offends, Leftmost, Limit, kept, passed, limits}
 use Rattle.grammar.specs.Laws.Running.{stuck-not-parsed}
 use Rattle.grammar.specs.Laws.Complete.{spelled-parsed}
 use Rattle.grammar.specs.Laws.Outside.{outside-is}
 use Rattle.grammar.specs.Laws.Limits.{limits-kept, limits-passed}
-use Rattle.expression.specs.Expression.{Drawn, root, refused, mostText, turnedAway, expression}
+use Rattle.expression.specs.Expression.{Drawn, mostText, turnedAway, expression}
 use Rattle.expression.specs.Means.{TooLong, OutsideIs, LeftmostIs}
 use Rattle.expression.specs.Laws.Comes.{Comes, long, outside, offender, many, drawn, comes, numberOf, placeOf, drawn-not-refused}
 

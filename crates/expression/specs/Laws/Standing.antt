@@ -2,10 +2,10 @@
 use mathlib.Core.Path.{_≡_, refl, sym, ap, subst, _∙_}
 use mathlib.Core.Bool.{Bool, true, false, cond}
 use mathlib.Core.Option.{Option, none, some}
-use mathlib.Core.List.{List, [], _∷_, _++_, map, reverse, reverseAux, Memᴰ·cast}
-use Prim.Native.Nat.{ℕ, zero, suc, _+_, _-_, _*_, _/_, _%_, _≤_, _<_}
+use mathlib.Core.List.{List, [], _∷_, _++_, reverse, reverseAux, Memᴰ·cast}
+use Prim.Native.Nat.{ℕ, suc, _+_, _-_, _*_, _/_, _%_, _≤_, _<_}
 use native.Mathlib.Omega.{arith}
-use borrow.Author.Tests.{eqb-true, eqb-false, eq-eqb, ne-eqb, ltb-true, ltb-false, lt-ltb, le-ltb}
+use borrow.Author.Tests.{eqb-true, eqb-false, eq-eqb, ne-eqb, ltb-true, lt-ltb}
 use lib.Dec.{eqb, ltb}
 use lib.ListN.{length, getD, replicate, length-replicate, length-map}
 use Rattle.explore.specs.Mem.{Mem, here, there, Distinct}
@@ -13,7 +13,7 @@ use Rattle.explore.specs.Explore.{Entry, IsEquality, explore, reach}
 use Rattle.explore.specs.Explore as Explore
 use Rattle.explore.specs.Laws.Mem.{mem-map}
 use Rattle.explore.specs.Laws.Expand.{expand-extends}
-use Rattle.explore.specs.Laws.Meaning.{distinct, complete, sound-word}
+use Rattle.explore.specs.Laws.Meaning.{distinct, complete}
 use Rattle.model.specs.Diagram as Diagram
 use Rattle.model.specs.Laws.Basics.{byTest}
 use Rattle.tables.specs.Limits.{mostMessages, mostPool}
@@ -21,14 +21,12 @@ use Rattle.tables.specs.Pool.{poolArcs, arcAt}
 use Rattle.tables.specs.Lookup.{finalAt}
 use Rattle.queue_order.specs.Pool.{poolOf, arcOf}
 use Rattle.queue_order.specs.Nodes.{gather}
-use Rattle.occurrences.specs.Sets.{meet, marked}
 use Rattle.occurrences.specs.Positions.{Automaton, after, move, ends}
-use Rattle.subsets.specs.States.{statesFrom, placeFrom}
+use Rattle.subsets.specs.States.{placeFrom}
 use Rattle.subsets.specs.Laws.Numbering.{nodes-are}
-use Rattle.filling.specs.Filled.{entriesFrom, arcTo, arcEntry, finalMark, poolFor}
+use Rattle.filling.specs.Filled.{arcTo, arcEntry, finalMark, poolFor}
 use Rattle.filling.specs.Laws.Entries.{entries-at}
 use Rattle.expression.specs.Expression.{states}
-use Rattle.expression.specs.Laws.Lists.{member-at, mapped-at}
 
 pub eqb-equality : IsEquality eqb
 eqb-equality x y = (eqb-true x y, eq-eqb x y)

@@ -1,17 +1,16 @@
 -- Tables that are filled entry by entry: one entry more, one row more, and what an entry then holds.
-use mathlib.Core.Path.{_≡_, refl, sym, ap, ap₂, subst, _∙_}
+use mathlib.Core.Path.{_≡_, refl, sym, ap, ap₂, _∙_}
 use mathlib.Core.Bool.{Bool, true, false, cond, not}
 use mathlib.Core.List.{List, [], _∷_}
 use Prim.Native.Nat.{ℕ, zero, suc, _+_, _-_, _*_, _/_, _%_, _≤_, _<_}
 use borrow.Author.Tests.{eq-eqb, ne-eqb, eqb-true, eqb-false}
 use native.Mathlib.Omega.{arith}
-use native.Mathlib.Nat.{add-zero, zero-add, add-sub-cancel-left, sub-zero}
-use lib.Dec.{eqb, ltb}
+use native.Mathlib.Nat.{add-zero, zero-add, add-sub-cancel-left}
+use lib.Dec.{eqb}
 use lib.ListN.{length, getD, set, length-set}
 use lib.Seq.{getD-set-same, getD-set-other}
 use lib.Bits.{bitAnd}
-use Rattle.numbers.specs.Laws.Written.{at-or-other}
-use Rattle.tables.specs.Limits.{mostMessages, mostPool}
+use Rattle.tables.specs.Limits.{mostMessages}
 use Rattle.model.specs.Laws.Basics.{byTest}
 use Rattle.occurrences.specs.Sets.{meet, marked}
 use Rattle.subsets.specs.States.{nextOf, placeFrom}

@@ -1,7 +1,6 @@
 use borrow.Author.Needs.{needs}
 use native.Mathlib.Omega.{arith}
 use Prim.Native.Nat.{_≤_, _-_}
-use mathlib.Core.Path.{subst, _∙_}
 use lib.ListN.{length}
 use Rattle.filling.specs.Laws.Entries.{FinalsFilled, finals-begin, finals-next, finals-end}
 use Rattle.filling.proofs.fill.fill_finals.Statement.{statement}

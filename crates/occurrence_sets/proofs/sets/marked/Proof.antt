@@ -1,7 +1,7 @@
 use borrow.Author.Needs.{needs}
 use native.Mathlib.Omega.{arith}
 use Prim.Native.Nat.{_≤_, _-_}
-use mathlib.Core.Path.{_≡_, refl, sym, ap, _∙_}
+use mathlib.Core.Path.{_≡_, refl, sym, _∙_}
 use Rattle.grammar.specs.Offends.{mostOccurrences}
 use Rattle.occurrences.specs.Sets.{marked, markedFrom}
 use Rattle.occurrence_sets.specs.Laws.Gathering.{marked-skip, marked-on, marked-end}

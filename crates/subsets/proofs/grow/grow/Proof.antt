@@ -1,6 +1,6 @@
 use borrow.Author.Needs.{needs}
 use native.Mathlib.Omega.{arith}
-use Prim.Native.Nat.{_+_, _≤_, _-_}
+use Prim.Native.Nat.{_+_, _-_}
 use Rattle.tables.specs.Limits.{mostPool}
 use Rattle.subsets.specs.Laws.Growing.{Finding, finding-begin, finding-next, all-found, more-found}
 use Rattle.subsets.proofs.grow.grow.Statement.{statement}

@@ -1,4 +1,4 @@
-use mathlib.Core.Path.{sym, _∙_}
+use mathlib.Core.Path.{_∙_}
 use Rattle.subsets.specs.Laws.Places.{next-start, next-set}
 use borrow.Author.Needs.{needs}
 use Rattle.subsets.proofs.next.next.Statement.{statement}
