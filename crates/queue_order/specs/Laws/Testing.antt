@@ -1,5 +1,5 @@
 -- The nodes are taken one after the other: those taken do not fail, and what is reached from all is what was reached from the first.
-use Prim.Native.Nat.{ℕ, zero, suc, _+_, _-_, _/_, _%_, _≤_, _<_}
+use Prim.Native.Nat.{ℕ, _+_, _-_, _/_, _%_, _≤_, _<_}
 use mathlib.Core.Path.{_≡_, refl, sym, ap, ap₂, _∙_}
 use mathlib.Core.Bool.{Bool, true, false}
 use mathlib.Core.Option.{none, some}
@@ -45,6 +45,29 @@ pub expand-on : (next : ℕ → List ℕ) {most k : ℕ} (done : List ℕ) (e : 
 unfolding expand
 expand-on next {most} {k} done e todo h = ap (λ i. expand (λ k. k) eqb next i done (e ∷ todo)) (one-more h)
 
+-- A FRONT of a list in two parts: the second begins with the member at the place where the first ends
+module _ (nodes done todo : List ℕ) (n k : ℕ) (within : n ≤ length nodes) (whole : take n nodes ≡ done ++ todo) (taken : length done ≡ k) where
+  pub front-many : length (done ++ todo) ≡ n
+  front-many = sym (ap length whole) ∙ length-take-le n nodes within
+
+  pub front-next : k < n → (t : List ℕ) × (todo ≡ getD nodes k 0 ∷ t)
+  front-next h = go todo refl
+    where
+      go : (l : List ℕ) → todo ≡ l → (t : List ℕ) × (todo ≡ getD nodes k 0 ∷ t)
+      go [] z = absurd (omega (arith, front-many, length-append done todo, taken, ap length z))
+      go (x ∷ t) z =
+          let place : getD nodes k 0 ≡ x =
+          sym (getD-take n nodes k 0 h) ∙ ap (λ l. getD l k 0) (whole ∙ ap (λ l. done ++ l) z) ∙ getD-at done x t 0 k taken in
+          (t, z ∙ ap (λ y. y ∷ t) (sym place))
+
+  -- nothing is left where the first part is all
+  pub front-end : n ≤ k → todo ≡ []
+  front-end h = go todo refl
+    where
+      go : (l : List ℕ) → todo ≡ l → todo ≡ []
+      go [] z = z
+      go (x ∷ t) z = absurd (omega (arith, front-many, length-append done todo, taken, ap length z))
+
 -- THE LOOP: those done are the nodes before place k, and what is reached from here is all that is reached
 pub record Testing (next : ℕ → List ℕ) (p : ℕ → Bool) (all seen nodes : List ℕ) (n k : ℕ) : Type 0 where
   pub holds : Found seen nodes n
@@ -70,30 +93,20 @@ module _ {next : ℕ → List ℕ} {p : ℕ → Bool} where
       }
 
   module _ {all seen nodes : List ℕ} {n k : ℕ} (T : Testing next p all seen nodes n k) where
-    as-many : length (T .done ++ T .todo) ≡ n
-    as-many = sym (ap length (T .whole)) ∙ length-take-le n nodes (omega (arith, found-most (T .holds), T .holds .nodesLong))
+    in-nodes : n ≤ length nodes
+    in-nodes = omega (arith, found-most (T .holds), T .holds .nodesLong)
 
     -- the node that is taken next
     next-is : k < n → (t : List ℕ) × (T .todo ≡ getD nodes k 0 ∷ t)
-    next-is h = go (T .todo) refl
-      where
-        go : (l : List ℕ) → T .todo ≡ l → (t : List ℕ) × (T .todo ≡ getD nodes k 0 ∷ t)
-        go [] z = absurd (omega (arith, as-many, length-append (T .done) (T .todo), T .taken, ap length z))
-        go (x ∷ t) z =
-            let place : getD nodes k 0 ≡ x =
-            sym (getD-take n nodes k 0 h) ∙ ap (λ l. getD l k 0) (T .whole ∙ ap (λ l. T .done ++ l) z) ∙ getD-at (T .done) x t 0 k (T .taken) in
-            (t, z ∙ ap (λ y. y ∷ t) (sym place))
+    next-is h = front-next nodes (T .done) (T .todo) n k in-nodes (T .whole) (T .taken) h
 
     -- ALL ARE TAKEN
     pub testing-end : n ≤ k → firstBy p all ≡ none
-    testing-end h = go (T .todo) refl
-      where
-        go : (l : List ℕ) → T .todo ≡ l → firstBy p all ≡ none
-        go [] z =
-            ap (firstBy p)
-            (sym (T .is) ∙ ap (expand (λ k. k) eqb next (mostNodes - k) (T .done)) z ∙ expand-nothing (λ k. k) eqb next (mostNodes - k) (T .done))
-            ∙ T .fine
-        go (x ∷ t) z = absurd (omega (arith, as-many, length-append (T .done) (T .todo), T .taken, ap length z))
+    testing-end h =
+        ap (firstBy p)
+        (sym (T .is) ∙ ap (expand (λ k. k) eqb next (mostNodes - k) (T .done)) (front-end nodes (T .done) (T .todo) n k in-nodes (T .whole) (T .taken) h)
+        ∙ expand-nothing (λ k. k) eqb next (mostNodes - k) (T .done))
+        ∙ T .fine
 
     module _ (h : k < n) where
       -- ONE FAILS

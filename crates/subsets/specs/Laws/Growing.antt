@@ -11,7 +11,7 @@ use native.Mathlib.Numerals.{add-one}
 use lib.Bits.{bitAnd}
 use lib.Dec.{eqb}
 use lib.ListN.{length, getD, set, take, length-append, length-set}
-use lib.Seq.{length-take-le, getD-take, getD-at, take-suc-set}
+use lib.Seq.{take-suc-set}
 use Rattle.tables.specs.Limits.{mostPool, mostMessages}
 use Rattle.model.specs.Laws.Basics.{byTest}
 use Rattle.explore.specs.Explore.{fresh, expand}
@@ -23,7 +23,7 @@ use Rattle.queue_order.specs.Nodes.{gather}
 use Rattle.queue_order.specs.Search.{grown}
 use Rattle.queue_order.specs.Laws.Gather.{gather-skip, gather-on, gather-end}
 use Rattle.queue_order.specs.Laws.Grown.{grown-none, grown-old, grown-new, grown-append}
-use Rattle.queue_order.specs.Laws.Testing.{expand-on}
+use Rattle.queue_order.specs.Laws.Testing.{expand-on, front-many, front-next, front-end}
 use Rattle.occurrences.specs.Sets.{meet, marked}
 use Rattle.subsets.specs.States.{nextOf, setFor, statesFrom, placeFrom}
 use Rattle.subsets.specs.Grows.{aState, Grows, FoundStates}
@@ -135,19 +135,9 @@ module _ {next : ℕ → List ℕ} where
       }
 
   module _ {all S : List ℕ} {n at : ℕ} (G : Growing next all S n at) where
-    as-many : length (G .done ++ G .todo) ≡ n
-    as-many = sym (ap length (G .whole)) ∙ length-take-le n S (G .within)
-
     -- the state that is taken next
     next-is : at < n → (t : List ℕ) × (G .todo ≡ getD S at 0 ∷ t)
-    next-is h = go (G .todo) refl
-      where
-        go : (l : List ℕ) → G .todo ≡ l → (t : List ℕ) × (G .todo ≡ getD S at 0 ∷ t)
-        go [] z = absurd (omega (arith, as-many, length-append (G .done) (G .todo), G .taken, ap length z))
-        go (x ∷ t) z =
-            let place : getD S at 0 ≡ x =
-            sym (getD-take n S at 0 h) ∙ ap (λ l. getD l at 0) (G .whole ∙ ap (λ l. G .done ++ l) z) ∙ getD-at (G .done) x t 0 at (G .taken) in
-            (t, z ∙ ap (λ y. y ∷ t) (sym place))
+    next-is h = front-next S (G .done) (G .todo) n at (G .within) (G .whole) (G .taken) h
 
     pub growing-next : {S′ : List ℕ} {n′ : ℕ} → at < n → n ≤ mostPool → Grows S n mostMessages (next (getD S at 0)) S′ n′
         → Growing next all S′ n′ (at + 1)
@@ -170,20 +160,17 @@ module _ {next : ℕ → List ℕ} where
         }
 
     pub growing-all : n ≤ at → take n S ≡ all
-    growing-all h = go (G .todo) refl
-      where
-        go : (l : List ℕ) → G .todo ≡ l → take n S ≡ all
-        go [] z =
-            G .whole ∙ ap (λ l. G .done ++ l) z ∙ append-nil (G .done)
-            ∙ sym (expand-nothing (λ k. k) eqb next (mostPool - at) (G .done))
-            ∙ ap (expand (λ k. k) eqb next (mostPool - at) (G .done)) (sym z)
-            ∙ G .is
-        go (x ∷ t) z = absurd (omega (arith, as-many, length-append (G .done) (G .todo), G .taken, ap length z))
+    growing-all h =
+        let none = front-end S (G .done) (G .todo) n at (G .within) (G .whole) (G .taken) h in
+        G .whole ∙ ap (λ l. G .done ++ l) none ∙ append-nil (G .done)
+        ∙ sym (expand-nothing (λ k. k) eqb next (mostPool - at) (G .done))
+        ∙ ap (expand (λ k. k) eqb next (mostPool - at) (G .done)) (sym none)
+        ∙ G .is
 
     pub growing-more : n ≤ length all
     growing-more =
         let more = expand-extends (λ k. k) eqb next (mostPool - at) (G .done) (G .todo) in
-        omega (arith, as-many, ap length (sym (G .is) ∙ more .1), length-append (G .done ++ G .todo) (more .0))
+        omega (arith, front-many S (G .done) (G .todo) n at (G .within) (G .whole) (G .taken), ap length (sym (G .is) ∙ more .1), length-append (G .done ++ G .todo) (more .0))
 
 -- WHAT IS FOUND, over the tables of an automaton
 pub record Finding (first : ℕ) (F L S : List ℕ) (n at : ℕ) : Type 0 where
