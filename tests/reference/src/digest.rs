@@ -1,6 +1,7 @@
 //! One number over all entries of the tables, used or not, or over all bytes of lent memory, and the lines that reading,
-//! replaying and writing are compared by.
+//! replaying, writing and diagrams from expressions are compared by.
 
+use crate::expression::{Pool, ROOT};
 use crate::read::{Refusal, Tables};
 use crate::replay::Answer;
 
@@ -21,6 +22,14 @@ impl Digest {
         for &entry in entries {
             self.add(entry);
         }
+    }
+
+    fn add_pool(&mut self, state_count: usize, finals: &[bool], arcs: &[u8]) {
+        self.add_count(state_count);
+        for &is_final in finals {
+            self.add(is_final);
+        }
+        self.add_all(arcs);
     }
 }
 
@@ -45,11 +54,7 @@ pub fn digest(tables: &Tables) -> u64 {
         ]);
         digest.add_all(&transition.messages);
     }
-    digest.add_count(tables.pool_state_count);
-    for &is_final in &tables.finals {
-        digest.add(is_final);
-    }
-    digest.add_all(&tables.arcs);
+    digest.add_pool(tables.pool_state_count, &tables.finals, &tables.arcs);
     digest.add_all(&tables.roots);
     digest.add_count(tables.bad_count);
     for entry in &tables.bad {
@@ -95,5 +100,17 @@ pub fn writing_line(reply: Result<usize, Refusal>, buffer: &[u8]) -> String {
     match reply {
         Ok(length) => format!("wrote {length} {digest}"),
         Err(refusal) => format!("{refusal} {digest}"),
+    }
+}
+
+/// `refused N at P` or `pool n R H`: the states, the root, and the digest of the pool's count, final marks and arcs.
+pub fn expression_line(reply: &Result<Pool, Refusal>) -> String {
+    match reply {
+        Err(refusal) => refusal.to_string(),
+        Ok(pool) => {
+            let mut digest = Digest(0);
+            digest.add_pool(pool.state_count, &pool.finals, &pool.arcs);
+            format!("pool {} {ROOT} {}", pool.state_count, digest.0)
+        }
     }
 }

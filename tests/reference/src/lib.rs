@@ -1,11 +1,14 @@
 //! An independent reference for Swarmbanner, written from its documents alone: reading, membership, verdicts, replays,
-//! writing, and generators of files to compare by.
+//! writing, diagrams from expressions, and generators of files to compare by.
 
 pub mod arcs;
 pub mod coverage;
 pub mod decide;
+pub mod derivatives;
 pub mod diagram;
 pub mod digest;
+pub mod endings;
+pub mod expression;
 pub mod flat;
 pub mod generate;
 pub mod long_words;

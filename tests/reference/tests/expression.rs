@@ -1,0 +1,201 @@
+//! Diagrams from expressions, against texts worked by hand from the document.
+
+use reference_checker::derivatives::State;
+use reference_checker::digest::expression_line;
+use reference_checker::endings::reached_by_words;
+use reference_checker::expression::{expression, parse, Pool};
+use reference_checker::read::Refusal;
+
+/// A state: whether it is final, and its arcs.
+type Drawn<'d> = (bool, &'d [(u8, usize)]);
+
+fn drawn(states: &[Drawn]) -> Result<Vec<State>, Refusal> {
+    let state = |&(is_final, arcs): &Drawn| State { is_final, arcs: arcs.iter().copied().collect() };
+    Ok(states.iter().map(state).collect())
+}
+
+fn refused(number: u8, place: usize) -> Result<Vec<State>, Refusal> {
+    Err(Refusal { number, place })
+}
+
+fn of(text: &str) -> Result<Vec<State>, Refusal> {
+    expression(text.as_bytes())
+}
+
+fn assert_all_refused(number: u8, texts: &[(&str, usize)]) {
+    for &(text, place) in texts {
+        assert_eq!(of(text), refused(number, place), "{text:?}");
+    }
+}
+
+#[test]
+fn the_example_of_the_document() {
+    let states: [Drawn; 4] = [
+        (false, &[(0, 1), (1, 2), (2, 3)]),
+        (false, &[(0, 1), (1, 2), (2, 3)]),
+        (false, &[(0, 1), (1, 2), (2, 3)]),
+        (true, &[]),
+    ];
+    assert_eq!(of("(0|1)* 2"), drawn(&states));
+}
+
+#[test]
+fn the_start_is_never_one_of_the_sets() {
+    assert_eq!(of("0*"), drawn(&[(true, &[(0, 1)]), (true, &[(0, 1)])]));
+    assert_eq!(of("(7)*"), drawn(&[(true, &[(7, 1)]), (true, &[(7, 1)])]));
+}
+
+#[test]
+fn nothing_but_the_empty_word() {
+    for text in ["", " ", "|", "||", "()", "()*", "(|)*", "((()|)*)*", " ( ) * "] {
+        assert_eq!(of(text), drawn(&[(true, &[])]), "{text:?}");
+    }
+}
+
+#[test]
+fn states_are_sets_of_occurrences() {
+    // 0 ends on the first and the last occurrence, 0 0 on the second.
+    assert_eq!(of("0 0|0"), drawn(&[(false, &[(0, 1)]), (true, &[(0, 2)]), (true, &[])]));
+    // The two occurrences of 1 are apart, although nothing comes after either.
+    let states: [Drawn; 5] =
+        [(false, &[(0, 1), (2, 2)]), (false, &[(1, 3)]), (false, &[(1, 4)]), (true, &[]), (true, &[])];
+    assert_eq!(of("0 1|2 1"), drawn(&states));
+    // 0 ends on the first two occurrences, and 0 0 on all three.
+    assert_eq!(of("0*0 0*"), drawn(&[(false, &[(0, 1)]), (true, &[(0, 2)]), (true, &[(0, 2)])]));
+}
+
+#[test]
+fn states_are_numbered_by_shortest_and_lowest_words() {
+    // The words 1, 5, 1 2, 5 0, 1 2 3, whatever their order in the text.
+    let states: [Drawn; 6] = [
+        (false, &[(1, 1), (5, 2)]),
+        (false, &[(2, 3)]),
+        (false, &[(0, 4)]),
+        (false, &[(3, 5)]),
+        (true, &[]),
+        (true, &[]),
+    ];
+    assert_eq!(of("5 0|1 2 3"), drawn(&states));
+    assert_eq!(of("1 2 3|5 0"), drawn(&states));
+}
+
+#[test]
+fn stars_bind_one_item_and_bars_none() {
+    assert_eq!(of("0 1*"), drawn(&[(false, &[(0, 1)]), (true, &[(1, 2)]), (true, &[(1, 2)])]));
+    assert_eq!(of("0|1 2"), drawn(&[(false, &[(0, 1), (1, 2)]), (true, &[]), (false, &[(2, 3)]), (true, &[])]));
+    assert_eq!(of("0|"), drawn(&[(true, &[(0, 1)]), (true, &[])]));
+    assert_eq!(of("0*1*2"), of("(0 *) (1*) (2)"));
+    assert_eq!(of("10 1 0"), of("10(1(0))"));
+    assert_ne!(of("10"), of("1 0"));
+}
+
+#[test]
+fn texts_outside_the_grammar() {
+    let leading_zeros = [("01", 1), ("00", 1), ("0 00", 3), ("1 01*", 3), ("(0123)", 2)];
+    let stars = [("*", 0), ("**", 0), ("0**", 2), ("0 * *", 4), ("(*0)", 1), ("0|*", 2), ("0 *0 **", 6), ("(0*)**", 5)];
+    let groups = [("(", 1), ("(0", 2), ("((0) ", 5), (")", 0), ("0)", 1), ("(0))", 3), ("( 12", 4), ("0|)", 2)];
+    let bytes =
+        [("0,1", 1), ("a", 0), ("0 1\t", 3), ("\n", 0), ("+0", 0), ("-1", 0), ("0\u{e9}", 1), ("0?", 1), ("1.", 1)];
+    for texts in [&leading_zeros[..], &stars, &groups, &bytes] {
+        assert_all_refused(19, texts);
+    }
+}
+
+#[test]
+fn numbers_from_32_on() {
+    assert_eq!(of("31").map(|states| states.len()), Ok(2));
+    assert_all_refused(5, &[("32", 0), (" 32", 1), ("0 (1|100)*", 5), ("256", 0), ("4294967296", 0), ("1 32 33", 2)]);
+    assert_all_refused(5, &[("18446744073709551616", 0), (&"9".repeat(256), 0), (&format!("1{}", "0".repeat(255)), 0)]);
+}
+
+#[test]
+fn levels_and_occurrences() {
+    let nested = |levels: usize| "(".repeat(levels) + &")".repeat(levels);
+    assert_eq!(of(&nested(8)), drawn(&[(true, &[])]));
+    assert_eq!(of(&nested(8).repeat(3)), drawn(&[(true, &[])]));
+    assert_all_refused(20, &[(&nested(9), 8), (&nested(128), 8), (&format!("0 {}", nested(9)), 10)]);
+    let in_a_row = |count: usize| vec!["3"; count].join(" ");
+    assert_eq!(of(&in_a_row(32)).map(|states| states.len()), Ok(33));
+    assert_all_refused(21, &[(&in_a_row(33), 64), (&in_a_row(128), 64), (&format!("({}|3)", in_a_row(32)), 65)]);
+}
+
+#[test]
+fn the_leftmost_offender_counts() {
+    let nested = "(".repeat(9) + &")".repeat(9);
+    let in_a_row = vec!["3"; 32].join(" ");
+    assert_all_refused(
+        5,
+        &[(&format!("32 {nested}"), 0), (&format!("32 {in_a_row} 3"), 0), (&format!("{in_a_row} 32"), 64)],
+    );
+    assert_all_refused(20, &[(&format!("{nested} 32"), 8), (&format!("{nested}{in_a_row} 3 3"), 8)]);
+    assert_all_refused(21, &[(&format!("{in_a_row} 3 32"), 64), (&format!("{in_a_row} 3 {nested}"), 64)]);
+}
+
+#[test]
+fn the_grammar_comes_before_offenders() {
+    let nested = "(".repeat(9) + &")".repeat(9);
+    let in_a_row = vec!["3"; 33].join(" ");
+    assert_all_refused(19, &[("32)", 2), (&format!("{nested})"), 18), (&format!("{in_a_row}**"), 66)]);
+    assert_all_refused(19, &[(&"(".repeat(256), 256), (&"(".repeat(9), 9), ("99 01", 4)]);
+}
+
+#[test]
+fn lengths() {
+    let spaces = |count: usize| " ".repeat(count);
+    assert_eq!(of(&spaces(256)), drawn(&[(true, &[])]));
+    assert_all_refused(18, &[(&spaces(257), 256), (&"*".repeat(257), 256), (&"(".repeat(500), 256)]);
+    assert_all_refused(19, &[(&"0".repeat(256), 1), (&(spaces(255) + "*"), 255)]);
+}
+
+#[test]
+fn states_up_to_127() {
+    // A set tells the last message, and which of the five before it were 0: 2 times 32, and the start.
+    let window = "(0|1)*0(0|1)(0|1)(0|1)(0|1)(0|1)";
+    assert_eq!(of(window).map(|states| states.len()), Ok(65));
+    // After a last 0 it tells the seventh message from the end, too: 64 and 32.
+    let longer = format!("{window}0");
+    assert_eq!(of(&longer).map(|states| states.len()), Ok(97));
+    let others = format!("{longer}|(2|3)*2(2|3)(2|3)(2|3)");
+    assert_eq!(of(&others).map(|states| states.len()), Ok(1 + 96 + 16));
+    let most = format!("{others}|(4|5)*4(4|5)(4|5)4 5");
+    assert_eq!(of(&most).map(|states| states.len()), Ok(127));
+    assert_eq!(of(&format!("{others}|(4|5)*4(4|5)(4|5)(4|5)")), refused(22, 0));
+    assert_eq!(of(&format!("{window}(0|1)")), refused(22, 0));
+}
+
+#[test]
+fn words_tell_other_states() {
+    let text = b"(0|1)* 2";
+    let alternatives = parse(text).expect("a text of the grammar");
+    let right = expression(text).expect("a pool");
+    assert_eq!(reached_by_words(&right, &alternatives, 3), Ok(4));
+    let wrong = |change: &dyn Fn(&mut Vec<State>)| {
+        let mut states = right.clone();
+        change(&mut states);
+        reached_by_words(&states, &alternatives, 3)
+    };
+    assert!(wrong(&|states| states[1].is_final = true).is_err());
+    assert!(wrong(&|states| states[1].arcs.extend([(0, 2)])).is_err());
+    assert!(wrong(&|states| states[3].arcs.extend([(5, 0)])).is_err());
+    assert!(wrong(&|states| states[2].arcs.clear()).is_err());
+}
+
+/// H over the entries in turn, by the formula of the page.
+fn digest(entries: &[u8]) -> u64 {
+    entries.iter().fold(0, |h: u64, &entry| (h * 257 + u64::from(entry) + 1) % 16_777_213)
+}
+
+#[test]
+fn lines_have_the_states_the_root_and_the_digest_of_the_pool() {
+    let line = |text: &str| expression_line(&of(text).map(|states| Pool::of(&states)));
+    let mut entries = vec![0; 1 + 127 + 4_064];
+    entries[0] = 1;
+    entries[1] = 1;
+    assert_eq!(line(""), format!("pool 1 0 {}", digest(&entries)));
+    entries[0] = 2;
+    entries[2] = 1;
+    entries[128 + 5] = 2;
+    entries[128 + 32 + 5] = 2;
+    assert_eq!(line("5*"), format!("pool 2 0 {}", digest(&entries)));
+    assert_eq!(line("(5"), "refused 19 at 2");
+}
