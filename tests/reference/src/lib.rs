@@ -16,6 +16,7 @@ pub mod membership;
 pub mod order;
 pub mod order_features;
 pub mod order_traps;
+pub mod positions;
 pub mod random;
 pub mod read;
 pub mod replay;

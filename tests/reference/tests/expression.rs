@@ -4,6 +4,7 @@ use reference_checker::derivatives::State;
 use reference_checker::digest::expression_line;
 use reference_checker::endings::reached_by_words;
 use reference_checker::expression::{expression, parse, Pool};
+use reference_checker::positions::pool_of;
 use reference_checker::read::Refusal;
 
 /// A state: whether it is final, and its arcs.
@@ -18,8 +19,11 @@ fn refused(number: u8, place: usize) -> Result<Vec<State>, Refusal> {
     Err(Refusal { number, place })
 }
 
+/// By derivatives, and the same by positions.
 fn of(text: &str) -> Result<Vec<State>, Refusal> {
-    expression(text.as_bytes())
+    let reply = expression(text.as_bytes());
+    assert_eq!(pool_of(text.as_bytes()), reply.clone().map(|states| Pool::of(&states)), "{text:?}");
+    reply
 }
 
 fn assert_all_refused(number: u8, texts: &[(&str, usize)]) {
