@@ -4,6 +4,7 @@ use reference_checker::derivatives::State;
 use reference_checker::digest::expression_line;
 use reference_checker::endings::reached_by_words;
 use reference_checker::expression::{expression, parse, Pool};
+use reference_checker::expression_traps::{expression_with, ExpressionTrap};
 use reference_checker::positions::pool_of;
 use reference_checker::read::Refusal;
 
@@ -182,6 +183,33 @@ fn words_tell_other_states() {
     assert!(wrong(&|states| states[1].arcs.extend([(0, 2)])).is_err());
     assert!(wrong(&|states| states[3].arcs.extend([(5, 0)])).is_err());
     assert!(wrong(&|states| states[2].arcs.clear()).is_err());
+}
+
+#[test]
+fn mistakes_change_what_is_worked_by_hand() {
+    let nine = "(".repeat(9) + &")".repeat(9);
+    let twos = |count: usize| vec!["2"; count].join(" ");
+    let told = [
+        (ExpressionTrap::StarTwice, "0**"),
+        (ExpressionTrap::EmptyAlternativeRefused, "0|"),
+        (ExpressionTrap::NinthLevelTaken, &nine),
+        (ExpressionTrap::ThirtyThirdTaken, &twos(33)),
+        (ExpressionTrap::TwentyOneBeforeFive, &(twos(32) + " 32")),
+        (ExpressionTrap::LostFromFirst, "(0|1)*"),
+        (ExpressionTrap::LostFromLast, "(0|1)*"),
+        (ExpressionTrap::MessagesDescending, "0|1 2"),
+        (ExpressionTrap::StartMerged, "0*"),
+        (ExpressionTrap::Minimised, "0*"),
+        (ExpressionTrap::LeadingZeroTaken, "01"),
+        (ExpressionTrap::SpacesInNumbers, "1 2"),
+        (ExpressionTrap::NoSpaceBeforeStar, "0 *"),
+        (ExpressionTrap::UnclosedAtFirstBracket, "0(1"),
+    ];
+    for (trap, text) in told {
+        let text = text.as_bytes();
+        assert_eq!(expression_with(text, None), expression(text));
+        assert_ne!(expression_with(text, Some(trap)), expression(text), "{trap:?}");
+    }
 }
 
 /// H over the entries in turn, by the formula of the page.
