@@ -1,9 +1,14 @@
-//! What the generated files, questions, replays and writings hit: rows, boundaries, verdicts, ends, damage, and mistakes they
-//! would tell.
+//! What the generated files, questions, replays, writings and texts hit: rows, boundaries, verdicts, ends, damage, and mistakes
+//! they would tell.
 
 use std::collections::{BTreeMap, BTreeSet};
 
+use crate::derivatives::State;
+use crate::expression::{expression, Pool};
+use crate::expression_features;
+use crate::expression_traps::{expression_with, ExpressionTrap};
 use crate::generate::draft::Role;
+use crate::generate::expression as texts;
 use crate::generate::membership::{Purpose, ABOUT_ORDER};
 use crate::generate::reading::{Expected, Generator};
 use crate::generate::replay as replays;
@@ -13,6 +18,7 @@ use crate::generate::writing as writings;
 use crate::long_words::{self, has_long_word};
 use crate::membership::{membership, membership_line};
 use crate::order_features::{self, OrderHits};
+use crate::positions::pool_of;
 use crate::read::{read, Kind, Refusal, Tables, WORD_LENGTH};
 use crate::replay::{replay, Answer};
 use crate::replay_features;
@@ -485,4 +491,88 @@ pub fn writing_coverage(cases: &[writings::Case]) -> Coverage {
         report += &format!("writings whose line would change by {trap:?}: {count}\n");
     }
     Coverage { report, complaints }
+}
+
+/// Each mistake changes the line of at least this many texts.
+const ENOUGH_TEXTS_TOLD: usize = 20;
+
+fn is_text_as_made(expected: texts::Expected, reply: &Result<Vec<State>, Refusal>) -> bool {
+    match (expected, reply) {
+        (texts::Expected::Open, _) | (texts::Expected::WithinLimits, Ok(_)) => true,
+        (texts::Expected::WithinLimits, Err(refusal)) => *refusal == Refusal { number: 22, place: 0 },
+        (texts::Expected::States(count), Ok(states)) => states.len() == count,
+        (texts::Expected::Refused(number, place), Err(refusal)) => *refusal == Refusal { number, place },
+        _ => false,
+    }
+}
+
+/// What the texts hit.
+struct TextHits<'c> {
+    kinds: BTreeMap<&'c str, usize>,
+    features: BTreeMap<String, usize>,
+    told: BTreeMap<ExpressionTrap, usize>,
+}
+
+pub fn expression_coverage(cases: &[texts::Case]) -> Coverage {
+    let mut hits = TextHits {
+        kinds: BTreeMap::new(),
+        features: expression_features::asked().into_keys().map(|feature| (feature, 0)).collect(),
+        told: BTreeMap::from(ExpressionTrap::ALL.map(|trap| (trap, 0))),
+    };
+    let mut complaints: Vec<String> = cases.iter().flat_map(|case| hits.add(case)).collect();
+    complaints.extend(hits.complaints());
+    let bytes: usize = cases.iter().map(|case| case.text.len()).sum();
+    Coverage { report: format!("{} texts, {bytes} bytes\n{}", cases.len(), hits.report()), complaints }
+}
+
+impl<'c> TextHits<'c> {
+    /// Counts what a text hits, and returns where its replies are not one, or not the one it was made for.
+    fn add(&mut self, case: &'c texts::Case) -> Vec<String> {
+        let text = &case.text;
+        let reply = expression(text);
+        *self.kinds.entry(case.kind).or_default() += 1;
+        for feature in expression_features::features(text, &reply) {
+            self.features.entry(feature).and_modify(|count| *count += 1);
+        }
+        for (&trap, count) in &mut self.told {
+            *count += usize::from(expression_with(text, Some(trap)) != reply);
+        }
+        let by_positions = pool_of(text);
+        let pool = reply.as_ref().map(|states| Pool::of(states)).map_err(|refusal| *refusal);
+        let wrong = [
+            (format!("not {:?}", case.expected), !is_text_as_made(case.expected, &reply)),
+            ("otherwise by positions".to_string(), by_positions != pool),
+            ("otherwise by tokens".to_string(), expression_with(text, None) != reply),
+        ];
+        let complain = |what: String| format!("{}, \"{}\": {reply:?}, {what}", case.kind, text.escape_ascii());
+        wrong.into_iter().filter(|(_, is_wrong)| *is_wrong).map(|(what, _)| complain(what)).collect()
+    }
+
+    fn complaints(&self) -> Vec<String> {
+        let mut complaints = Vec::new();
+        for (feature, enough) in expression_features::asked() {
+            let count = self.features[&feature];
+            if count < enough {
+                complaints.push(format!("only {count} texts have: {feature}"));
+            }
+        }
+        for (trap, count) in self.told.iter().filter(|(_, &count)| count < ENOUGH_TEXTS_TOLD) {
+            complaints.push(format!("only {count} texts tell {trap:?}"));
+        }
+        complaints
+    }
+
+    fn report(&self) -> String {
+        let mut report = String::new();
+        for (kind, count) in &self.kinds {
+            report += &format!("made as {kind}: {count}\n");
+        }
+        for (feature, count) in &self.features {
+            report += &format!("{feature}: {count}\n");
+        }
+        for (trap, count) in &self.told {
+            report += &format!("texts whose line would change by {trap:?}: {count}\n");
+        }
+        report
+    }
 }

@@ -9,6 +9,7 @@ pub mod diagram;
 pub mod digest;
 pub mod endings;
 pub mod expression;
+pub mod expression_features;
 pub mod expression_traps;
 pub mod flat;
 pub mod generate;

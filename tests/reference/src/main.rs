@@ -1,14 +1,17 @@
-//! Streams of files, questions, replays and writings, and the lines that answer them.
+//! Streams of files, questions, replays, writings and texts, and the lines that answer them.
 
 use std::cell::Cell;
 use std::io::{self, BufWriter, Read, Write};
 use std::process::ExitCode;
 
 use reference_checker::coverage::{
-    membership_coverage, reading_coverage, replay_coverage, verdict_coverage, writing_coverage, Coverage,
+    expression_coverage, membership_coverage, reading_coverage, replay_coverage, verdict_coverage, writing_coverage,
+    Coverage,
 };
 use reference_checker::decide::{decide, TooLarge};
-use reference_checker::digest::{reading_line, replay_line, writing_line};
+use reference_checker::digest::{expression_line, reading_line, replay_line, writing_line};
+use reference_checker::expression::{expression, Pool};
+use reference_checker::generate::expression::expression_cases;
 use reference_checker::generate::large::longest;
 use reference_checker::generate::membership::questions;
 use reference_checker::generate::reading::reading_cases;
@@ -19,7 +22,7 @@ use reference_checker::membership::{membership, membership_line};
 use reference_checker::random::Random;
 use reference_checker::read::read;
 use reference_checker::replay::replay;
-use reference_checker::selftest::{selftest, selftest_order, selftest_writing, Agreement};
+use reference_checker::selftest::{selftest, selftest_expression, selftest_order, selftest_writing, Agreement};
 use reference_checker::stream::{put_file, put_question, put_replay, put_writing, Question, Records};
 use reference_checker::verdict::{line, Reply};
 use reference_checker::walk::{check, Scratch};
@@ -45,7 +48,10 @@ usage: reference COMMAND
   generate-writing       write the stream of writings
   writing                answer such a stream on standard input, one line a writing
   coverage-writing       say what that stream hits, and which mistakes it would tell
-  selftest SEED COUNT    compare all ways to the verdict, to row 9, and to 16, on random small files
+  generate-expression    write the stream of texts
+  expression             answer such a stream on standard input, one line a text
+  coverage-expression    say what that stream hits, and which mistakes it would tell
+  selftest SEED COUNT    compare all ways to the verdict, to row 9, to 16, and from a text to a pool, on random input
   check                  check one file on standard input, by walking
   maximal                write the longest file that is read";
 
@@ -115,6 +121,15 @@ fn run(arguments: &[String]) -> Result<(), String> {
         }
         ["writing"] => answer_writings(),
         ["coverage-writing"] => tell(writing_coverage(&writing_cases(SEED))),
+        ["generate-expression"] => {
+            let mut stream = Vec::new();
+            for case in expression_cases(SEED) {
+                put_file(&mut stream, &case.text);
+            }
+            write(&stream)
+        }
+        ["expression"] => answer_files(|text| expression_line(&expression(text).map(|states| Pool::of(&states)))),
+        ["coverage-expression"] => tell(expression_coverage(&expression_cases(SEED))),
         ["check"] => {
             let file = standard_input()?;
             println!("{}", line(&check(&file, &mut Scratch::default())));
@@ -131,7 +146,13 @@ fn run(arguments: &[String]) -> Result<(), String> {
             let of_writing = selftest_writing(seed, count);
             println!("tables: {} of a file, {} of none", of_writing.of_a_file, of_writing.of_none);
             println!("disagreements: {}", of_writing.disagreements.len());
-            fail_on(&[agreement.disagreements, of_order.disagreements, of_writing.disagreements].concat())
+            let of_texts = selftest_expression(seed, count);
+            let (by_words, all_reached) = (of_texts.by_words, of_texts.all_reached);
+            println!("texts: {} pools, {} refused", of_texts.pools, of_texts.refused);
+            println!("pools by words: {by_words}, {all_reached} of them with all states reached");
+            println!("disagreements: {}", of_texts.disagreements.len());
+            let others = [of_writing.disagreements, of_texts.disagreements].concat();
+            fail_on(&[agreement.disagreements, of_order.disagreements, others].concat())
         }
         _ => Err(USAGE.to_string()),
     }

@@ -1,15 +1,21 @@
-//! The ways to a verdict, those to row 9, and those to a file from tables, against each other on random small files.
+//! The ways to a verdict, those to row 9, and those to a file from tables, against each other on random small files; and those
+//! from a text to a pool, on random texts.
 
 use std::collections::BTreeMap;
 
 use crate::decide::{confirm, decide};
+use crate::endings::{count as count_occurrences, reached_by_words};
+use crate::expression::{expression, parse, Pool};
+use crate::expression_traps::expression_with;
 use crate::flat::Flat;
+use crate::generate::expression::random_texts;
 use crate::generate::reading::Generator;
 use crate::generate::verdicts::Plans;
 use crate::generate::writing::random_writings;
 use crate::long_words::has_long_word;
 use crate::order::{in_queue_order, in_queue_order_by_words};
 use crate::order_traps::read_with;
+use crate::positions::pool_of;
 use crate::read::{read, read_asking, Refusal};
 use crate::traps::verdict_with;
 use crate::verdict::{line, Verdict};
@@ -124,6 +130,52 @@ pub fn selftest_writing(seed: u64, count: usize) -> WritingAgreement {
         match reply {
             Err(Refusal { number: NO_FILE, .. }) => agreement.of_none += 1,
             _ => agreement.of_a_file += 1,
+        }
+    }
+    agreement
+}
+
+#[derive(Default)]
+pub struct ExpressionAgreement {
+    pub pools: usize,
+    pub refused: usize,
+    /// Pools that words were made for one by one, and those of them all states of which were reached so.
+    pub by_words: usize,
+    pub all_reached: usize,
+    pub disagreements: Vec<String>,
+}
+
+/// Words are made one by one for texts of up to so many occurrences, and are of up to so many messages.
+const FEW_OCCURRENCES: usize = 3;
+const MESSAGES_OF_WORDS: usize = 5;
+
+/// Pools by derivatives, by positions, and by tokens; for small texts by the words of the language, too.
+pub fn selftest_expression(seed: u64, count: usize) -> ExpressionAgreement {
+    let mut agreement = ExpressionAgreement::default();
+    for text in random_texts(seed, count) {
+        let reply = expression(&text);
+        let mut disagree = |with: &str| {
+            let text = text.escape_ascii();
+            agreement.disagreements.push(format!("derivatives: {reply:?}; {with}; text \"{text}\""));
+        };
+        if pool_of(&text) != reply.clone().map(|states| Pool::of(&states)) {
+            disagree("otherwise by positions");
+        }
+        if expression_with(&text, None) != reply {
+            disagree("otherwise by tokens");
+        }
+        let Ok(states) = &reply else {
+            agreement.refused += 1;
+            continue;
+        };
+        agreement.pools += 1;
+        let alternatives = parse(&text).expect("a text of the grammar");
+        if count_occurrences(&alternatives) <= FEW_OCCURRENCES {
+            agreement.by_words += 1;
+            match reached_by_words(states, &alternatives, MESSAGES_OF_WORDS) {
+                Ok(reached) => agreement.all_reached += usize::from(reached == states.len()),
+                Err(wrong) => disagree(&wrong),
+            }
         }
     }
     agreement

@@ -1,4 +1,4 @@
-//! Records of files, questions, replays and writings, one after the other in one run of bytes.
+//! Records of files, questions, replays and writings, one after the other in one run of bytes. Texts are put like files.
 
 use crate::flat::{Flat, SPACE};
 use crate::read::read;

@@ -1,12 +1,18 @@
-//! Diagrams from expressions, against texts worked by hand from the document.
+//! Diagrams from expressions, against texts worked by hand from the document, and against every short text and word.
 
+use std::collections::BTreeMap;
+
+use reference_checker::coverage::expression_coverage;
 use reference_checker::derivatives::State;
 use reference_checker::digest::expression_line;
 use reference_checker::endings::reached_by_words;
-use reference_checker::expression::{expression, parse, Pool};
+use reference_checker::expression::{expression, parse, within_limits, Pool};
 use reference_checker::expression_traps::{expression_with, ExpressionTrap};
+use reference_checker::generate::expression::{expression_cases, texts_of_signs};
 use reference_checker::positions::pool_of;
 use reference_checker::read::Refusal;
+use reference_checker::selftest::selftest_expression;
+use reference_checker::stream::put_file;
 
 /// A state: whether it is final, and its arcs.
 type Drawn<'d> = (bool, &'d [(u8, usize)]);
@@ -168,6 +174,87 @@ fn states_up_to_127() {
     assert_eq!(of(&format!("{window}(0|1)")), refused(22, 0));
 }
 
+/// Whether a text is in the grammar, by rewriting: a number and a group in brackets become `n`, an item with its star `s`.
+fn is_in_grammar(text: &[u8]) -> bool {
+    let mut text: String = text.iter().map(|&byte| char::from(byte)).collect();
+    let mut runs = text.split(|sign: char| !sign.is_ascii_digit());
+    if runs.any(|run| run.len() > 1 && run.starts_with('0')) || text.contains(|sign| !"0123456789()|* ".contains(sign))
+    {
+        return false;
+    }
+    text = text.replace(|sign: char| sign.is_ascii_digit(), "d");
+    while text.contains("dd") {
+        text = text.replace("dd", "d");
+    }
+    text = text.replace(' ', "").replace('d', "n");
+    loop {
+        text = text.replace("n*", "s");
+        let Some(close) = text.find(')') else { break };
+        let Some(open) = text[..close].rfind('(') else { return false };
+        if text[open + 1..close].contains('*') {
+            return false;
+        }
+        text.replace_range(open..=close, "n");
+    }
+    !text.contains(['(', '*'])
+}
+
+/// Whether some text of the grammar begins so, by trying what can come behind: up to one sign, and then closing brackets.
+fn is_beginning(text: &[u8]) -> bool {
+    let count = |sign: u8| text.iter().filter(|&&byte| byte == sign).count();
+    let open = count(b'(').saturating_sub(count(b')'));
+    let closes = open.saturating_sub(2)..=open + 2;
+    closes.into_iter().any(|closed| {
+        texts_of_signs(1).iter().any(|sign| is_in_grammar(&[text, &sign[..], &vec![b')'; closed]].concat()))
+    })
+}
+
+#[test]
+fn short_texts_are_in_the_grammar_as_rewriting_says() {
+    for text in texts_of_signs(6) {
+        assert_eq!(parse(&text).is_ok(), is_in_grammar(&text), "{:?}", text.escape_ascii());
+    }
+}
+
+#[test]
+fn places_of_19_are_the_longest_beginnings_of_all_short_texts() {
+    let texts = texts_of_signs(5);
+    let is_beginning: BTreeMap<&[u8], bool> = texts.iter().map(|text| (&text[..], is_beginning(text))).collect();
+    for text in &texts {
+        let longest = (0..=text.len()).rev().find(|&end| is_beginning[&text[..end]]);
+        assert!(longest.is_some());
+        if let Err(place) = parse(text) {
+            assert_eq!(Some(place), longest, "{:?}", text.escape_ascii());
+        }
+    }
+}
+
+#[test]
+fn places_of_19_are_the_longest_beginnings_of_generated_texts() {
+    for case in expression_cases(4).into_iter().filter(|case| case.text.len() > 5) {
+        let text = case.text;
+        if let Err(Refusal { number: 19, place }) = expression(&text) {
+            let is_longest = place == text.len() || !is_beginning(&text[..=place]);
+            assert!(is_beginning(&text[..place]) && is_longest, "{:?}", text.escape_ascii());
+            assert!(!is_in_grammar(&text));
+        }
+    }
+}
+
+#[test]
+fn short_texts_have_the_states_that_words_reach() {
+    for text in texts_of_signs(6) {
+        let reply = expression(&text);
+        assert_eq!(pool_of(&text), reply.clone().map(|states| Pool::of(&states)));
+        assert_eq!(expression_with(&text, None), reply);
+        if let Ok(states) = reply {
+            let alternatives = within_limits(&text).expect("a pool");
+            let reached = reached_by_words(&states, &alternatives, 4);
+            assert_eq!(reached, Ok(states.len()), "{:?}", text.escape_ascii());
+        }
+    }
+}
+
 #[test]
 fn words_tell_other_states() {
     let text = b"(0|1)* 2";
@@ -230,4 +317,26 @@ fn lines_have_the_states_the_root_and_the_digest_of_the_pool() {
     entries[128 + 32 + 5] = 2;
     assert_eq!(line("5*"), format!("pool 2 0 {}", digest(&entries)));
     assert_eq!(line("(5"), "refused 19 at 2");
+}
+
+#[test]
+fn texts_are_put_like_files() {
+    let mut stream = Vec::new();
+    put_file(&mut stream, b"(0|1)* 2");
+    put_file(&mut stream, b"");
+    assert_eq!(stream, b"\x08\0\0(0|1)* 2\0\0\0");
+}
+
+#[test]
+fn all_ways_agree_on_random_texts() {
+    let agreement = selftest_expression(3, 6_000);
+    assert!(agreement.disagreements.is_empty(), "{}", agreement.disagreements.join("\n"));
+    assert!(agreement.pools > 3_000 && agreement.refused > 1_000);
+    assert!(agreement.all_reached > 1_000 && agreement.all_reached == agreement.by_words);
+}
+
+#[test]
+fn generated_texts_fare_as_they_were_made() {
+    let coverage = expression_coverage(&expression_cases(5));
+    assert!(coverage.complaints.is_empty(), "{}", coverage.complaints.join("\n"));
 }

@@ -1,9 +1,14 @@
-//! Seeded generators of files, questions, replays and writings. The same seed gives the same stream.
+//! Seeded generators of files, questions, replays, writings and texts. The same seed gives the same stream.
 
 mod damage;
 pub mod disorder;
 pub mod document;
 pub mod draft;
+pub mod expression;
+pub mod expression_draft;
+pub mod expression_faults;
+mod expression_limits;
+mod expression_states;
 pub mod large;
 mod limits;
 mod long;
