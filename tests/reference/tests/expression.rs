@@ -12,7 +12,7 @@ use reference_checker::generate::expression::{expression_cases, texts_of_signs};
 use reference_checker::positions::pool_of;
 use reference_checker::read::Refusal;
 use reference_checker::selftest::selftest_expression;
-use reference_checker::stream::put_file;
+use reference_checker::stream::{put_file, Records};
 
 /// A state: whether it is final, and its arcs.
 type Drawn<'d> = (bool, &'d [(u8, usize)]);
@@ -325,6 +325,20 @@ fn texts_are_put_like_files() {
     put_file(&mut stream, b"(0|1)* 2");
     put_file(&mut stream, b"");
     assert_eq!(stream, b"\x08\0\0(0|1)* 2\0\0\0");
+}
+
+#[test]
+fn kept_texts_have_the_same_pools_by_positions() {
+    let stream = std::fs::read(concat!(env!("CARGO_MANIFEST_DIR"), "/../../crates/vectors_expression/stdin"))
+        .expect("the stream is kept");
+    let mut records = Records(&stream);
+    let mut count = 0;
+    while let Some(text) = records.file() {
+        let text = text.expect("a whole record");
+        assert_eq!(pool_of(text), expression(text).map(|states| Pool::of(&states)), "{:?}", text.escape_ascii());
+        count += 1;
+    }
+    assert!(count > 20_000);
 }
 
 #[test]
