@@ -133,8 +133,8 @@ impl Texts {
 
     /// Of 255 and 256 bytes, and wrong at the end.
     fn as_long_as_can_be(&mut self) {
-        for round in 0..120 {
-            let length = LONGEST_TEXT - round % 2;
+        for round in 0..180 {
+            let length = LONGEST_TEXT - round / 6 % 2;
             let mut draft = self.grow(1, 20);
             draft.pad(&mut self.random, length - 2);
             let text = draft.text();

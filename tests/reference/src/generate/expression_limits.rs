@@ -245,7 +245,7 @@ impl Texts {
 
     /// 22 comes last.
     fn of_offenders_with_many_states(&mut self) {
-        for round in 0..60 {
+        for round in 0..90 {
             let mut tokens = self.window(6);
             let offender = self.with_offender(Offender::ALL[round % 3]);
             match round % 2 {
