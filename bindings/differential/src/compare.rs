@@ -1,4 +1,4 @@
-//! One file: all five calls, with lengths and dirt chosen for it, beside the reference.
+//! One file and one text: all six calls, with lengths and dirt chosen for them, beside the reference.
 
 use reference_checker::membership::membership;
 use reference_checker::random::Random;
@@ -9,9 +9,11 @@ use reference_checker::walk::{check_tables, Scratch};
 use swarmbanner::lent::{self, CONTENTS_LEAST, QUEUE_LEAST, RECORD_LEAST, REPLY_LEAST, SPACE_LEAST, TABLE_LEAST};
 use swarmbanner::{Checker, Replayer};
 
+use crate::drawing::Drawer;
 use crate::flat::flat;
 use crate::lend::Lent;
 use crate::tally::Tally;
+use crate::texts::text;
 use crate::traces::trace;
 use crate::typed::{same_run, same_session};
 use crate::writing::Writer;
@@ -23,7 +25,7 @@ pub const MEMORY_MOST: usize = 2 * QUEUES * QUEUE_LEAST;
 /// More of a trace is not shown in a complaint.
 const TRACE_SHOWN: usize = 400;
 /// One file in so many goes through the typed calls as well.
-const TYPED: usize = 4;
+pub const TYPED: usize = 4;
 
 pub struct Comparer {
     space: Lent<u8>,
@@ -36,6 +38,7 @@ pub struct Comparer {
     checker: Checker,
     replayer: Replayer,
     writer: Writer,
+    drawer: Drawer,
     scratch: Scratch,
     pub tally: Tally,
 }
@@ -111,12 +114,13 @@ impl Comparer {
             checker: Checker::new(),
             replayer: Replayer::new(),
             writer: Writer::new(&mut random),
+            drawer: Drawer::new(&mut random),
             scratch: Scratch::default(),
             tally: Tally::default(),
         }
     }
 
-    /// Every call on a file; `check` is left out for files that take too long.
+    /// Every call on a file, and a text to draw; `check` is left out for files that take too long.
     pub fn compare(&mut self, file: &[u8], random: &mut Random, checks: bool) -> Result<(), String> {
         let tables = read(file);
         self.compare_reading(file, &tables, random)?;
@@ -142,7 +146,11 @@ impl Comparer {
                 self.compare_typed_checking(file, &reply)?;
             }
         }
-        Ok(())
+        self.compare_drawing(&text(random), random)
+    }
+
+    pub fn compare_drawing(&mut self, text: &[u8], random: &mut Random) -> Result<(), String> {
+        self.drawer.compare(text, random, &mut self.tally)
     }
 
     /// What the call put into the front of `reply`, and that the rest is as it was.

@@ -1,11 +1,13 @@
-//! The library that C calls, beside the reference, on generated and damaged files.
+//! The library that C calls, beside the reference, on generated and damaged files and texts.
 
 mod compare;
 mod damage;
+mod drawing;
 mod files;
 mod flat;
 mod lend;
 mod tally;
+mod texts;
 mod traces;
 mod typed;
 mod write;
@@ -17,6 +19,7 @@ use std::sync::Mutex;
 use std::thread;
 use std::time::{Duration, Instant};
 
+use reference_checker::generate::expression::expression_cases;
 use reference_checker::generate::reading::reading_cases;
 use reference_checker::generate::replay::replay_cases;
 use reference_checker::generate::verdicts::verdict_cases;
@@ -118,7 +121,8 @@ impl Run {
         comparer.tally
     }
 
-    /// The files that the reference keeps: at every boundary, of every verdict, and for every end of a replay. Returns how many.
+    /// What the reference keeps: files at every boundary, of every verdict, and for every end of a replay, and texts. Returns how
+    /// many.
     fn kept(&self, comparer: &mut Comparer) -> usize {
         let seed = self.options.seed;
         let mut random = Random::new(seed);
@@ -132,7 +136,18 @@ impl Run {
             }
             count += 1;
         }
-        count + self.replays(comparer, seed, &mut random, "kept replay")
+        count + self.replays(comparer, seed, &mut random, "kept replay") + self.texts(comparer, &mut random)
+    }
+
+    /// The texts that the reference makes from a seed. Returns how many.
+    fn texts(&self, comparer: &mut Comparer, random: &mut Random) -> usize {
+        let cases = expression_cases(self.options.seed);
+        for case in &cases {
+            if let Err(why) = comparer.compare_drawing(&case.text, random) {
+                self.complain(&format!("kept text, {}", case.kind), &case.text, &why);
+            }
+        }
+        cases.len()
     }
 
     /// The replays that the reference makes from a seed: of every end, some of them long. Returns how many.

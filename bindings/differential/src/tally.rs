@@ -2,7 +2,8 @@
 
 use std::collections::BTreeMap;
 
-use reference_checker::read::{read, Kind, Tables, Transition, WORD_LENGTH};
+use reference_checker::expression::Pool;
+use reference_checker::read::{read, Kind, Refusal, Tables, Transition, POOL_STATES, WORD_LENGTH};
 use reference_checker::replay::{Answer, Reply as Replayed, QUEUE_ROOM};
 use reference_checker::verdict::{Reply, Verdict};
 
@@ -13,6 +14,8 @@ pub struct Tally {
     counts: BTreeMap<String, u64>,
     longest_shown: usize,
     most_steps: usize,
+    /// Diagrams of as many states as there can be.
+    full_pools: u64,
     /// Words of each length in files that were read.
     words: [u64; WORD_LENGTH + 1],
 }
@@ -25,6 +28,16 @@ const REPLAYED: [&str; 5] =
     ["replay: end", "replay: outside", "replay: trace refused 1", "replay: memory refused 2", "replay: no room"];
 const WRITTEN: [&str; 5] =
     ["write: written", "write: damaged and written", "write: refused 16", "write: refused 17", "write: no room"];
+const DRAWN: [&str; 8] = [
+    "draw: drawn",
+    "draw: refused 5",
+    "draw: refused 18",
+    "draw: refused 19",
+    "draw: refused 20",
+    "draw: refused 21",
+    "draw: refused 22",
+    "draw: no room",
+];
 const QUEUES_MET: [&str; 2] = ["replay: a queue goes round its bytes", "replay: a queue is full"];
 const LEFT: [&str; 2] = ["check: leaves by sending a longest word", "check: leaves by receiving a longest word"];
 
@@ -89,6 +102,16 @@ impl Tally {
         }
     }
 
+    pub fn count_drawn(&mut self, reply: &Result<Pool, Refusal>) {
+        match reply {
+            Ok(pool) => {
+                self.full_pools += u64::from(pool.state_count == POOL_STATES);
+                self.count("draw: drawn");
+            }
+            Err(refusal) => self.count(&format!("draw: refused {}", refusal.number)),
+        }
+    }
+
     pub fn count_words(&mut self, transitions: &[Transition]) {
         for transition in transitions.iter().filter(|transition| transition.kind != Kind::Local) {
             self.words[usize::from(transition.length)] += 1;
@@ -111,6 +134,7 @@ impl Tally {
         }
         self.longest_shown = self.longest_shown.max(other.longest_shown);
         self.most_steps = self.most_steps.max(other.most_steps);
+        self.full_pools += other.full_pools;
         for (count, more) in self.words.iter_mut().zip(other.words) {
             *count += more;
         }
@@ -125,8 +149,8 @@ impl Tally {
         let member = refused_files.into_iter().chain(11..=13).map(|number| format!("member: refused {number}"));
         let files = refused_files.map(|number| format!("replay: file refused {number}"));
         let steps = [3, 4, 5, 14, 15].map(|number| format!("replay: step refused {number}"));
-        let fixed =
-            DEMANDED.into_iter().chain(REPLAYED).chain(WRITTEN).chain(QUEUES_MET).chain(LEFT).map(str::to_string);
+        let met = DEMANDED.into_iter().chain(REPLAYED).chain(WRITTEN).chain(DRAWN);
+        let fixed = met.chain(QUEUES_MET).chain(LEFT).map(str::to_string);
         let demanded = fixed.chain(verdicts).chain(read).chain(check).chain(member).chain(files).chain(steps);
         let lengths = self.words.iter().zip(0..).filter(|(&count, _)| count == 0);
         let words = lengths.map(|(_, length)| format!("a word of length {length}"));
@@ -135,7 +159,7 @@ impl Tally {
 
     pub fn report(&self) -> String {
         let mut report = String::new();
-        for call in ["read", "member", "check", "replay", "write"] {
+        for call in ["read", "member", "check", "replay", "write", "draw"] {
             let of_call = self.counts.iter().filter_map(|(what, count)| {
                 let name = what.strip_prefix(call)?.strip_prefix(": ")?;
                 Some(format!("{name} {count}"))
@@ -144,8 +168,9 @@ impl Tally {
         }
         let words = self.words.map(|count| count.to_string()).join(" ");
         report += &format!("  words read, by length from 0: {words}\n");
-        let (longest, most) = (self.longest_shown, self.most_steps);
-        report + &format!("  longest contents shown: {longest} messages; longest replay: {most} steps\n")
+        let (longest, most, full) = (self.longest_shown, self.most_steps, self.full_pools);
+        report += &format!("  longest contents shown: {longest} messages; longest replay: {most} steps\n");
+        report + &format!("  diagrams of {POOL_STATES} states: {full}\n")
     }
 }
 
