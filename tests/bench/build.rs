@@ -1,11 +1,15 @@
 //! Links the proved static libraries: `rt staticlib measured` writes that of reading and checking, `rt staticlib capi` that
-//! of replaying and writing.
+//! of replaying, writing and drawing.
 
 fn main() {
     let folder = concat!(env!("CARGO_MANIFEST_DIR"), "/../../target/staticlib");
-    for (program, library) in
-        [("swarmbanner-bench", "libmeasured.a"), ("replay", "libcapi.a"), ("writing", "libcapi.a")]
-    {
+    let programs = [
+        ("swarmbanner-bench", "libmeasured.a"),
+        ("replay", "libcapi.a"),
+        ("writing", "libcapi.a"),
+        ("expression", "libcapi.a"),
+    ];
+    for (program, library) in programs {
         println!("cargo:rustc-link-arg-bin={program}={folder}/{library}");
         println!("cargo:rerun-if-changed={folder}/{library}");
     }

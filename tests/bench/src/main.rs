@@ -1,7 +1,7 @@
 //! Times of reading and checking. Not a test: nothing fails by being slow.
 //!
 //! Every subject is timed on the same files in the same run, so another implementation is compared by adding a
-//! `Subject` to `subjects`. The program `replay` has the times of replaying, `writing` those of writing.
+//! `Subject` to `subjects`. The program `replay` has the times of replaying, `writing` those of writing, `expression` those of drawing.
 //!
 //! The reference reads with `order`, the product's test of queue order in safe Rust.
 //!
