@@ -9,7 +9,8 @@ use lib.ListN.{length}
 use Rattle.explore.specs.Order.{Shortlex, AtMost}
 use Rattle.explore.specs.Size.{Size}
 use Rattle.model.specs.Diagram.{Pool, follow, accepts}
-use Rattle.tables.specs.Limits.{mostPool}
+use Rattle.tables.specs.Limits.{mostMessages, mostPool}
+use Rattle.tables.specs.Valid.{PoolValid}
 use Rattle.tables.specs.declared.tables.Pool as Declared
 use Rattle.queue_order.specs.Pool.{poolOf}
 use Rattle.grammar.specs.Tree.{Tree, Word}
@@ -80,3 +81,7 @@ pub record Numbered (t : Tree) (P : Pool) : Type 0 where
 
 abbrev pub NumberedSo : Type 0
 NumberedSo = (s : List ℕ) (P : Declared.Pool) → Draws s P → (t : Tree) → Text s t → Numbered t (poolOf P)
+
+-- THE TABLES are those of a pool over 32 messages, entries beyond the count being 0
+abbrev pub ValidSo : Type 0
+ValidSo = (s : List ℕ) (P : Declared.Pool) → Draws s P → PoolValid mostMessages P

@@ -120,7 +120,7 @@ module _ (A : Automaton) (few : length (states A) ≤ mostPool) where
       Memᴰ·cast (sym (t .2)) (mem-map (λ (e : Entry ℕ). e .at) (t .1))
 
   -- the start is the first
-  start-first : (0 < length N) × (getD N 0 0 ≡ 0)
+  pub start-first : (0 < length N) × (getD N 0 0 ≡ 0)
   start-first =
       let more = expand-extends (λ k. k) eqb (λ x. gather (move A x) mostMessages 0) mostPool [] (0 ∷ []) in
       let e : N ≡ (0 ∷ []) ++ more .0 = nodes-are mostMessages (move A) 0 mostPool ∙ more .1 in
