@@ -63,6 +63,11 @@ abbrev pub TooManyStates : Type 0
 TooManyStates = (s : List ℕ) → length s ≤ mostText → (t : Tree) → Text s t → ((k p : ℕ) → Offends s k p → ⊥)
     → (expression s ≡ turnedAway 22 0) ↔ ((n : ℕ) × Size (StateOf t) n × (mostPool < n))
 
+-- else there is a pool, with a state for each of them
+abbrev pub DrawnElse : Type 0
+DrawnElse = (s : List ℕ) → length s ≤ mostText → (t : Tree) → Text s t → ((k p : ℕ) → Offends s k p → ⊥)
+    → (n : ℕ) → Size (StateOf t) n → n ≤ mostPool → (P : Declared.Pool) × Draws s P × (P .count ≡ n)
+
 -- THE NUMBERING: each state by its shortest, lowest word
 pub record Numbered (t : Tree) (P : Pool) : Type 0 where
   pub word : ℕ → List ℕ

@@ -15,9 +15,11 @@ use Rattle.explore.specs.Laws.Mem.{map-mem}
 use Rattle.explore.specs.Laws.Size.{at-most, size-same, size-unique, below, below-length, below-each}
 use Rattle.explore.specs.Laws.Meaning.{distinct, sound-word, enough-from, size-from}
 use Rattle.tables.specs.Limits.{mostPool, mostMessages}
+use Rattle.tables.specs.declared.tables.Pool.{Pool}
 use Rattle.grammar.specs.Tree.{Tree, size}
+use Rattle.grammar.specs.Grammar.{Text}
 use Rattle.grammar.specs.Parse.{parsed, parse}
-use Rattle.grammar.specs.Offends.{mostOccurrences}
+use Rattle.grammar.specs.Offends.{mostOccurrences, Offends}
 use Rattle.grammar.specs.Laws.Running.{stuck-not-parsed}
 use Rattle.grammar.specs.Laws.Sound.{parsed-spelled}
 use Rattle.grammar.specs.Laws.Complete.{spelled-parsed, one-tree}
@@ -29,10 +31,11 @@ use Rattle.occurrences.specs.EndsOn.{EndsOn}
 use Rattle.occurrences.specs.Laws.Sets.{some-member, same-members}
 use Rattle.occurrences.specs.Laws.Letters.{Low}
 use Rattle.occurrences.specs.Laws.Arrives.{Node, node-set, node-none, stored-node-set}
-use Rattle.expression.specs.Expression.{Drawn, turnedAway, states, expression}
-use Rattle.expression.specs.Means.{EndSet, StateOf, TooManyStates}
+use Rattle.filling.specs.Filled.{poolFor}
+use Rattle.expression.specs.Expression.{Drawn, root, mostText, turnedAway, states, expression}
+use Rattle.expression.specs.Means.{EndSet, StateOf, TooManyStates, DrawnElse}
 use Rattle.expression.specs.Laws.Standing.{eqb-equality}
-use Rattle.expression.specs.Laws.Comes.{Comes, long, outside, offender, many, drawn, comes, numberOf}
+use Rattle.expression.specs.Laws.Comes.{Comes, long, outside, offender, many, drawn, comes, drawn-not-refused}
 
 -- the first letter of a word that is not empty
 first-letter : (w : List ℕ) → (w ≡ [] → ⊥) → (m : ℕ) × (u : List ℕ) × (w ≡ m ∷ u)
@@ -109,34 +112,54 @@ module _ (t : Tree) (small : size t ≤ mostOccurrences) (low : Low t) where
       subst (Size (StateOf t)) (sym as-many)
       (size-same states-reached (size-from mostMessages (move A) eqb eqb-equality 0 mostPool (omega (arith, as-many))))
 
-pub too-many-states : TooManyStates
-too-many-states s l t w none-offends = (λ e. is (expression s) (comes s) e, λ h. so (expression s) (comes s) h)
-  where
-    tree : parse s ≡ parsed t
-    tree = spelled-parsed s t w
+-- A TEXT OF THE GRAMMAR where nothing offends
+module _ (s : List ℕ) (l : length s ≤ mostText) (t : Tree) (w : Text s t) (none-offends : (k p : ℕ) → Offends s k p → ⊥) where
+  tree : parse s ≡ parsed t
+  tree = spelled-parsed s t w
 
-    bounds : (size t ≤ mostOccurrences) × Low t
-    bounds = kept-bounds s t w (limits-kept s .1 none-offends)
+  bounds : (size t ≤ mostOccurrences) × Low t
+  bounds = kept-bounds s t w (limits-kept s .1 none-offends)
 
-    same-tree : {u : Tree} → parse s ≡ parsed u → u ≡ t
-    same-tree {u} f = one-tree (parsed-spelled s u f) w
+  same-tree : {u : Tree} → parse s ≡ parsed u → u ≡ t
+  same-tree {u} f = one-tree (parsed-spelled s u f) w
 
-    is : (D : Drawn) → Comes s D → D ≡ turnedAway 22 0 → (n : ℕ) × Size (StateOf t) n × (mostPool < n)
-    is D (long h) e = absurd (omega arith)
-    is D (outside h n f) e = stuck-not-parsed f tree
-    is D (offender h u f k p g) e = absurd (none-offends k p (limits-passed s k p .0 g .offends))
-    is D (many h u f g m) e =
+  -- has too many states, or a pool
+  pub data Counted : Drawn → Type 0 where
+    more : mostPool < length (states (automaton t)) → Counted (turnedAway 22 0)
+    pool : length (states (automaton t)) ≤ mostPool
+        → Counted (record { reply = root 0; pool = poolFor (automaton t) (states (automaton t)) })
+
+  counted : (D : Drawn) → Comes s D → Counted D
+  counted D (long h) = absurd (omega arith)
+  counted D (outside h n f) = stuck-not-parsed f tree
+  counted D (offender h u f k p g) = absurd (none-offends k p (limits-passed s k p .0 g .offends))
+  counted D (many h u f g m) = more (subst (λ v. mostPool < length (states (automaton v))) (same-tree f) m)
+  counted D (drawn h u f g m) =
+      subst (λ v. Counted (record { reply = root 0; pool = poolFor (automaton v) (states (automaton v)) })) (sym (same-tree f))
+      (pool (subst (λ v. length (states (automaton v)) ≤ mostPool) (same-tree f) m))
+
+  too-many : (D : Drawn) → Counted D → (D ≡ turnedAway 22 0) ↔ ((n : ℕ) × Size (StateOf t) n × (mostPool < n))
+  too-many D (more m) = (
+    λ e.
         let (n, z) = all-states t (bounds .0) (bounds .1) (2 ^ mostOccurrences) refl in
-        let more : mostPool < length (states (automaton t)) = subst (λ v. mostPool < length (states (automaton v))) (same-tree f) m in
-        (n, z, omega (arith, at-least-found t (bounds .0) (bounds .1) n z))
-    is D (drawn h u f g m) e = absurd (let q : _≡_ {A = ℕ} 0 22 = ap numberOf e in omega arith)
+        (n, z, omega (arith, at-least-found t (bounds .0) (bounds .1) n z)),
+    λ h. refl,
+  )
+  too-many D (pool m) = (
+    λ e. absurd (drawn-not-refused e),
+    λ (n, z, k).
+        let same = size-unique z (found-all t (bounds .0) (bounds .1) m) in
+        absurd (omega arith),
+  )
 
-    so : (D : Drawn) → Comes s D → (n : ℕ) × Size (StateOf t) n × (mostPool < n) → D ≡ turnedAway 22 0
-    so D (long h) r = absurd (omega arith)
-    so D (outside h n f) r = stuck-not-parsed f tree
-    so D (offender h u f k p g) r = absurd (none-offends k p (limits-passed s k p .0 g .offends))
-    so D (many h u f g m) r = refl
-    so D (drawn h u f g m) (n, z, k) =
-        let few : length (states (automaton t)) ≤ mostPool = subst (λ v. length (states (automaton v)) ≤ mostPool) (same-tree f) m in
-        let n-is = size-unique z (found-all t (bounds .0) (bounds .1) few) in
-        absurd (omega arith)
+  else-drawn : (D : Drawn) → Counted D → (n : ℕ) → Size (StateOf t) n → n ≤ mostPool
+      → (P : Pool) × (D ≡ record { reply = root 0; pool = P }) × (P .count ≡ n)
+  else-drawn D (more m) n z h = absurd (omega (arith, at-least-found t (bounds .0) (bounds .1) n z))
+  else-drawn D (pool m) n z h =
+      (poolFor (automaton t) (states (automaton t)), refl, size-unique (found-all t (bounds .0) (bounds .1) m) z)
+
+pub too-many-states : TooManyStates
+too-many-states s l t w none-offends = too-many s l t w none-offends (expression s) (counted s l t w none-offends (expression s) (comes s))
+
+pub drawn-else : DrawnElse
+drawn-else s l t w none-offends = else-drawn s l t w none-offends (expression s) (counted s l t w none-offends (expression s) (comes s))
