@@ -42,9 +42,10 @@ pub fn field_4(diagram: &Diagram) -> Vec<u8> {
 /// is no newline as it was drawn, stands in a comment.
 pub fn state_lines(diagram: &Diagram, before: usize, text: &[u8]) -> Vec<String> {
     let text = shown(text);
+    let text = if text.trim().is_empty() { "the empty word" } else { text.trim() };
     let line = |(state, number): (&PoolState, usize)| {
         let comment = match number == before {
-            true => format!("state {number}, the root: {}", text.trim()).trim_end().to_string(),
+            true => format!("state {number}, the root: {text}"),
             false => format!("state {number}"),
         };
         (item_of_state(state, before), comment)

@@ -82,7 +82,7 @@ fn lines_behind_others() {
         "state final        # state 6",
     ];
     assert_eq!(state_lines(&drawn("(0|1)* 2"), 3, b"(0|1)* 2"), lines);
-    assert_eq!(state_lines(&drawn("  "), 7, b"  "), ["state final  # state 7, the root:"]);
+    assert_eq!(state_lines(&drawn("  "), 7, b"  "), ["state final  # state 7, the root: the empty word"]);
 }
 
 /// What is said of a text, after the line of the refusal: the cause and the mark.
