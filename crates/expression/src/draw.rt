@@ -2,6 +2,7 @@
 use filling::fill::fill_arcs;
 use filling::fill::fill_finals;
 use occurrence_sets::sets::MOST_OCCURRENCES;
+use occurrence_sets::sets::marks_of;
 use parsing::cycle::parse;
 use parsing::parts::Part;
 use parsing::parts::Step;
@@ -55,15 +56,16 @@ fn turned_away(reply: Reply) -> Drawing
 fn draw(part: Part, follow: &[u32; MOST_OCCURRENCES], label: &[u8; MOST_OCCURRENCES]) -> Drawing
     ensures { λ r. ⌜ saidDrawing r ≡ draw (automatonOf part (now (follow .entry)) (now (label .entry))) ⌝ }
 {
+    let marks = marks_of(label);
     let mut states = [0u32; ROOM];
-    let count = grow(part.first, follow, label, &mut states);
+    let count = grow(part.first, follow, &marks, &mut states);
     if DiagramState::LIMIT < count {
         return turned_away(Reply::TooManyStates);
     }
     let mut finals = [0u8; DiagramState::LIMIT];
     fill_finals(part.skips, part.last, &states[..count], &mut finals);
     let mut arcs = [0u8; POOL_ARCS];
-    fill_arcs(part.first, follow, label, &states[..count], &mut arcs);
+    fill_arcs(part.first, follow, &marks, &states[..count], &mut arcs);
     Drawing {
         reply: Reply::Root(DiagramState(0)),
         pool: Pool {

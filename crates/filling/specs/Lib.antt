@@ -1,3 +1,4 @@
 -- The tables of a pool, entry by entry. Laws stand under Laws.
 pub mod Filled
+pub mod Fills
 pub mod Laws

@@ -1,18 +1,19 @@
 // The tables of a pool from the list of states: where each message leads from each, and which are final.
 use occurrence_sets::sets::MOST_OCCURRENCES;
-use occurrence_sets::sets::marked;
 use subsets::grow::place_of;
 use subsets::next::next;
 use tables::kinds::DiagramState;
+use tables::kinds::Message;
 use tables::tables::ARCS;
 use tables::tables::POOL_ARCS;
 ghost use mathlib.Core.Path.{_≡_};
 ghost use mathlib.Core.Bool.{cond};
-ghost use Prim.Native.Nat.{_+_, _*_, _≤_, _<_};
+ghost use Prim.Native.Nat.{_+_, _≤_};
 ghost use lib.ListN.{length, getD};
 ghost use Rattle.tables.specs.Limits.{mostMessages, mostPool};
 ghost use Rattle.tables.specs.Pool.{poolArcs};
-ghost use Rattle.filling.specs.Filled.{entriesFrom, arcTo, rowEntry, arcEntry, finalMark};
+ghost use Rattle.filling.specs.Filled.{entriesFrom, arcTo, finalMark};
+ghost use Rattle.filling.specs.Fills.{FillsRow, FillsArcs};
 
 // An entry of the table of arcs: 0 for the empty set, else 1 plus the place of the set.
 fn arc_to(states: &[u32], set: u32) -> u8
@@ -28,19 +29,18 @@ fn arc_to(states: &[u32], set: u32) -> u8
 // The arcs of one state, its row of the table, out of what may come next.
 fn fill_row(
     next: u32,
-    label: &[u8; MOST_OCCURRENCES],
+    marks: &[u32; Message::LIMIT],
     states: &[u32],
     row: usize,
     arcs: &mut [u8; POOL_ARCS],
 )
     requires { ⌜ length (now states) ≤ mostPool ⌝ }
     requires { ⌜ row + mostMessages ≤ poolArcs ⌝ }
-    ensures { λ r. ⌜ now (arcs .exit) ≡ entriesFrom (rowEntry (now (states .entry)) next (now (label .entry)) row) mostMessages row (now (arcs .entry)) ⌝ }
+    ensures { λ r. ⌜ FillsRow (now (states .entry)) next (now (marks .entry)) row (now (arcs .entry)) (now (arcs .exit)) ⌝ }
 {
     let mut m: usize = 0;
     while m < ARCS {
-        let set = next & marked(label, m as u8);
-        arcs[row + m] = arc_to(states, set);
+        arcs[row + m] = arc_to(states, next & marks[m]);
         m += 1;
     }
 }
@@ -49,17 +49,17 @@ fn fill_row(
 pub fn fill_arcs(
     first: u32,
     follow: &[u32; MOST_OCCURRENCES],
-    label: &[u8; MOST_OCCURRENCES],
+    marks: &[u32; Message::LIMIT],
     states: &[u32],
     arcs: &mut [u8; POOL_ARCS],
 )
     requires { ⌜ length (now states) ≤ mostPool ⌝ }
-    ensures { λ r. ⌜ now (arcs .exit) ≡ entriesFrom (arcEntry (now (states .entry)) first (now (follow .entry)) (now (label .entry))) (length (now (states .entry)) * mostMessages) 0 (now (arcs .entry)) ⌝ }
+    ensures { λ r. ⌜ FillsArcs (now (states .entry)) first (now (follow .entry)) (now (marks .entry)) (now (arcs .entry)) (now (arcs .exit)) ⌝ }
 {
     let mut i: usize = 0;
     while i < states.len() {
         let after = next(first, follow, states[i]);
-        fill_row(after, label, states, i * ARCS, arcs);
+        fill_row(after, marks, states, i * ARCS, arcs);
         i += 1;
     }
 }

@@ -1,2 +1,3 @@
--- What the loops over sets of occurrences do.
+-- What the loops over sets of occurrences do; laws stand under Laws.
+pub mod Marks
 pub mod Laws

@@ -1,8 +1,11 @@
 // Sets of occurrences, a bit for each, and tables with an entry for each occurrence. Occurrences past the last that has a bit are in no set
 // and in no table: the text is refused for their number later.
+use numbers::number::wide;
+use tables::kinds::Message;
 ghost use mathlib.Core.Path.{_≡_};
 ghost use mathlib.Core.Bool.{cond};
-ghost use Rattle.occurrences.specs.Sets.{union, only, put, link, gather, marked};
+ghost use Rattle.occurrences.specs.Sets.{union, only, put, link, gather};
+ghost use Rattle.occurrence_sets.specs.Marks.{Marks};
 
 pub const MOST_OCCURRENCES: usize = 32;
 
@@ -40,6 +43,9 @@ pub fn connect(from: u32, to: u32, follow: &mut [u32; MOST_OCCURRENCES])
     let mut rest = from;
     let mut i: usize = 0;
     while i < MOST_OCCURRENCES {
+        if rest == 0 {
+            return;
+        }
         let sum = union(follow[i], to);
         if rest % 2 == 1 {
             follow[i] = sum;
@@ -49,21 +55,22 @@ pub fn connect(from: u32, to: u32, follow: &mut [u32; MOST_OCCURRENCES])
     }
 }
 
-// The occurrences of a message.
-pub fn marked(label: &[u8; MOST_OCCURRENCES], m: u8) -> u32
-    ensures { λ r. ⌜ r ≡ marked m (now (label .entry)) ⌝ }
+// The occurrences of each message.
+pub fn marks_of(label: &[u8; MOST_OCCURRENCES]) -> [u32; Message::LIMIT]
+    ensures { λ r. ⌜ Marks (now (label .entry)) r ⌝ }
 {
-    let mut sum: u32 = 0;
+    let mut marks = [0u32; Message::LIMIT];
     let mut i: usize = 0;
     while i < MOST_OCCURRENCES {
-        if label[i] != m {
+        let m = wide(label[i]);
+        if Message::LIMIT <= m {
             i += 1;
             continue;
         }
-        sum = sum | only(i);
+        marks[m] = union(marks[m], only(i));
         i += 1;
     }
-    sum
+    marks
 }
 
 // What may follow the occurrences of a set.
@@ -74,6 +81,9 @@ pub fn gather(set: u32, follow: &[u32; MOST_OCCURRENCES]) -> u32
     let mut rest = set;
     let mut i: usize = 0;
     while i < MOST_OCCURRENCES {
+        if rest == 0 {
+            return sum;
+        }
         let here = rest % 2;
         rest = rest / 2;
         if here != 1 {

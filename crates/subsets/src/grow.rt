@@ -1,16 +1,14 @@
 // The states, found breadth first: each goes to the end of the list, unless it is there.
 use crate::next::next;
 use occurrence_sets::sets::MOST_OCCURRENCES;
-use occurrence_sets::sets::marked;
 use tables::kinds::DiagramState;
 use tables::kinds::Message;
 ghost use mathlib.Core.Path.{_≡_};
 ghost use Prim.Native.Nat.{_+_, _≤_, _<_};
 ghost use lib.ListN.{length};
-ghost use Rattle.queue_order.specs.Nodes.{gather};
 ghost use Rattle.tables.specs.Limits.{mostMessages, mostPool};
-ghost use Rattle.subsets.specs.States.{setFor, placeFrom};
-ghost use Rattle.subsets.specs.Grows.{aState, Grows, FoundStates};
+ghost use Rattle.subsets.specs.States.{placeFrom};
+ghost use Rattle.subsets.specs.Grows.{aState, Grows, AddsNext, FindsStates};
 
 // Room for a state whose messages all lead to new ones after the last that is allowed.
 pub const ROOM: usize = DiagramState::LIMIT + Message::LIMIT;
@@ -45,15 +43,14 @@ fn add(set: u32, states: &mut [u32], count: usize) -> usize
 }
 
 // The sets that the messages lead to, out of those that may come next.
-fn add_next(next: u32, label: &[u8; MOST_OCCURRENCES], states: &mut [u32], count: usize) -> usize
+fn add_next(next: u32, marks: &[u32; Message::LIMIT], states: &mut [u32], count: usize) -> usize
     requires { ⌜ count + mostMessages ≤ length (now states) ⌝ }
-    ensures { λ r. ⌜ Grows (now (states .entry)) count mostMessages (gather (setFor next (now (label .entry))) mostMessages 0) (now (states .exit)) r ⌝ }
+    ensures { λ r. ⌜ AddsNext next (now (marks .entry)) (now (states .entry)) count (now (states .exit)) r ⌝ }
 {
     let mut found = count;
     let mut m: usize = 0;
     while m < Message::LIMIT {
-        let set = next & marked(label, m as u8);
-        found = add(set, states, found);
+        found = add(next & marks[m], states, found);
         m += 1;
     }
     found
@@ -63,11 +60,11 @@ fn add_next(next: u32, label: &[u8; MOST_OCCURRENCES], states: &mut [u32], count
 pub fn grow(
     first: u32,
     follow: &[u32; MOST_OCCURRENCES],
-    label: &[u8; MOST_OCCURRENCES],
+    marks: &[u32; Message::LIMIT],
     states: &mut [u32],
 ) -> usize
     requires { ⌜ length (now states) ≡ mostPool + mostMessages ⌝ }
-    ensures { λ r. ⌜ FoundStates first (now (follow .entry)) (now (label .entry)) (now (states .exit)) r ⌝ }
+    ensures { λ r. ⌜ FindsStates first (now (follow .entry)) (now (marks .entry)) (now (states .exit)) r ⌝ }
 {
     states[0] = 0;
     let mut count: usize = 1;
@@ -77,7 +74,7 @@ pub fn grow(
             return count;
         }
         let after = next(first, follow, states[at]);
-        count = add_next(after, label, states, count);
+        count = add_next(after, marks, states, count);
         at += 1;
     }
     count

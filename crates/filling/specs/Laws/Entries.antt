@@ -14,7 +14,9 @@ use Rattle.tables.specs.Limits.{mostMessages}
 use Rattle.model.specs.Laws.Basics.{byTest}
 use Rattle.occurrences.specs.Sets.{meet, marked}
 use Rattle.subsets.specs.States.{nextOf, placeFrom}
+use Rattle.occurrence_sets.specs.Marks.{Marks}
 use Rattle.filling.specs.Filled.{entriesFrom, arcTo, rowEntry, arcEntry, finalMark}
+use Rattle.filling.specs.Fills.{FillsRow, FillsArcs}
 
 module _ (f : ℕ → ℕ) where
   -- so many, and then so many more
@@ -90,49 +92,52 @@ place-most (x ∷ N) i y = by (eqb x y) (place-most N (i + 1) y)
     by false h = omega arith
 
 -- ONE ARC MORE of a row
-pub record RowFilled (N : List ℕ) (z : ℕ) (L : List ℕ) (row : ℕ) (T arcs : List ℕ) (m : ℕ) : Type 0 where
-  pub is : arcs ≡ entriesFrom (rowEntry N z L row) m row T
+pub record RowFilled (N : List ℕ) (z : ℕ) (M : List ℕ) (row : ℕ) (T arcs : List ℕ) (m : ℕ) : Type 0 where
+  pub is : (L : List ℕ) → Marks L M → arcs ≡ entriesFrom (rowEntry N z L row) m row T
 
-pub row-begin : (N : List ℕ) (z : ℕ) (L : List ℕ) (row : ℕ) (T : List ℕ) → RowFilled N z L row T T 0
+pub row-begin : (N : List ℕ) (z : ℕ) (M : List ℕ) (row : ℕ) (T : List ℕ) → RowFilled N z M row T T 0
 unfolding entriesFrom
-row-begin N z L row T = record { is = refl }
+row-begin N z M row T = record { is = λ L k. refl }
 
-pub row-next : {N L T arcs : List ℕ} {z row m v y : ℕ} → RowFilled N z L row T arcs m → y ≡ marked m L → v ≡ arcTo N (bitAnd z y)
-    → RowFilled N z L row T (set arcs (row + m) v) (m + 1)
+pub row-next : {N M T arcs : List ℕ} {z row m v : ℕ} → RowFilled N z M row T arcs m → m < mostMessages → v ≡ arcTo N (bitAnd z (getD M m 0))
+    → RowFilled N z M row T (set arcs (row + m) v) (m + 1)
 unfolding meet
-row-next {N} {L} {T} {arcs} {z} {row} {m} {v} w e h =
-    let d : row + m - row ≡ m = add-sub-cancel-left row m in
-    let here : v ≡ rowEntry N z L row (row + m) =
-    h ∙ ap (λ u. arcTo N (bitAnd z u)) e ∙ ap (λ k. arcTo N (bitAnd z (marked k L))) (sym d) in
-    record { is = ap₂ (λ a u. set a (row + m) u) (w .is) here ∙ sym (entries-one (rowEntry N z L row) m row T) }
-
-pub row-end : {N L T arcs : List ℕ} {z row m : ℕ} → RowFilled N z L row T arcs m → m ≤ mostMessages → mostMessages ≤ m
-    → arcs ≡ entriesFrom (rowEntry N z L row) mostMessages row T
-row-end {N} {L} {T} {arcs} {z} {row} {m} w a b =
-    let e : m ≡ mostMessages = omega arith in
-    w .is ∙ ap (λ k. entriesFrom (rowEntry N z L row) k row T) e
-
--- ONE ROW MORE: the rows of the states before i
-pub record ArcsFilled (N : List ℕ) (first : ℕ) (F L T arcs : List ℕ) (i : ℕ) : Type 0 where
-  pub is : arcs ≡ entriesFrom (arcEntry N first F L) (i * mostMessages) 0 T
-
-pub arcs-begin : (N : List ℕ) (first : ℕ) (F L T : List ℕ) → ArcsFilled N first F L T T 0
-unfolding entriesFrom
-arcs-begin N first F L T = record { is = refl }
-
-pub arcs-next : {N F L T arcs arcs′ : List ℕ} {first z i row : ℕ} → ArcsFilled N first F L T arcs i → z ≡ nextOf first F (getD N i 0)
-    → row ≡ i * mostMessages → arcs′ ≡ entriesFrom (rowEntry N z L row) mostMessages row arcs → ArcsFilled N first F L T arcs′ (i + 1)
-arcs-next {N} {F} {L} {T} {arcs} {arcs′} {first} {z} {i} {row} w e r h =
-    let n : (i + 1) * mostMessages ≡ i * mostMessages + mostMessages = omega arith in
-    let before : List ℕ = entriesFrom (arcEntry N first F L) (i * mostMessages) 0 T in
+row-next {N} {M} {T} {arcs} {z} {row} {m} {v} w l h =
     record {
       is =
-          h ∙ ap (entriesFrom (rowEntry N z L row) mostMessages row) (w .is)
-          ∙ entries-same (rowEntry N z L row) (arcEntry N first F L) mostMessages row before same
-          ∙ ap (λ k. entriesFrom (arcEntry N first F L) mostMessages k before) (r ∙ sym (zero-add (i * mostMessages)))
-          ∙ sym (entries-more (arcEntry N first F L) (i * mostMessages) mostMessages 0 T)
-          ∙ ap (λ k. entriesFrom (arcEntry N first F L) k 0 T) (sym n);
+          λ L k.
+          let d : row + m - row ≡ m = add-sub-cancel-left row m in
+          let here : v ≡ rowEntry N z L row (row + m) =
+          h ∙ ap (λ u. arcTo N (bitAnd z u)) (k .each m l) ∙ ap (λ j. arcTo N (bitAnd z (marked j L))) (sym d) in
+          ap₂ (λ a u. set a (row + m) u) (w .is L k) here ∙ sym (entries-one (rowEntry N z L row) m row T);
     }
+
+pub row-end : {N M T arcs : List ℕ} {z row m : ℕ} → RowFilled N z M row T arcs m → m ≤ mostMessages → mostMessages ≤ m
+    → FillsRow N z M row T arcs
+row-end {N} {M} {T} {arcs} {z} {row} {m} w a b =
+    let e : m ≡ mostMessages = omega arith in
+    record { fills = λ L k. w .is L k ∙ ap (λ j. entriesFrom (rowEntry N z L row) j row T) e }
+
+-- ONE ROW MORE: the rows of the states before i
+pub record ArcsFilled (N : List ℕ) (first : ℕ) (F M T arcs : List ℕ) (i : ℕ) : Type 0 where
+  pub is : (L : List ℕ) → Marks L M → arcs ≡ entriesFrom (arcEntry N first F L) (i * mostMessages) 0 T
+
+pub arcs-begin : (N : List ℕ) (first : ℕ) (F M T : List ℕ) → ArcsFilled N first F M T T 0
+unfolding entriesFrom
+arcs-begin N first F M T = record { is = λ L k. refl }
+
+-- by the labels
+row-more : (N F L T : List ℕ) {arcs arcs′ : List ℕ} (first z i row : ℕ) → arcs ≡ entriesFrom (arcEntry N first F L) (i * mostMessages) 0 T
+    → z ≡ nextOf first F (getD N i 0) → row ≡ i * mostMessages → arcs′ ≡ entriesFrom (rowEntry N z L row) mostMessages row arcs
+    → arcs′ ≡ entriesFrom (arcEntry N first F L) ((i + 1) * mostMessages) 0 T
+row-more N F L T first z i row w e r h =
+    let n : (i + 1) * mostMessages ≡ i * mostMessages + mostMessages = omega arith in
+    let before : List ℕ = entriesFrom (arcEntry N first F L) (i * mostMessages) 0 T in
+    h ∙ ap (entriesFrom (rowEntry N z L row) mostMessages row) w
+    ∙ entries-same (rowEntry N z L row) (arcEntry N first F L) mostMessages row before same
+    ∙ ap (λ k. entriesFrom (arcEntry N first F L) mostMessages k before) (r ∙ sym (zero-add (i * mostMessages)))
+    ∙ sym (entries-more (arcEntry N first F L) (i * mostMessages) mostMessages 0 T)
+    ∙ ap (λ k. entriesFrom (arcEntry N first F L) k 0 T) (sym n)
   where
     same : (k : ℕ) → row ≤ k → k < row + mostMessages → rowEntry N z L row k ≡ arcEntry N first F L k
     same k a b =
@@ -141,11 +146,16 @@ arcs-next {N} {F} {L} {T} {arcs} {arcs′} {first} {z} {i} {row} w e r h =
         ap (λ u. arcTo N (meet u (marked (k - row) L))) (e ∙ ap (λ j. nextOf first F (getD N j 0)) q)
         ∙ ap (λ m. arcTo N (meet (nextOf first F (getD N (k / mostMessages) 0)) (marked m L))) d
 
-pub arcs-end : {N F L T arcs : List ℕ} {first i : ℕ} → ArcsFilled N first F L T arcs i → i ≤ length N → length N ≤ i
-    → arcs ≡ entriesFrom (arcEntry N first F L) (length N * mostMessages) 0 T
-arcs-end {N} {F} {L} {T} {arcs} {first} {i} w a b =
+pub arcs-next : {N F M T arcs arcs′ : List ℕ} {first z i row : ℕ} → ArcsFilled N first F M T arcs i → z ≡ nextOf first F (getD N i 0)
+    → row ≡ i * mostMessages → FillsRow N z M row arcs arcs′ → ArcsFilled N first F M T arcs′ (i + 1)
+arcs-next {N} {F} {M} {T} {first = first} {z} {i} {row} w e r h =
+    record { is = λ L k. row-more N F L T first z i row (w .is L k) e r (h .fills L k) }
+
+pub arcs-end : {N F M T arcs : List ℕ} {first i : ℕ} → ArcsFilled N first F M T arcs i → i ≤ length N → length N ≤ i
+    → FillsArcs N first F M T arcs
+arcs-end {N} {F} {M} {T} {arcs} {first} {i} w a b =
     let e : i ≡ length N = omega arith in
-    w .is ∙ ap (λ k. entriesFrom (arcEntry N first F L) (k * mostMessages) 0 T) e
+    record { fills = λ L k. w .is L k ∙ ap (λ j. entriesFrom (arcEntry N first F L) (j * mostMessages) 0 T) e }
 
 -- FINAL MARKS
 module _ (skips : Bool) (last : ℕ) {x : ℕ} where

@@ -2,7 +2,7 @@
 use mathlib.Core.Path.{_≡_, refl, sym, ap, _∙_}
 use mathlib.Core.Bool.{cond}
 use mathlib.Core.List.{List}
-use Prim.Native.Nat.{ℕ, suc, _+_, _-_, _*_, _/_, _%_, _^_, _≤_, _<_}
+use Prim.Native.Nat.{ℕ, zero, suc, _+_, _-_, _*_, _/_, _%_, _^_, _≤_, _<_}
 use lib.Dec.{eqb}
 use lib.ListN.{getD, set}
 use borrow.Author.Tests.{lt-ltb, le-ltb, eq-eqb, ne-eqb}
@@ -59,3 +59,13 @@ module _ {from to : ℕ} {F₀ : List ℕ} {rest i : ℕ} {F : List ℕ} (W : Li
 
 pub linking-ends : {from to : ℕ} {F₀ : List ℕ} {rest i : ℕ} {F : List ℕ} → Linking from to F₀ rest i F → mostOccurrences ≤ i → F ≡ link from to F₀
 linking-ends {to = to} {rest = rest} {F = F} W h = sym (done mostOccurrences rest to F h) ∙ W .is
+
+-- nothing is left of the set
+link-none : (left i to : ℕ) (F : List ℕ) → linkFrom left i 0 to F ≡ F
+unfolding linkFrom
+link-none zero i to F = refl
+link-none (suc left) i to F = link-none left (i + 1) to F
+
+pub linking-empty : {from to : ℕ} {F₀ : List ℕ} {rest i : ℕ} {F : List ℕ} → Linking from to F₀ rest i F → rest ≡ 0 → F ≡ link from to F₀
+linking-empty {to = to} {i = i} {F = F} W e =
+    sym (link-none (mostOccurrences - i) i to F) ∙ ap (λ x. linkFrom (mostOccurrences - i) i x to F) (sym e) ∙ W .is

@@ -26,7 +26,8 @@ use Rattle.queue_order.specs.Laws.Grown.{grown-none, grown-old, grown-new, grow
 use Rattle.queue_order.specs.Laws.Testing.{expand-on, front-many, front-next, front-end}
 use Rattle.occurrences.specs.Sets.{meet, marked}
 use Rattle.subsets.specs.States.{nextOf, setFor, statesFrom, placeFrom}
-use Rattle.subsets.specs.Grows.{aState, Grows, FoundStates}
+use Rattle.occurrence_sets.specs.Marks.{Marks}
+use Rattle.subsets.specs.Grows.{aState, Grows, AddsNext, FindsStates}
 use Rattle.subsets.specs.Laws.Places.{place-mem}
 use Rattle.subsets.specs.Laws.Numbering.{nodes-are}
 
@@ -110,6 +111,31 @@ module _ {S₀ L S : List ℕ} {n₀ z n m : ℕ} (W : Adding S₀ n₀ z L S n 
         within = omega (arith, W .within);
       }
 
+-- the same by a table of marks, whatever the labels that it has the marks of
+pub record Marked (S₀ : List ℕ) (n₀ z : ℕ) (M S : List ℕ) (n m : ℕ) : Type 0 where
+  pub adding : (L : List ℕ) → Marks L M → Adding S₀ n₀ z L S n m
+  pub long : length S ≡ length S₀
+  pub within : n ≤ n₀ + m
+  pub few : m ≤ mostMessages
+
+pub marked-begin : (z : ℕ) (M S : List ℕ) (n : ℕ) → Marked S n z M S n 0
+marked-begin z M S n = record { adding = λ L k. adding-begin z L S n; long = refl; within = omega arith; few = omega arith }
+
+module _ {S₀ M S : List ℕ} {n₀ z n m : ℕ} (W : Marked S₀ n₀ z M S n m) where
+  pub marked-next : {S′ : List ℕ} {n′ : ℕ} → m < mostMessages → Grows S n 1 (aState (bitAnd z (getD M m 0))) S′ n′
+      → Marked S₀ n₀ z M S′ n′ (m + 1)
+  marked-next h g =
+      record {
+        adding = λ L k. adding-next (W .adding L k) h (k .each m h) g;
+        long = g .long ∙ W .long;
+        within = omega (arith, g .within, W .within);
+        few = omega arith;
+      }
+
+  pub marked-end : mostMessages ≤ m → AddsNext z M S₀ n₀ S n
+  marked-end h =
+      record { finds = λ L k. adding-end (W .adding L k) h (W .few); long = W .long; within = omega (arith, W .within, W .few) }
+
 -- ONE STATE AFTER THE OTHER: those before place `at` are done
 pub record Growing (next : ℕ → List ℕ) (all S : List ℕ) (n at : ℕ) : Type 0 where
   pub done : List ℕ
@@ -173,31 +199,52 @@ module _ {next : ℕ → List ℕ} where
         omega (arith, front-many S (G .done) (G .todo) n at (G .within) (G .whole) (G .taken), ap length (sym (G .is) ∙ more .1), length-append (G .done ++ G .todo) (more .0))
 
 -- WHAT IS FOUND, over the tables of an automaton
-pub record Finding (first : ℕ) (F L S : List ℕ) (n at : ℕ) : Type 0 where
-  pub grows : Growing (λ x. gather (setFor (nextOf first F x) L) mostMessages 0) (statesFrom first F L) S n at
+pub record Finding (first : ℕ) (F M S : List ℕ) (n at : ℕ) : Type 0 where
+  pub grows : (L : List ℕ) → Marks L M → Growing (λ x. gather (setFor (nextOf first F x) L) mostMessages 0) (statesFrom first F L) S n at
+  pub long : length S ≡ mostPool + mostMessages
+  pub within : n ≤ length S
 
-pub finding-begin : (first : ℕ) (F L S : List ℕ) → length S ≡ mostPool + mostMessages → Finding first F L (set S 0 0) 1 0
-finding-begin first F L S l =
+pub finding-begin : (first : ℕ) (F M S : List ℕ) → length S ≡ mostPool + mostMessages → Finding first F M (set S 0 0) 1 0
+finding-begin first F M S l =
     record {
       grows =
+          λ L k.
           subst (λ all. Growing (λ x. gather (setFor (nextOf first F x) L) mostMessages 0) all (set S 0 0) 1 0)
           (sym (nodes-are mostMessages (λ x. setFor (nextOf first F x) L) 0 mostPool))
           (growing-begin S l);
+      long = length-set S 0 0 ∙ l;
+      within = omega (arith, length-set S 0 0);
     }
 
-module _ {first n at : ℕ} {F L S : List ℕ} (G : Finding first F L S n at) where
+module _ {first n at : ℕ} {F M S : List ℕ} (G : Finding first F M S n at) where
   -- what comes next at the state that is taken was found by the code
-  pub finding-next : {S′ : List ℕ} {n′ z : ℕ} → at < n → n ≤ mostPool → z ≡ nextOf first F (getD S at 0)
-      → Grows S n mostMessages (gather (setFor z L) mostMessages 0) S′ n′ → Finding first F L S′ n′ (at + 1)
+  pub finding-next : {S′ : List ℕ} {n′ z : ℕ} → at < n → n ≤ mostPool → z ≡ nextOf first F (getD S at 0) → AddsNext z M S n S′ n′
+      → Finding first F M S′ n′ (at + 1)
   finding-next {S′} {n′} h l e g =
       record {
-        grows = growing-next (G .grows) h l (subst (λ x. Grows S n mostMessages (gather (setFor x L) mostMessages 0) S′ n′) e g);
+        grows =
+            λ L k.
+            growing-next (G .grows L k) h l (subst (λ x. Grows S n mostMessages (gather (setFor x L) mostMessages 0) S′ n′) e (g .finds L k));
+        long = g .long ∙ G .long;
+        within = omega (arith, g .within, g .long, G .long);
       }
 
-  pub all-found : n ≤ at → FoundStates first F L S n
+  pub all-found : n ≤ at → FindsStates first F M S n
   all-found h =
-      record { few = λ l. growing-all (G .grows) h; many = λ l. omega (arith, growing-more (G .grows)); within = G .grows .within }
+      record {
+        finds =
+            λ L k.
+            let W = G .grows L k in
+            record { few = λ l. growing-all W h; many = λ l. omega (arith, growing-more W); within = G .within };
+        within = G .within;
+      }
 
-  pub more-found : mostPool < n → FoundStates first F L S n
+  pub more-found : mostPool < n → FindsStates first F M S n
   more-found h =
-      record { few = λ l. absurd (omega arith); many = λ l. omega (arith, growing-more (G .grows)); within = G .grows .within }
+      record {
+        finds =
+            λ L k.
+            let W = G .grows L k in
+            record { few = λ l. absurd (omega arith); many = λ l. omega (arith, growing-more W); within = G .within };
+        within = G .within;
+      }

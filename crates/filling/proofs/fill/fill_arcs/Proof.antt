@@ -12,10 +12,10 @@ use Rattle.filling.proofs.fill.fill_row.Reads as fill-row-reads
 use Rattle.subsets.proofs.next.next.Reads as next-reads
 
 abbrev Inv-loop : tie.InvT-loop
-Inv-loop first follow label states arcs₀ i₀ arcs i = ArcsFilled states first follow label arcs₀ arcs i × (i ≤ length states)
+Inv-loop first follow marks states arcs₀ i₀ arcs i = ArcsFilled states first follow marks arcs₀ arcs i × (i ≤ length states)
 
 abbrev μ-loop : tie.MeasureT-loop
-μ-loop first follow label states arcs₀ i₀ arcs i = length states - i
+μ-loop first follow marks states arcs₀ i₀ arcs i = length states - i
 
 -- src/fill.rt:60:5
 loop-holds : tie.Need-loop-holds Inv-loop μ-loop
