@@ -1,6 +1,6 @@
 //! Diagrams from expressions by the product's algorithm, as the measure of speed: occurrences are bits of a number, the text
-//! gives for each those that can come after it, and the sets are listed and found again by number. The reference answers by
-//! derivatives and does not use this.
+//! gives for each those that can come after it, and the sets are listed first and found again where arcs are filled. A second
+//! form stores each arc as its target is found. The reference answers by derivatives and uses neither.
 
 use crate::expression::{Pool, LEVELS, LONGEST_TEXT, OCCURRENCES};
 use crate::read::{refuse, Refusal, MESSAGES, POOL_STATES};
@@ -10,11 +10,20 @@ type Set = u32;
 
 /// The pool of a text, whose root is 0.
 pub fn pool_of(text: &[u8]) -> Result<Pool, Refusal> {
+    positions_of(text)?.pool()
+}
+
+/// The same in one pass over the states.
+pub fn pool_at_once(text: &[u8]) -> Result<Pool, Refusal> {
+    positions_of(text)?.pool_at_once()
+}
+
+fn positions_of(text: &[u8]) -> Result<Positions, Refusal> {
     if text.len() > LONGEST_TEXT {
         return refuse(18, LONGEST_TEXT);
     }
     scan(text)?;
-    Positions::of(text).pool()
+    Ok(Positions::of(text))
 }
 
 /// What stands before a place, as far as a star or a digit there goes.
@@ -237,7 +246,66 @@ impl Positions {
         after
     }
 
+    /// The occurrences that can come next, at the start or behind a set.
+    fn next(&self, state: usize, set: Set) -> Set {
+        if state == 0 {
+            self.whole.first
+        } else {
+            self.after(set)
+        }
+    }
+
+    fn is_final(&self, state: usize, set: Set) -> bool {
+        if state == 0 {
+            self.whole.is_nullable
+        } else {
+            set & self.whole.last != 0
+        }
+    }
+
+    /// The sets in the order of their states, the start with the empty one, and how many there are.
+    fn sets(&self) -> Result<([Set; POOL_STATES], usize), Refusal> {
+        let mut sets = [0; POOL_STATES];
+        let mut count = 1;
+        let mut state = 0;
+        while state < count {
+            let after = self.next(state, sets[state]);
+            for &occurrences in &self.labels {
+                let ends = after & occurrences;
+                if ends == 0 || sets[..count].contains(&ends) {
+                    continue;
+                }
+                if count == POOL_STATES {
+                    return refuse(22, 0);
+                }
+                sets[count] = ends;
+                count += 1;
+            }
+            state += 1;
+        }
+        Ok((sets, count))
+    }
+
     fn pool(&self) -> Result<Pool, Refusal> {
+        let (all, count) = self.sets()?;
+        let sets = &all[..count];
+        let mut pool = Pool::empty();
+        pool.state_count = count;
+        for (state, &set) in sets.iter().enumerate() {
+            pool.finals[state] = self.is_final(state, set);
+            let after = self.next(state, set);
+            for (message, &occurrences) in self.labels.iter().enumerate() {
+                let ends = after & occurrences;
+                if ends != 0 {
+                    let target = sets.iter().position(|&set| set == ends).expect("every set is listed");
+                    pool.arcs[state * MESSAGES + message] = target as u8 + 1;
+                }
+            }
+        }
+        Ok(pool)
+    }
+
+    fn pool_at_once(&self) -> Result<Pool, Refusal> {
         let mut pool = Pool::empty();
         // The start is the only state whose set is empty, and nothing looks for it.
         let mut sets = [0; POOL_STATES];
@@ -245,8 +313,8 @@ impl Positions {
         let mut state = 0;
         while state < count {
             let set = sets[state];
-            let after = if state == 0 { self.whole.first } else { self.after(set) };
-            pool.finals[state] = if state == 0 { self.whole.is_nullable } else { set & self.whole.last != 0 };
+            let after = self.next(state, set);
+            pool.finals[state] = self.is_final(state, set);
             for (message, &occurrences) in self.labels.iter().enumerate() {
                 let ends = after & occurrences;
                 if ends == 0 {

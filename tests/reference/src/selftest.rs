@@ -15,7 +15,7 @@ use crate::generate::writing::random_writings;
 use crate::long_words::has_long_word;
 use crate::order::{in_queue_order, in_queue_order_by_words};
 use crate::order_traps::read_with;
-use crate::positions::pool_of;
+use crate::positions::{pool_at_once, pool_of};
 use crate::read::{read, read_asking, Refusal};
 use crate::traps::verdict_with;
 use crate::verdict::{line, Verdict};
@@ -158,7 +158,8 @@ pub fn selftest_expression(seed: u64, count: usize) -> ExpressionAgreement {
             let text = text.escape_ascii();
             agreement.disagreements.push(format!("derivatives: {reply:?}; {with}; text \"{text}\""));
         };
-        if pool_of(&text) != reply.clone().map(|states| Pool::of(&states)) {
+        let pool = reply.clone().map(|states| Pool::of(&states));
+        if pool_of(&text) != pool || pool_at_once(&text) != pool {
             disagree("otherwise by positions");
         }
         if expression_with(&text, None) != reply {

@@ -1,14 +1,15 @@
 //! Times of drawing expressions, product and reference by turns. Not a test: nothing fails by being slow.
 //!
 //! The product is called as C programs call it, in the library that `rt staticlib capi` writes. It is compared with `positions`,
-//! the product's algorithm in safe Rust, whose pool is put into the same memory. The third, `derived`, is the reference's own way,
-//! by derivatives. All texts are first drawn by all three, and they must leave the same.
+//! the product's algorithm in safe Rust, whose pool is put into the same memory. `at once` is that with arcs stored as their
+//! targets are found, `derived` the reference's own way, by derivatives. All texts are first drawn by all four, and they must
+//! leave the same.
 
 use std::hint::black_box;
 use std::time::Duration;
 
 use reference_checker::expression::{expression, Pool, LONGEST_TEXT};
-use reference_checker::positions::pool_of;
+use reference_checker::positions::{pool_at_once, pool_of};
 use reference_checker::read::{Refusal, POOL_STATES};
 use swarmbanner_bench::{report, time_by_turns};
 
@@ -59,6 +60,10 @@ fn by_positions(text: &[u8], pool: &mut [u8; POOL]) -> Drawn {
     pool_of(black_box(text)).map(|drawn| put(&drawn, pool))
 }
 
+fn at_once(text: &[u8], pool: &mut [u8; POOL]) -> Drawn {
+    pool_at_once(black_box(text)).map(|drawn| put(&drawn, pool))
+}
+
 fn by_derivatives(text: &[u8], pool: &mut [u8; POOL]) -> Drawn {
     expression(black_box(text)).map(|states| put(&Pool::of(&states), pool))
 }
@@ -74,16 +79,20 @@ fn put(drawn: &Pool, pool: &mut [u8; POOL]) -> usize {
 const BYTE: u8 = 9;
 
 fn time_drawing(name: &str, text: &[u8]) {
-    let mut pools = [[BYTE; POOL]; 3];
-    let [reference, derived, product] = &mut pools;
+    let mut pools = [[BYTE; POOL]; 4];
+    let [reference, once, derived, product] = &mut pools;
     let reply = by_positions(text, reference);
+    assert_eq!(at_once(text, once), reply, "the two forms of positions reply otherwise to {name}");
     assert_eq!(by_derivatives(text, derived), reply, "the reference's two ways reply otherwise to {name}");
     assert_eq!(by_product(text, product), reply, "product and reference reply otherwise to {name}");
-    assert!(reference == derived && reference == product, "something else is left of {name}");
+    assert!(reference == once && reference == derived && reference == product, "something else is left of {name}");
 
     let times = time_by_turns([
         &mut || {
             let _ = black_box(by_positions(text, reference));
+        },
+        &mut || {
+            let _ = black_box(at_once(text, once));
         },
         &mut || {
             let _ = black_box(by_derivatives(text, derived));
@@ -93,10 +102,10 @@ fn time_drawing(name: &str, text: &[u8]) {
         },
     ]);
     let found = reply.map_or_else(|refusal| refusal.to_string(), |states| format!("drew {states}"));
-    for (subject, times) in ["reference", "derived", "product"].iter().zip(&times) {
+    for (subject, times) in ["reference", "at once", "derived", "product"].iter().zip(&times) {
         report("draw", name, subject, times, &found);
     }
-    let [by_reference, _, by_product] = times;
+    let [by_reference, _, _, by_product] = times;
     let ratio = |product: Duration, reference: Duration| product.as_secs_f64() / reference.as_secs_f64();
     let medians = ratio(by_product.median, by_reference.median);
     let fastest = ratio(by_product.fastest, by_reference.fastest);
