@@ -4,10 +4,10 @@ use mathlib.Core.Option.{Option, none, some, Option·map}
 use mathlib.Core.List.{List, [], _∷_, _++_, reverse}
 use Prim.Native.Nat.{ℕ, suc, _+_}
 use lib.Dec.{eqb, ltb}
-use lib.ListN.{length}
+use lib.ListN.{length, drop}
 use Rattle.explore.specs.Explore.{Entry, explore, firstBy}
 use Rattle.model.specs.Model.{Action, Transition, local, send, receive, messages, first, moved, begin}
-use Rattle.model.specs.Diagram.{along, follow, isFinal}
+use Rattle.model.specs.Diagram.{along, follow, howFar, isFinal, frontOf, restOf}
 use Rattle.model.specs.Session.{Session, inside}
 use Rattle.model.specs.Verdict.{Item, start, step, entry, items, Pair, before, after, mostPairs, Reply, closed, outside, leaves, bad}
 
@@ -40,6 +40,15 @@ abbrev pub into : Action → List ℕ
 into local = []
 into (send q w) = w
 into (receive q w) = []
+
+-- contents with so many messages taken out, and others put in, behind those below the cut
+abbrev pub exchanged : ℕ → ℕ → List ℕ → List ℕ → List ℕ
+exchanged cut out into u = frontOf cut u ++ (into ++ drop out (restOf cut u))
+
+module _ (S : Session) where
+  -- how far the contents after a step are followed, from those before it
+  unfoldable pub farAfter : ℕ → Transition → List ℕ → ℕ
+  farAfter c τ u = howFar (S .pool) (S .root (moved (S .model) c τ)) (exchanged (cut S (τ .action)) (length (out (τ .action))) (into (τ .action)) u)
 
 -- a walk over pairs: of a step, where the target may be nowhere and should accept; or of a bad entry, where it may not and should not
 pub record Walk : Type 0 where

@@ -9,8 +9,10 @@ pub mod Steps
 pub mod Replies
 pub mod Runs
 pub mod Walks
+pub mod Far
 pub mod Ordered
 pub mod Parts
+pub mod After
 pub mod Shown
 pub mod Spaces
 pub mod Bounds

@@ -8,7 +8,7 @@ use Prim.Native.Nat.{ℕ, suc, _<_}
 use lib.ListN.{length, getD}
 use Rattle.explore.specs.Mem.{Mem}
 use Rattle.model.specs.Model.{Action, local, send, receive, Transition, Model, Configuration, Between, Contents, first}
-use Rattle.model.specs.Diagram.{Pool, accepts, word}
+use Rattle.model.specs.Diagram.{Pool, howFar, accepts, word}
 
 pub record Session : Type 0 where
   pub model : Model
@@ -26,6 +26,10 @@ module _ (S : Session) where
 
   abbrev pub Outside : Configuration → Type 0
   Outside γ = inside γ ≡ false
+
+  -- how far the contents are followed from the root of the control state
+  abbrev pub howFarIn : Configuration → ℕ
+  howFarIn γ = howFar (S .pool) (S .root (γ .control)) (word (γ .queues))
 
   -- the configuration is of the entry's control state, and its contents lead from the entry's root to a final state
   abbrev pub Listed : ℕ × ℕ → Configuration → Type 0

@@ -17,12 +17,12 @@ use Rattle.model.specs.Laws.Basics.{byTest, none-not-some, false-not-tru
 use Rattle.model.specs.Laws.Walks.{follow-none, follow-front}
 
 -- BACK FROM THE WORD
-front-is : {k hi top : ℕ} (q u : List ℕ) → Between k hi q → Between hi top u → frontOf hi (q ++ u) ≡ q
+pub front-is : {k hi top : ℕ} (q u : List ℕ) → Between k hi q → Between hi top u → frontOf hi (q ++ u) ≡ q
 front-is [] [] a b = refl
 front-is {hi = hi} [] (m ∷ u) a (message l h b) = rw (le-ltb m hi l, frontOf)
 front-is {hi = hi} (m ∷ q) u (message l h a) b = rw (lt-ltb m hi h, frontOf) (ap {B = List ℕ} (λ x. m ∷ x) (front-is q u a b))
 
-rest-is : {k hi top : ℕ} (q u : List ℕ) → Between k hi q → Between hi top u → restOf hi (q ++ u) ≡ u
+pub rest-is : {k hi top : ℕ} (q u : List ℕ) → Between k hi q → Between hi top u → restOf hi (q ++ u) ≡ u
 rest-is [] [] a b = refl
 rest-is {hi = hi} [] (m ∷ u) a (message l h b) = rw (le-ltb m hi l, restOf)
 rest-is {hi = hi} (m ∷ q) u (message l h a) b = rw (lt-ltb m hi h, restOf) (rest-is q u a b)
