@@ -10,7 +10,7 @@ use Rattle.model.specs.Model.{Action, Transition, send, receive, Model, 
 use Rattle.model.specs.Diagram.{Pool}
 use Rattle.model.specs.Session.{Session}
 use Rattle.model.specs.Verdict.{closed, outside, leaves, bad}
-use Rattle.model.specs.Judge.{verdict, decide, judge, look, walked}
+use Rattle.model.specs.Judge.{verdict, decide, judge, farAfter, look, walked}
 use Rattle.model.specs.Line.{line, digits, spacedAll, refusedLine}
 
 -- for machines of 2 and 3 states, the pair (1, 2) is control state 5
@@ -57,40 +57,40 @@ sessionS a =
     }
 
 pub r-closed : verdict (sessionR anyNumber []) ≡ closed 4
-unfolding verdict decide judge look walked explore rounds expand fresh starts childrenFrom
+unfolding verdict decide judge farAfter look walked explore rounds expand fresh starts childrenFrom
 r-closed = refl
 
-r-leaves-empty : verdict (sessionR noMessage []) ≡ leaves 0 0 []
-unfolding verdict decide judge look walked explore rounds expand fresh starts childrenFrom
+r-leaves-empty : verdict (sessionR noMessage []) ≡ leaves 0 0 [] 0
+unfolding verdict decide judge farAfter look walked explore rounds expand fresh starts childrenFrom
 r-leaves-empty = refl
 
-r-leaves-one : verdict (sessionR oneAtMost []) ≡ leaves 0 0 (0 ∷ [])
-unfolding verdict decide judge look walked explore rounds expand fresh starts childrenFrom
+r-leaves-one : verdict (sessionR oneAtMost []) ≡ leaves 0 0 (0 ∷ []) 1
+unfolding verdict decide judge farAfter look walked explore rounds expand fresh starts childrenFrom
 r-leaves-one = refl
 
 r-outside : verdict (sessionR nothingAccepted []) ≡ outside
-unfolding verdict decide judge look walked explore rounds expand fresh starts childrenFrom
+unfolding verdict decide judge farAfter look walked explore rounds expand fresh starts childrenFrom
 r-outside = refl
 
 r-bad : verdict (sessionR anyNumber ((0, 0) ∷ [])) ≡ bad 0 []
-unfolding verdict decide judge look walked explore rounds expand fresh starts childrenFrom
+unfolding verdict decide judge farAfter look walked explore rounds expand fresh starts childrenFrom
 r-bad = refl
 
 -- a send to queue 0, and a receive from queue 1
 s-closed : verdict (sessionS (send 0 (0 ∷ []))) ≡ closed 3
-unfolding verdict decide judge look walked explore rounds expand fresh starts childrenFrom
+unfolding verdict decide judge farAfter look walked explore rounds expand fresh starts childrenFrom
 s-closed = refl
 
 s-receives : verdict (sessionS (receive 1 (1 ∷ []))) ≡ closed 3
-unfolding verdict decide judge look walked explore rounds expand fresh starts childrenFrom
+unfolding verdict decide judge farAfter look walked explore rounds expand fresh starts childrenFrom
 s-receives = refl
 
 -- sent and received; 7 is no transition, and nothing is left to receive
 r-run : map (λ γ. γ .queues) (run modelR (0 ∷ 1 ∷ 7 ∷ 1 ∷ [])) ≡ ([] ∷ []) ∷ ((0 ∷ []) ∷ []) ∷ ([] ∷ []) ∷ ([] ∷ []) ∷ ([] ∷ []) ∷ []
 r-run = refl
 
--- leaves 0 0 1: 0
-leaves-line : line (leaves 0 0 (0 ∷ [])) ≡ 108 ∷ 101 ∷ 97 ∷ 118 ∷ 101 ∷ 115 ∷ 32 ∷ 48 ∷ 32 ∷ 48 ∷ 32 ∷ 49 ∷ 58 ∷ 32 ∷ 48 ∷ 10 ∷ []
+-- leaves 0 0 1 1: 0
+leaves-line : line (leaves 0 0 (0 ∷ []) 1) ≡ 108 ∷ 101 ∷ 97 ∷ 118 ∷ 101 ∷ 115 ∷ 32 ∷ 48 ∷ 32 ∷ 48 ∷ 32 ∷ 49 ∷ 32 ∷ 49 ∷ 58 ∷ 32 ∷ 48 ∷ 10 ∷ []
 unfolding line digits spacedAll
 leaves-line = refl
 

@@ -100,10 +100,10 @@ pub data Judged : Type 0 where
   passes : ℕ → Judged
   fails : List ℕ → Judged
 
-abbrev pub reply : Item → List ℕ → Reply
-reply start w = outside
-reply (step c t τ) w = leaves c t w
-reply (entry b e) w = bad b w
+abbrev pub reply : Session → Item → List ℕ → Reply
+reply S start w = outside
+reply S (step c t τ) w = leaves c t w (farAfter S c τ w)
+reply S (entry b e) w = bad b w
 
 -- a local step has no pairs before it
 abbrev pub rootPair : Action → ℕ → Option ℕ → Pair
@@ -145,7 +145,7 @@ module _ (S : Session) where
 
   unfoldable pub decide : List Item → ℕ → Reply
   decide [] n = closed n
-  decide (i ∷ is) n = elim (judge i) [ passes k ↦ decide is (n + k) | fails w ↦ reply i w ]
+  decide (i ∷ is) n = elim (judge i) [ passes k ↦ decide is (n + k) | fails w ↦ reply S i w ]
 
   unfoldable pub verdict : Reply
   verdict = decide (items S) 0

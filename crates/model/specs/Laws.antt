@@ -6,13 +6,13 @@ pub mod Decimals
 pub mod Queues
 pub mod Items
 pub mod Steps
-pub mod Replies
-pub mod Runs
 pub mod Walks
 pub mod Far
 pub mod Ordered
 pub mod Parts
 pub mod After
+pub mod Replies
+pub mod Runs
 pub mod Shown
 pub mod Spaces
 pub mod Bounds

@@ -22,9 +22,9 @@ unfoldable pub spacedAll : List ℕ → List ℕ
 spacedAll [] = []
 spacedAll (m ∷ w) = spaced m ++ spacedAll w
 
--- how many messages, a colon, and the messages
-abbrev pub shown : List ℕ → List ℕ
-shown w = spaced (length w) ++ (58 ∷ spacedAll w)
+-- a colon, and the messages; how many there are comes before it
+abbrev pub listed : List ℕ → List ℕ
+listed w = 58 ∷ spacedAll w
 
 abbrev pub newline : List ℕ
 newline = 10 ∷ []
@@ -52,8 +52,8 @@ atWord = 32 ∷ 97 ∷ 116 ∷ []
 unfoldable pub line : Reply → List ℕ
 line (closed p) = closedWord ++ (spaced p ++ newline)
 line outside = outsideWord ++ newline
-line (leaves c t w) = leavesWord ++ (spaced c ++ (spaced t ++ (shown w ++ newline)))
-line (bad b w) = badWord ++ (spaced b ++ (shown w ++ newline))
+line (leaves c t w f) = leavesWord ++ (spaced c ++ (spaced t ++ (spaced (length w) ++ (spaced f ++ (listed w ++ newline)))))
+line (bad b w) = badWord ++ (spaced b ++ (spaced (length w) ++ (listed w ++ newline)))
 
 -- of a refusal: its number and its place
 unfoldable pub refusedLine : ℕ → ℕ → List ℕ

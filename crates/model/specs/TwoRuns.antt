@@ -8,7 +8,7 @@ use Rattle.explore.specs.Mem.{Mem}
 use Rattle.explore.specs.Size.{Size}
 use Rattle.model.specs.Model.{Configuration, begin, run}
 use Rattle.model.specs.Diagram.{word}
-use Rattle.model.specs.Session.{Session, Inside, Outside, ListedBad}
+use Rattle.model.specs.Session.{Session, Inside, Outside, howFarIn, ListedBad}
 use Rattle.model.specs.Verdict.{Item, items, Leaves, Meets, Means, Visited, most, Reply, closed, outside, leaves, bad}
 use Rattle.model.specs.Judge.{verdict}
 
@@ -18,8 +18,8 @@ module _ (S : Session) (ts : List ℕ) where
   -- closed accepts: each configuration of the run is inside, and none is listed as bad
   Says (closed n) = (γ : Configuration) → Mem γ (run (S .model) ts) → Inside S γ × (ListedBad S γ → ⊥)
   Says outside = Outside S (begin (S .model))
-  -- leaves rejects its step, at its control state and the contents shown
-  Says (leaves c t w) = (γ : Configuration) × Leaves S c t γ × (word (γ .queues) ≡ w)
+  -- leaves rejects its step, at its control state and the contents shown: it leads outside, and the contents there are followed so far
+  Says (leaves c t w f) = (γ : Configuration) × (L : Leaves S c t γ) × (word (γ .queues) ≡ w) × (f ≡ howFarIn S (L .after))
   Says (bad b w) = (e : ℕ × ℕ) × (getElem? (S .bad) b ≡ some e) × (γ : Configuration) × Meets S e γ × (word (γ .queues) ≡ w)
 
 pub record TwoRuns (S : Session) (r : Reply) (ts : List ℕ) : Type 0 where

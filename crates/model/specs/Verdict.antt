@@ -11,7 +11,7 @@ use Rattle.explore.specs.Order.{AtMost}
 use Rattle.model.specs.Model.{Action, local, send, receive, Transition, Model, Configuration, Between, Contents, first, messages, controls}
 use Rattle.model.specs.Model.{IsConfiguration, isAt, moved, take?, begin}
 use Rattle.model.specs.Diagram.{follow, word}
-use Rattle.model.specs.Session.{Session, Inside, Outside, Listed, ListedBad}
+use Rattle.model.specs.Session.{Session, Inside, Outside, howFarIn, Listed, ListedBad}
 
 -- THE ITEMS
 pub data Item : Type 0 where
@@ -132,11 +132,11 @@ module _ (S : Session) where
   most (step c t τ) = mostPairs (S .pool .states)
   most (entry b e) = S .pool .states * S .pool .states
 
--- THE REPLY
+-- THE REPLY: leaves has the contents shown, and how far the contents after the step are followed
 pub data Reply : Type 0 where
   closed : ℕ → Reply
   outside : Reply
-  leaves : ℕ → ℕ → List ℕ → Reply
+  leaves : ℕ → ℕ → List ℕ → ℕ → Reply
   bad : ℕ → List ℕ → Reply
 
 -- the item is the first of the list that fails, and these are its contents
@@ -152,7 +152,7 @@ module _ (S : Session) where
   abbrev pub Means : List Item → Reply → Type 0
   Means is (closed n) = ((i : Item) → Mem i is → Passes S i) × Sum S is n
   Means is outside = First S is start []
-  Means is (leaves c t w) = (τ : Transition) × First S is (step c t τ) w
+  Means is (leaves c t w f) = (τ : Transition) × (F : First S is (step c t τ) w) × (f ≡ howFarIn S (F .fails .against .after))
   Means is (bad b w) = (e : ℕ × ℕ) × First S is (entry b e) w
 
 -- WHAT closed COMES TO, with no items in it: the start is inside, no step that can be taken leads from inside to outside, and no listed bad contents are inside

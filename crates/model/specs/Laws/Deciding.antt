@@ -16,7 +16,7 @@ module _ (S : Session) where
   unfolding decide
   decide-passes i is n k e = rw (e, decide)
 
-  pub decide-fails : (i : Item) (is : List Item) (n : ℕ) (w : List ℕ) → judge S i ≡ fails w → decide S (i ∷ is) n ≡ reply i w
+  pub decide-fails : (i : Item) (is : List Item) (n : ℕ) (w : List ℕ) → judge S i ≡ fails w → decide S (i ∷ is) n ≡ reply S i w
   unfolding decide
   decide-fails i is n w e = rw (e, decide)
 
@@ -24,13 +24,13 @@ module _ (S : Session) where
 abbrev pub unlessFailed : Reply → (ℕ → Reply) → Reply
 unlessFailed (closed n) next = next n
 unlessFailed outside next = outside
-unlessFailed (leaves c t w) next = leaves c t w
+unlessFailed (leaves c t w f) next = leaves c t w f
 unlessFailed (bad b w) next = bad b w
 
-failed : (i : Item) (w : List ℕ) (next : ℕ → Reply) → unlessFailed (reply i w) next ≡ reply i w
-failed start w next = refl
-failed (step c t τ) w next = refl
-failed (entry b e) w next = refl
+failed : (S : Session) (i : Item) (w : List ℕ) (next : ℕ → Reply) → unlessFailed (reply S i w) next ≡ reply S i w
+failed S start w next = refl
+failed S (step c t τ) w next = refl
+failed S (entry b e) w next = refl
 
 module _ (S : Session) where
   pub decide-append : (is js : List Item) (n : ℕ) → decide S (is ++ js) n ≡ unlessFailed (decide S is n) (decide S js)
@@ -43,7 +43,7 @@ module _ (S : Session) where
 
       byJudgement : (j : Judged) → judge S i ≡ j → ((k : ℕ) → decide S (is ++ js) (n + k) ≡ after (decide S is (n + k))) → decide S (i ∷ (is ++ js)) n ≡ after (decide S (i ∷ is) n)
       byJudgement (passes k) e rest = decide-passes S i (is ++ js) n k e ∙ rest k ∙ ap after (sym (decide-passes S i is n k e))
-      byJudgement (fails w) e rest = decide-fails S i (is ++ js) n w e ∙ sym (failed i w (decide S js)) ∙ ap after (sym (decide-fails S i is n w e))
+      byJudgement (fails w) e rest = decide-fails S i (is ++ js) n w e ∙ sym (failed S i w (decide S js)) ∙ ap after (sym (decide-fails S i is n w e))
 
   pub judge-bound : WellFormed S → (i : Item) → Mem i (items S) → (k : ℕ) → judge S i ≡ passes k → k ≤ most S i
   judge-bound wf i m k e = item-bound S wf i m k (subst (JudgedMeans S i) e (judge-means S wf i (item-is S i m)) .1)

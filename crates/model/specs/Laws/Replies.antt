@@ -8,9 +8,11 @@ use Rattle.explore.specs.Mem.{Mem, here, there}
 use Rattle.explore.specs.Laws.Size.{size-unique}
 use Rattle.explore.specs.Order.{AtMost}
 use Rattle.explore.specs.Laws.Order.{at-most-antisymmetric}
-use Rattle.model.specs.Session.{Session}
+use Rattle.model.specs.Session.{Session, WellFormed}
 use Rattle.model.specs.Verdict.{Item, start, step, entry, Passes, Fails, Sum, First, Means, Reply, closed, outside, leaves, bad}
 use Rattle.model.specs.Judge.{reply}
+use Rattle.model.specs.Laws.Items.{IsItem}
+use Rattle.model.specs.Laws.After.{far-after}
 
 module _ (S : Session) where
   pub sum-unique : (is : List Item) (m n : ℕ) → Sum S is m → Sum S is n → m ≡ n
@@ -46,19 +48,13 @@ module _ (S : Session) where
     pub item : Item
     pub shown : List ℕ
     pub first : First S is item shown
-    pub replied : r ≡ reply item shown
+    pub replied : r ≡ reply S item shown
 
   pub failing-not-passing : (is : List Item) (r : Reply) → Failing is r → ((i : Item) → Mem i is → Passes S i) → ⊥
   failing-not-passing is r F p = fails-not-passes (F .item) (F .shown) (F .first .fails) (p (F .item) (first-is-member is (F .item) (F .shown) (F .first)))
 
   abbrev pub Closing : List Item → Reply → Type 0
   Closing is r = (n : ℕ) × (r ≡ closed n) × Means S is (closed n)
-
-  pub means-cases : (is : List Item) (r : Reply) → Means S is r → Closing is r ⊎ Failing is r
-  means-cases is (closed n) m = inl (n, refl, m)
-  means-cases is outside F = inr (record { item = start; shown = []; first = F; replied = refl })
-  means-cases is (leaves c t w) (τ, F) = inr (record { item = step c t τ; shown = w; first = F; replied = refl })
-  means-cases is (bad b w) (e, F) = inr (record { item = entry b e; shown = w; first = F; replied = refl })
 
   same-failing : (is : List Item) (r r′ : Reply) → Failing is r → Failing is r′ → r ≡ r′
   same-failing is r r′ F F′ =
@@ -69,13 +65,24 @@ module _ (S : Session) where
       let parts : G .earlier ++ (F .item ∷ G .later) ≡ G′ .earlier ++ (F′ .item ∷ G′ .later) = sym (G .place) ∙ G′ .place in
       let same : F .item ≡ F′ .item = same-first (G .earlier) (G .later) (G′ .earlier) (G′ .later) (F .item) (F′ .item) parts (G .each) not-passed (G′ .each) not-passed′ in
       let least : F .shown ≡ F′ .shown = same-least (F′ .item) (F .shown) (F′ .shown) (subst (λ i. Fails S i (F .shown)) same (G .fails)) (G′ .fails) in
-      F .replied ∙ ap₂ reply same least ∙ sym (F′ .replied)
+      F .replied ∙ ap₂ (reply S) same least ∙ sym (F′ .replied)
 
-  pub one-reply : (is : List Item) (r r′ : Reply) → Means S is r → Means S is r′ → r ≡ r′
-  one-reply is r r′ m m′ = both (means-cases is r m) (means-cases is r′ m′)
+-- of items of the session
+module _ (S : Session) (wf : WellFormed S) (is : List Item) (each : (i : Item) → Mem i is → IsItem S i) where
+  pub means-cases : (r : Reply) → Means S is r → Closing S is r ⊎ Failing S is r
+  means-cases (closed n) m = inl (n, refl, m)
+  means-cases outside F = inr (record { item = start; shown = []; first = F; replied = refl })
+  means-cases (leaves c t w f) (τ, F, e) =
+      let item = each (step c t τ) (first-is-member S is (step c t τ) w F) in
+      let far = far-after S wf c t τ item (F .fails .shown) (F .fails .against) (F .fails .contents) in
+      inr (record { item = step c t τ; shown = w; first = F; replied = ap (leaves c t w) (e ∙ far) })
+  means-cases (bad b w) (e, F) = inr (record { item = entry b e; shown = w; first = F; replied = refl })
+
+  pub one-reply : (r r′ : Reply) → Means S is r → Means S is r′ → r ≡ r′
+  one-reply r r′ m m′ = both (means-cases r m) (means-cases r′ m′)
     where
-      both : Closing is r ⊎ Failing is r → Closing is r′ ⊎ Failing is r′ → r ≡ r′
-      both (inl (n, e, c)) (inl (n′, e′, c′)) = e ∙ ap closed (sum-unique is n n′ (c .1) (c′ .1)) ∙ sym e′
-      both (inl (n, e, c)) (inr F′) = absurd (failing-not-passing is r′ F′ (c .0))
-      both (inr F) (inl (n′, e′, c′)) = absurd (failing-not-passing is r F (c′ .0))
-      both (inr F) (inr F′) = same-failing is r r′ F F′
+      both : Closing S is r ⊎ Failing S is r → Closing S is r′ ⊎ Failing S is r′ → r ≡ r′
+      both (inl (n, e, c)) (inl (n′, e′, c′)) = e ∙ ap closed (sum-unique S is n n′ (c .1) (c′ .1)) ∙ sym e′
+      both (inl (n, e, c)) (inr F′) = absurd (failing-not-passing S is r′ F′ (c .0))
+      both (inr F) (inl (n′, e′, c′)) = absurd (failing-not-passing S is r F (c′ .0))
+      both (inr F) (inr F′) = same-failing S is r r′ F F′

@@ -94,6 +94,6 @@ module _ (S : Session) (wf : WellFormed S) where
   pub means-says : (ts : List ℕ) (r : Reply) → Means S (items S) r → Says S ts r
   means-says ts (closed n) (p, s) = λ γ m. let H = held-run p ts (begin (S .model)) γ (held-begin p) m in (H .inside, not-bad p γ (H .contents) (H .inside))
   means-says ts outside F = subst (Outside S) (F .fails .against .0) (F .fails .against .1)
-  means-says ts (leaves c t w) (τ, F) = (F .fails .shown, F .fails .against, F .fails .contents)
+  means-says ts (leaves c t w f) (τ, F, e) = (F .fails .shown, F .fails .against, F .fails .contents, e)
   means-says ts (bad b w) (e, F) =
       (e, item-is S (entry b e) (first-is-member S (items S) (entry b e) w F), F .fails .shown, F .fails .against, F .fails .contents)

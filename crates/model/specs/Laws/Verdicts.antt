@@ -20,6 +20,7 @@ use Rattle.model.specs.Laws.Queues.{word-empty}
 use Rattle.model.specs.Laws.Items.{IsItem, item-is}
 use Rattle.model.specs.Laws.Basics.{none-not-some, false-not-true}
 use Rattle.model.specs.Laws.Walks.{follow-none}
+use Rattle.model.specs.Laws.After.{far-after}
 use Rattle.model.specs.Laws.Bounds.{item-bound, Within, file-bound}
 use Rattle.model.specs.Laws.Judging.{JudgedMeans, faithful-judges}
 use Rattle.model.specs.Laws.Faithful.{item-faithful}
@@ -94,29 +95,30 @@ module _ (S : Session) (wf : WellFormed S) where
   sum-snoc (j ∷ is) i n k (a, b, y, s, e) z = (a, b + k, y, sum-snoc is i b k s z, omega arith)
 
   -- the start that fails shows no message
-  reply-means : (is : List Item) (i : Item) (w : List ℕ) → First S is i w → Means S is (reply i w)
-  reply-means is start w F =
+  reply-means : (is : List Item) (i : Item) (w : List ℕ) → IsItem S i → First S is i w → Means S is (reply S i w)
+  reply-means is start w item F =
       let f = F .fails in
       let empty : w ≡ [] = sym (f .contents) ∙ ap (λ γ. word (γ .queues)) (f .against .0) ∙ word-empty (S .model .queues) in
       subst (First S is start) empty F
-  reply-means is (step c t τ) w F = (τ, F)
-  reply-means is (entry b e) w F = (e, F)
+  reply-means is (step c t τ) w item F = (τ, F, sym (far-after S wf c t τ item (F .fails .shown) (F .fails .against) (F .fails .contents)))
+  reply-means is (entry b e) w item F = (e, F)
 
   module _ (done : List Item) (passed : (i : Item) → Mem i done → Passes S i) (i : Item) (todo : List Item) where
     pass-more : Passes S i → (j : Item) → Mem j (done ++ (i ∷ [])) → Passes S j
     pass-more p j m = ⊎-elim (passed j) (λ k. subst (Passes S) (sym (List·Memᴰ·eq-of-singleton k)) p) (List·Memᴰ·append-cases done m)
 
-    judged-next : (n : ℕ) (j : Judged) → JudgedMeans S i j → ((k : ℕ) → Passes S i → Size (Visited S i) k → Means S (done ++ (i ∷ todo)) (decide S todo (n + k)))
-        → Means S (done ++ (i ∷ todo)) (elim j [ passes k ↦ decide S todo (n + k) | fails w ↦ reply i w ])
-    judged-next n (passes k) (p, z) next = next k p z
-    judged-next n (fails w) f next = reply-means (done ++ (i ∷ todo)) i w (record { earlier = done; later = todo; place = refl; each = passed; fails = f })
+    judged-next : IsItem S i → (n : ℕ) (j : Judged) → JudgedMeans S i j → ((k : ℕ) → Passes S i → Size (Visited S i) k → Means S (done ++ (i ∷ todo)) (decide S todo (n + k)))
+        → Means S (done ++ (i ∷ todo)) (elim j [ passes k ↦ decide S todo (n + k) | fails w ↦ reply S i w ])
+    judged-next item n (passes k) (p, z) next = next k p z
+    judged-next item n (fails w) f next = reply-means (done ++ (i ∷ todo)) i w item (record { earlier = done; later = todo; place = refl; each = passed; fails = f })
 
   decide-means : (todo done : List Item) (n : ℕ) → ((i : Item) → Mem i (done ++ todo) → IsItem S i) → ((i : Item) → Mem i done → Passes S i) → Sum S done n
       → Means S (done ++ todo) (decide S todo n)
   unfolding decide
   decide-means [] done n items passed s = subst (λ l. Means S l (closed n)) (sym (append-nil done)) (passed, s)
   decide-means (i ∷ todo) done n items passed s =
-      judged-next done passed i todo n (judge S i) (judge-means S wf i (items i (Memᴰ·append-right done (here refl))))
+      judged-next done passed i todo (items i (Memᴰ·append-right done (here refl))) n (judge S i)
+      (judge-means S wf i (items i (Memᴰ·append-right done (here refl))))
       (λ k p z. subst (λ l. Means S l (decide S todo (n + k))) (append-snoc done i todo)
       (decide-means todo (done ++ (i ∷ [])) (n + k) (λ j m. items j (subst (Mem j) (append-snoc done i todo) m)) (pass-more done passed i todo p) (sum-snoc done i n k s z)))
 
@@ -125,11 +127,11 @@ module _ (S : Session) (wf : WellFormed S) where
   verdict-means = decide-means (items S) [] 0 (item-is S) (λ i m. absurd (List·Memᴰ·not-nil m)) refl
 
   pub verdict-is : (r : Reply) → (r ≡ verdict S) ↔ Means S (items S) r
-  verdict-is r = ((λ e. subst (Means S (items S)) (sym e) verdict-means), (λ m. one-reply S (items S) r (verdict S) m verdict-means))
+  verdict-is r = ((λ e. subst (Means S (items S)) (sym e) verdict-means), (λ m. one-reply S wf (items S) (item-is S) r (verdict S) m verdict-means))
 
   -- the verdict is closed exactly if every item passes
   pub closed-items : ((n : ℕ) × (verdict S ≡ closed n)) ↔ ((i : Item) → Mem i (items S) → Passes S i)
-  closed-items = ((λ (n, e). verdict-is (closed n) .0 (sym e) .0), (λ p. byMeaning p (means-cases S (items S) (verdict S) verdict-means)))
+  closed-items = ((λ (n, e). verdict-is (closed n) .0 (sym e) .0), (λ p. byMeaning p (means-cases S wf (items S) (item-is S) (verdict S) verdict-means)))
     where
       byMeaning : ((i : Item) → Mem i (items S) → Passes S i) → Closing S (items S) (verdict S) ⊎ Failing S (items S) (verdict S) → (n : ℕ) × (verdict S ≡ closed n)
       byMeaning p (inl (n, e, c)) = (n, e)
