@@ -27,7 +27,7 @@ use Rattle.tables.specs.declared.tables.Tables.{Tables}
 use Rattle.model.specs.Model.{run}
 use Rattle.model.specs.Session.{inside}
 use Rattle.model.specs.Verdict.{closed, leaves}
-use Rattle.model.specs.Judge.{verdict as judged, decide, judge, look, walked}
+use Rattle.model.specs.Judge.{verdict as judged, decide, judge, farAfter, look, walked}
 use Rattle.model.specs.Line.{line, refusedLine, digits, spacedAll}
 use Rattle.meaning.specs.Tables.{sessionOf}
 use Rattle.meaning.specs.Reply.{verdict, replyOf, lineOf}
@@ -85,8 +85,8 @@ s-is = refl
 abbrev pub cases : List Case
 cases =
     case "a" (fileR "02" poolR "00") "closed 4\n"
-    ∷ case "b" (fileR "02" "01 01 00" "00") "leaves 0 0 0:\n"
-    ∷ case "c" (fileR "02" "02 01 01 00 01 01 00" "00") "leaves 0 0 1: 0\n"
+    ∷ case "b" (fileR "02" "01 01 00" "00") "leaves 0 0 0 0:\n"
+    ∷ case "c" (fileR "02" "02 01 01 00 01 01 00" "00") "leaves 0 0 1 1: 0\n"
     ∷ case "d" (fileR "02" "01 00 01 00 00" "00") "outside\n"
     ∷ case "e" (fileR "02" poolR "01 00 00") "bad 0 0:\n"
     ∷ case "f" (fileS sendS poolS) "closed 3\n"
@@ -124,20 +124,26 @@ fileW kind =
     hex "01 01 00 01 01 01 00 00 00"
     ++ (hex kind ++ hex "00 10 00 00 00 00 00 00 00 00 00 00 00 00 00 00 00 00 05 01 01 00 01 00 01 00 02 00 01 00 03 00 01 00 04 00 01 00 00 01 00")
 
+-- One machine over two queues, with messages 0 and 1, and 2, sends 1 1 to queue 0. Contents 0 2 become 0 1 1 2; the target's states along these are
+-- given, and the one that they end in is not final.
+abbrev fileF : String → List ℕ
+fileF along =
+    hex "01 02 00 02 02 01 01 00 00 01 01 00 02 01 01 0a 01 01 00 01 00 01 02 02 01 00" ++ (hex along ++ hex "00 00 00 01 01 09 01 00 01 04 00")
+
 -- FURTHER CASES: machines of two states and more, longer words, two queues. With each stands what would print another line.
 abbrev pub furtherCases : List Case
 furtherCases =
     -- a product of 256 refused
     case "product" (hex "02 10 10") "refused 3 at 3\n"
     -- a second step waved through
-    ∷ case "second" secondLeaves "leaves 0 1 0:\n"
+    ∷ case "second" secondLeaves "leaves 0 1 0 0:\n"
     -- a machine goes from 0 to 1 and sends 0; the sets are - and 0: from and to exchanged; a root taken for 1 more than it is
     ∷ case "from" (hex "01 02 00 01 01 01 00 00 01 01 00 01 00 02 01 00 00 01 00 00 01 02 00") "closed 2\n"
     -- machines of 2 and 3 states at (0, 2), and transition 1 leads to (1, 2): control states numbered with machine 0 least significant; from and
     -- to exchanged
-    ∷ case "controls" (hex "02 02 03 00 02 01 01 02 01 00 01 00 00 00 01 01 00 01 00 01 01 00 00 00 01 00 00 01 00") "leaves 2 1 0:\n"
+    ∷ case "controls" (hex "02 02 03 00 02 01 01 02 01 00 01 00 00 00 01 01 00 01 00 01 01 00 00 00 01 00 00 01 00") "leaves 2 1 0 0:\n"
     -- a local step from (1, 0) to (0, 0), in machines of two states: the same
-    ∷ case "local" (hex "02 02 02 01 00 01 02 01 00 01 00 00 04 01 00 00 01 00 02 00 01 01 03 00 01 00 00 02 02 01 00 00") "leaves 2 0 0:\n"
+    ∷ case "local" (hex "02 02 02 01 00 01 02 01 00 01 00 00 04 01 00 00 01 00 02 00 01 01 03 00 01 00 00 02 02 01 00 00") "leaves 2 0 0 0:\n"
     -- 2 3 3 4 is sent to queue 1, then 2 3 received: either word reversed; a receive from the queue's end; sends and receives exchanged
     ∷ case "word"
     (hex "01 03 00 02 02 03 02 00 00 01 01 01 04 02 03 03 04 00 01 02 02 01 02 02 03 06 01 00 00 01 02 02 00 01 03 03 00 01 03 04 00 01 04 05 01 00 01 02 04 00")
@@ -145,16 +151,22 @@ furtherCases =
     -- a message of queue 1 put at the end of queue 0; a send to a queue's front
     ∷ case "queues" (fileQ "01 02 04 07" "00") "closed 11\n"
     -- control state 3 has no root: a target that has nowhere to go dropped
-    ∷ case "nowhere" (fileQ "01 02 04 00" "00") "leaves 1 1 2: 0 2\n"
+    ∷ case "nowhere" (fileQ "01 02 04 00" "00") "leaves 1 1 2 0: 0 2\n"
     -- entry 0 is of control state 0, entry 1 of 1, both with pool state 1 for root: a bad entry's root taken for 1 less than it is
     ∷ case "bad" (fileQ "01 02 04 07" "02 00 01 01 01") "bad 1 2: 0 2\n"
     -- machine 1 receives what machine 0 sent: a receive from the queue's end; control states numbered the other way round
     ∷ case "received" (fileH "03 00 01 00") "closed 5\n"
     -- machine 1 receives 0 1 alone: the word reversed; a receive from the queue's end
-    ∷ case "part" (fileH "02 00 01") "leaves 2 1 3: 0 1 0\n"
+    ∷ case "part" (fileH "02 00 01") "leaves 2 1 3 0: 0 1 0\n"
     -- a word of sixteen sent, and received: its last message left out; its length taken for 0
-    ∷ case "sixteen sent" (fileW "01") "leaves 0 0 0:\n"
-    ∷ case "sixteen received" (fileW "02") "leaves 0 0 20: 0 0 0 0 0 0 0 0 0 0 0 0 0 0 0 0 0 0 0 0\n"
+    ∷ case "sixteen sent" (fileW "01") "leaves 0 0 0 16:\n"
+    ∷ case "sixteen received" (fileW "02") "leaves 0 0 20 4: 0 0 0 0 0 0 0 0 0 0 0 0 0 0 0 0 0 0 0 0\n"
+    -- lost at the first message, before the word, in it, behind it, and nowhere: F counted before the step, in the source, or one off
+    ∷ case "lost at 0" (fileF "00 01 01 08 00 01 01 05 00 01 01 06 00 01 02 07") "leaves 0 0 2 0: 0 2\n"
+    ∷ case "lost at 1" (fileF "00 02 00 04 01 08 00 00 00 01 01 06 00 01 02 07") "leaves 0 0 2 1: 0 2\n"
+    ∷ case "lost at 2" (fileF "00 02 00 04 01 08 00 01 01 05 00 00 00 01 02 07") "leaves 0 0 2 2: 0 2\n"
+    ∷ case "lost at 3" (fileF "00 02 00 04 01 08 00 01 01 05 00 01 01 06 00 00") "leaves 0 0 2 3: 0 2\n"
+    ∷ case "not accepted" (fileF "00 02 00 04 01 08 00 01 01 05 00 01 01 06 00 01 02 07") "leaves 0 0 2 4: 0 2\n"
     -- a word of seventeen taken
     ∷ case "seventeen" (hex "01 01 00 01 01 01 00 00 00 01 00 11") "refused 5 at 11\n"
     -- a starting state that is as much as its machine's states taken; a state of machine 0 held to the states of machine 1
@@ -217,11 +229,11 @@ pub record Computed : Type 0 where
   pub lettered : Printed cases
   pub further : Printed furtherCases
   pub a : replyOf caseA ≡ verdict (closed 4)
-  pub b : replyOf caseB ≡ verdict (leaves 0 0 [])
+  pub b : replyOf caseB ≡ verdict (leaves 0 0 [] 0)
   pub b-run : insides caseB (0 ∷ []) ≡ true ∷ false ∷ []
-  pub c : replyOf caseC ≡ verdict (leaves 0 0 (0 ∷ []))
+  pub c : replyOf caseC ≡ verdict (leaves 0 0 (0 ∷ []) 1)
   pub f : replyOf caseF ≡ verdict (closed 3)
-  pub second : replyOf secondLeaves ≡ verdict (leaves 0 1 [])
+  pub second : replyOf secondLeaves ≡ verdict (leaves 0 1 [] 0)
   pub second-run : insides secondLeaves (1 ∷ []) ≡ true ∷ false ∷ []
 
 pub computed : Computed
@@ -234,7 +246,7 @@ unfolding
     readAscending readArc readArcs readState readStates readPool
     gather queueNodes reached noneFails inQueueOrder
     readRoots readMap readEntries readBad
-    judged decide judge look walked explore rounds expand fresh starts childrenFrom
+    judged decide judge farAfter look walked explore rounds expand fresh starts childrenFrom
     line refusedLine digits spacedAll
 computed =
     record { lettered = refl; further = refl; a = refl; b = refl; b-run = refl; c = refl; f = refl; second = refl; second-run = refl }

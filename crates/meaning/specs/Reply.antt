@@ -28,7 +28,7 @@ abbrev pub shownOf : FileReply → List ℕ
 shownOf (refused k p) = []
 shownOf (verdict (closed n)) = []
 shownOf (verdict outside) = []
-shownOf (verdict (leaves c t w)) = w
+shownOf (verdict (leaves c t w f)) = w
 shownOf (verdict (bad b w)) = w
 
 -- THE LINE that the program prints

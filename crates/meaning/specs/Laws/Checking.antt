@@ -157,4 +157,4 @@ module _ (file seen queue contents : List ℕ) where
         (two-runs-to (readLent file seen queue contents) lent-sound ts)
 
   pub check-one-reply : (r r′ : FileReply) → CheckMeans file seen queue contents r → CheckMeans file seen queue contents r′ → r ≡ r′
-  check-one-reply = meant-one (readLent file seen queue contents)
+  check-one-reply = meant-one (readLent file seen queue contents) lent-sound

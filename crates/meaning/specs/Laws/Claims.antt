@@ -14,6 +14,7 @@ use Rattle.model.specs.Verdict.{Reply, closed, items, Means, Closed}
 use Rattle.model.specs.Session.{Session}
 use Rattle.model.specs.Judge as Judge
 use Rattle.model.specs.TwoRuns.{TwoRuns}
+use Rattle.model.specs.Laws.Items.{item-is}
 use Rattle.model.specs.Laws.Replies.{one-reply}
 use Rattle.model.specs.Laws.Verdicts.{verdict-means, closed-is, closed-bound, two-runs}
 use Rattle.meaning.specs.Tables.{sessionOf}
@@ -41,12 +42,13 @@ verdict-closes S c = (
     same n e = cc
 
 -- ONE REPLY HAS THE MEANING
-pub meant-one : (x : Part.Part Tables) (r r′ : FileReply) → Meant x r → Meant x r′ → r ≡ r′
-meant-one (Part.refused k p) r r′ m m′ = m .refuses k p refl ∙ sym (m′ .refuses k p refl)
-meant-one (Part.got T next) r r′ m m′ =
+pub meant-one : (x : Part.Part Tables) → Sound x → (r r′ : FileReply) → Meant x r → Meant x r′ → r ≡ r′
+meant-one (Part.refused k p) ok r r′ m m′ = m .refuses k p refl ∙ sym (m′ .refuses k p refl)
+meant-one (Part.got T next) ok r r′ m m′ =
     let (v, e, a) = m .judges T next refl in
     let (v′, e′, a′) = m′ .judges T next refl in
-    e ∙ ap verdict (one-reply (sessionOf T) (items (sessionOf T)) v v′ a a′) ∙ sym e′
+    let wf = well-formed T (ok T next refl) in
+    e ∙ ap verdict (one-reply (sessionOf T) wf (items (sessionOf T)) (item-is (sessionOf T)) v v′ a a′) ∙ sym e′
 
 pub reply-meant : (x : Part.Part Tables) → Sound x → Meant x (replyTo x)
 reply-meant (Part.refused k p) ok =
@@ -77,7 +79,7 @@ reply-meant (Part.got T next) ok =
 
 -- the meaning and the definition are one
 pub meant-is : (x : Part.Part Tables) → Sound x → (r : FileReply) → (r ≡ replyTo x) ↔ Meant x r
-meant-is x ok r = (λ e. subst (Meant x) (sym e) (reply-meant x ok), λ m. meant-one x r (replyTo x) m (reply-meant x ok))
+meant-is x ok r = (λ e. subst (Meant x) (sym e) (reply-meant x ok), λ m. meant-one x ok r (replyTo x) m (reply-meant x ok))
 
 -- THE TWO RUNS
 pub two-runs-to : (x : Part.Part Tables) → Sound x → (ts : List ℕ) → TwoRunsTo x (replyTo x) ts
@@ -109,7 +111,7 @@ module _ (s : List ℕ) where
   reply-means = reply-meant (readFile s) file-sound
 
   pub one-reply-of : (r r′ : FileReply) → MeansOf s r → MeansOf s r′ → r ≡ r′
-  one-reply-of r r′ m m′ = meant-one (readFile s) r r′ m m′
+  one-reply-of r r′ m m′ = meant-one (readFile s) file-sound r r′ m m′
 
   pub two-runs-of : (ts : List ℕ) → TwoRunsOf s (replyOf s) ts
   unfolding replyOf

@@ -32,10 +32,10 @@ use Rattle.meaning.specs.Laws.Checking.{Ways, long, little, whole, ways,
 use Rattle.tables.specs.Rows.{rowLength, wordEntry, kindAt, queueAt, lengthAt}
 
 -- a failing item shows no more than w
-reply-shows : (i : Item) (w : List ℕ) (b : ℕ) → length w ≤ b → length (shownOf (verdict (reply i w))) ≤ b
-reply-shows start w b h = zero-le
-reply-shows (step c t τ) w b h = h
-reply-shows (entry c e) w b h = h
+reply-shows : (S : Session) (i : Item) (w : List ℕ) (b : ℕ) → length w ≤ b → length (shownOf (verdict (reply S i w))) ≤ b
+reply-shows S start w b h = zero-le
+reply-shows S (step c t τ) w b h = h
+reply-shows S (entry c e) w b h = h
 
 module _ (S : Session) (wf : WellFormed S) (b : ℕ) (most : (i : Item) → IsItem S i → mostPairs (S .pool .states) + length (taken i) ≤ b) where
   decided-fits : (is : List Item) (n : ℕ) → ((i : Item) → Mem i is → IsItem S i) → length (shownOf (verdict (decide S is n))) ≤ b
@@ -44,13 +44,13 @@ module _ (S : Session) (wf : WellFormed S) (b : ℕ) (most : (i : Item) → IsIt
   decided-fits (i ∷ is) n h = byJudgement (judge S i) refl (λ k. decided-fits is (n + k) (λ j m. h j (there m)))
     where
       byJudgement : (j : Judged) → judge S i ≡ j → ((k : ℕ) → length (shownOf (verdict (decide S is (n + k)))) ≤ b)
-          → length (shownOf (verdict (elim j [ passes k ↦ decide S is (n + k) | fails w ↦ reply i w ]))) ≤ b
+          → length (shownOf (verdict (elim j [ passes k ↦ decide S is (n + k) | fails w ↦ reply S i w ]))) ≤ b
       byJudgement (passes k) e rest = rest k
       byJudgement (fails w) e rest =
           let item = h i (here refl) in
           let short = shown-bound S wf i item w e in
           let all = most i item in
-          reply-shows i w b (omega arith)
+          reply-shows S i w b (omega arith)
 
 -- no more is taken than a word of a file may have
 module _ (T : Tables) (ok : Valid T) where
@@ -117,7 +117,7 @@ module _ (T : Tables) (ok : Valid T) where
   meaning-below : (v : Reply) → Means (sessionOf T) (items (sessionOf T)) v → Between 0 mostMessages (shownOf (verdict v))
   meaning-below (closed n) m = nothing
   meaning-below outside m = nothing
-  meaning-below (leaves c t w) (τ, F) = fails-below (F .fails .shown .queues) w (F .fails .against .contents) (F .fails .contents)
+  meaning-below (leaves c t w f) (τ, F, e) = fails-below (F .fails .shown .queues) w (F .fails .against .contents) (F .fails .contents)
   meaning-below (bad b w) (e, F) = fails-below (F .fails .shown .queues) w (F .fails .against .contents) (F .fails .contents)
 
 pub shown-below : (x : Part.Part Tables) → Sound x → Between 0 mostMessages (shownOf (replyTo x))

@@ -29,7 +29,7 @@ module _ {X : Type 0} where
   refused-not-closed : {k p n : ℕ} → _≡_ {A = FileReply} (refused k p) (verdict (closed n)) → X
   refused-not-closed e = absurd (let z : _≡_ {A = ℕ} 0 1 = cc in omega arith)
 
-  closed-not-leaves : {n c t : ℕ} {w : List ℕ} → _≡_ {A = FileReply} (verdict (closed n)) (verdict (leaves c t w)) → X
+  closed-not-leaves : {n c t f : ℕ} {w : List ℕ} → _≡_ {A = FileReply} (verdict (closed n)) (verdict (leaves c t w f)) → X
   closed-not-leaves e = absurd (let z : _≡_ {A = ℕ} 0 1 = cc in omega arith)
 
 -- closed accepts the run: each of its configurations is inside
