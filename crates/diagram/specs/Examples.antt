@@ -33,13 +33,13 @@ Rootless = hex "01 01 00 02 01 01 01 00 00 00 01 00 01 00 02 01 02 00 00 01 01 0
 -- Contents 0 1 belong, and contents 1 0 are refused. So are another control state and another message, and the order of queues is asked also
 -- where the diagram has nowhere to go.
 pub replies :
-    (memberOf S 0 (0 ∷ 1 ∷ []) ≡ yes)
+    (memberOf S 0 (0 ∷ 1 ∷ []) ≡ yes 2)
     × (memberOf S 0 (1 ∷ 0 ∷ []) ≡ refusal 13 1)
     × (memberOf S 1 (0 ∷ 1 ∷ []) ≡ refusal 11 0)
     × (memberOf S 0 (1 ∷ 2 ∷ 0 ∷ []) ≡ refusal 12 1)
-    × (memberOf Stuck 0 (0 ∷ 1 ∷ []) ≡ no)
+    × (memberOf Stuck 0 (0 ∷ 1 ∷ []) ≡ no 1)
     × (memberOf Stuck 0 (1 ∷ 0 ∷ []) ≡ refusal 13 1)
-    × (memberOf Rootless 0 [] ≡ no)
+    × (memberOf Rootless 0 (0 ∷ []) ≡ no 0)
     × (memberOf Rootless 0 (1 ∷ 0 ∷ []) ≡ refusal 13 1)
 unfolding
     memberOf ask judge readFile readModel readSets

@@ -8,12 +8,12 @@ use Rattle.session.specs.File.{readFile}
 use Rattle.tables.specs.declared.tables.Tables.{Tables}
 use Rattle.model.specs.Model.{controls, Contents}
 use Rattle.model.specs.Diagram.{word}
-use Rattle.model.specs.Session.{inside}
+use Rattle.model.specs.Session.{inside, howFarIn}
 use Rattle.meaning.specs.Tables.{sessionOf}
 
 -- THE ANSWER yes (true) or no (false): the file was read, the control state is one of its session, the contents are the word of
--- some queues, and the configuration of the two is inside (true) or outside (false)
-pub record Answered (file : List ℕ) (c : ℕ) (contents : List ℕ) (b : Bool) : Type 0 where
+-- some queues, and the configuration of the two is inside (true) or outside (false) and followed so far
+pub record Answered (file : List ℕ) (c : ℕ) (contents : List ℕ) (b : Bool) (far : ℕ) : Type 0 where
   pub tables : Tables
   pub next : ℕ
   pub read : readFile file ≡ got tables next
@@ -22,3 +22,4 @@ pub record Answered (file : List ℕ) (c : ℕ) (contents : List ℕ) (b : Bool)
   pub own : Contents (sessionOf tables .model) queues
   pub words : word queues ≡ contents
   pub decided : inside (sessionOf tables) (record { control = c; queues = queues }) ≡ b
+  pub followed : far ≡ howFarIn (sessionOf tables) (record { control = c; queues = queues })

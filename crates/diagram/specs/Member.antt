@@ -7,30 +7,30 @@ use lib.Dec.{ltb, leb}
 use Rattle.numbers.specs.Part.{got, refused}
 use Rattle.session.specs.File.{readFile}
 use Rattle.model.specs.Model.{total, queueOf, controls}
-use Rattle.model.specs.Diagram.{Pool, along, isFinal}
+use Rattle.model.specs.Diagram.{Pool, along, howFar, isFinal}
 use Rattle.model.specs.Session.{Session}
 use Rattle.meaning.specs.Tables.{sessionOf}
 
--- yes, no, or a refusal: its number in document 01 and its place
+-- yes or no, with how far the contents are followed (document 02, change 7), or a refusal: its number in document 01 and its place
 pub data MemberReply : Type 0 where
-  yes : MemberReply
-  no : MemberReply
+  yes : ℕ → MemberReply
+  no : ℕ → MemberReply
   refusal : ℕ → ℕ → MemberReply
 
-abbrev pub answer : Bool → MemberReply
-answer true = yes
-answer false = no
+abbrev pub answer : Bool → ℕ → MemberReply
+answer true far = yes far
+answer false far = no far
 
--- the contents from a place on: the message before them is of this queue, and has led to s. Each message is held to its number and
--- then to its queue, wherever the diagram stands
-unfoldable pub judge : List ℕ → Pool → ℕ → ℕ → Option ℕ → List ℕ → MemberReply
-judge ns P place queue s [] = answer (isFinal P s)
-judge ns P place queue s (m ∷ u) =
+-- the contents, which are followed so far, from a place on: the message before them is of this queue, and has led to s. Each message is held to its
+-- number and then to its queue, wherever the diagram stands
+unfoldable pub judge : List ℕ → Pool → ℕ → ℕ → ℕ → Option ℕ → List ℕ → MemberReply
+judge ns P far place queue s [] = answer (isFinal P s) far
+judge ns P far place queue s (m ∷ u) =
     elim (ltb m (total ns)) [
       | false ↦ refusal 12 place
       | true ↦ elim (leb queue (queueOf ns m)) [
         | false ↦ refusal 13 place
-        | true ↦ judge ns P (place + 1) (queueOf ns m) (along P s m) u
+        | true ↦ judge ns P far (place + 1) (queueOf ns m) (along P s m) u
       ]
     ]
 
@@ -39,7 +39,7 @@ unfoldable pub ask : Session → ℕ → List ℕ → MemberReply
 ask S c contents =
     elim (ltb c (controls (S .model))) [
       | false ↦ refusal 11 0
-      | true ↦ judge (S .model .queues) (S .pool) 0 0 (S .root c) contents
+      | true ↦ judge (S .model .queues) (S .pool) (howFar (S .pool) (S .root c) contents) 0 0 (S .root c) contents
     ]
 
 -- and to a file, which is read first

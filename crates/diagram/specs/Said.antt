@@ -5,8 +5,8 @@ use Rattle.diagram.specs.declared.reply.Member.{Member}
 use Rattle.diagram.specs.declared.reply.Member.the-variants.{Yes, No, Unread, NoControl, NoMessage, EarlierQueue}
 
 abbrev pub saidMember : Member → MemberReply
-saidMember Yes = yes
-saidMember No = no
+saidMember (Yes far) = yes far
+saidMember (No far) = no far
 saidMember (Unread why) = refusal (numberOf why) (placeOf why)
 saidMember NoControl = refusal 11 0
 saidMember (NoMessage p) = refusal 12 p

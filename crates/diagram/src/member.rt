@@ -19,6 +19,7 @@ ghost use lib.ListN.{take};
 ghost use Rattle.tables.specs.Limits.{mostPool};
 ghost use Rattle.tables.specs.Kinds.{reachedOf};
 ghost use Rattle.model.specs.Model.{queueOf};
+ghost use Rattle.model.specs.Diagram.{oneMore, howFar};
 ghost use Rattle.queue_order.specs.Pool.{poolOf};
 ghost use Rattle.meaning.specs.Tables.{sessionOf};
 ghost use Rattle.diagram.specs.Said.{saidMember};
@@ -45,17 +46,28 @@ fn queue_of(q: Queues, m: Message) -> u8
     i
 }
 
+// One message more, if it has led somewhere.
+fn followed(at: Reached) -> usize
+    ensures { λ r. ⌜ r ≡ oneMore (reachedOf (at .0)) 0 ⌝ }
+{
+    if at.is_nowhere() {
+        return 0;
+    }
+    1
+}
+
 // Every message is held to its number and its queue, also where the diagram has nowhere to go.
 fn judge(q: Queues, pool: Pool, start: Reached, contents: &[u8]) -> Member
     requires { ⌜ QueuesValid q ⌝ }
     requires { ⌜ PoolValid (q .sum) pool ⌝ }
     requires { ⌜ start .0 ≤ mostPool ⌝ }
-    ensures { λ r. ⌜ saidMember r ≡ judge (take (q .count) (q .messages)) (poolOf pool) 0 0 (reachedOf (start .0)) (now (contents .entry)) ⌝ }
+    ensures { λ r. ⌜ saidMember r ≡ judge (take (q .count) (q .messages)) (poolOf pool) (howFar (poolOf pool) (reachedOf (start .0)) (now (contents .entry))) 0 0 (reachedOf (start .0)) (now (contents .entry)) ⌝ }
 {
     let arcs = pool.arcs;
     let finals = pool.finals;
     let mut at = start;
     let mut queue: u8 = 0;
+    let mut far: usize = 0;
     let mut i: usize = 0;
     while i < contents.len() {
         let raw = contents[i];
@@ -68,13 +80,14 @@ fn judge(q: Queues, pool: Pool, start: Reached, contents: &[u8]) -> Member
             return Member::EarlierQueue(i);
         }
         at = along(&arcs, at, m);
+        far += followed(at);
         queue = own;
         i += 1;
     }
     if is_final(&finals, at) {
-        Member::Yes
+        Member::Yes(far)
     } else {
-        Member::No
+        Member::No(far)
     }
 }
 

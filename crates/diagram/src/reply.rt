@@ -2,8 +2,9 @@
 use numbers::refusal::Refusal;
 
 pub enum Member {
-    Yes,
-    No,
+    // with how many messages are followed: of a yes, all of them
+    Yes(usize),
+    No(usize),
     // the file is refused
     Unread(Refusal),
     // no control state has this number

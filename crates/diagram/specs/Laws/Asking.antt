@@ -14,6 +14,7 @@ use Rattle.session.specs.Valid.{Valid}
 use Rattle.session.specs.Laws.Valid.{valid}
 use Rattle.tables.specs.declared.tables.Tables.{Tables}
 use Rattle.model.specs.Model.{controls}
+use Rattle.model.specs.Diagram.{howFar}
 use Rattle.queue_order.specs.Pool.{poolOf}
 use Rattle.meaning.specs.Tables.{sessionOf}
 use Rattle.tables.specs.Lookup.{rootOf}
@@ -28,7 +29,7 @@ module _ {T : Tables} (v : Valid T) (c : ℕ) (contents : List ℕ) where
       rw (e, ask)
 
   pub ask-judged : {s : Option ℕ} → c < T .machines .product → s ≡ rootOf (T .map .roots) c
-      → ask (sessionOf T) c contents ≡ judge (take (T .queues .count) (T .queues .messages)) (poolOf (T .pool)) 0 0 s contents
+      → ask (sessionOf T) c contents ≡ judge (take (T .queues .count) (T .queues .messages)) (poolOf (T .pool)) (howFar (poolOf (T .pool)) s contents) 0 0 s contents
   unfolding ask
   ask-judged h f =
       let e : ltb c (controls (sessionOf T .model)) ≡ _ = lt-ltb c (controls (sessionOf T .model)) (omega (arith, controls-are (v .machines))) in

@@ -14,7 +14,7 @@ use Rattle.numbers.specs.Part.{Part, got, refused}
 use Rattle.session.specs.File.{readFile}
 use Rattle.tables.specs.declared.tables.Tables.{Tables}
 use Rattle.model.specs.Model.{total, queueOf, controls}
-use Rattle.model.specs.Diagram.{Pool, along, accepts}
+use Rattle.model.specs.Diagram.{Pool, along, howFar, accepts}
 use Rattle.meaning.specs.Tables.{sessionOf}
 use Rattle.diagram.specs.Member.{refusal, judge, ask, memberOf}
 use Rattle.diagram.specs.Refused.{lastQueue, Stopped, Refused, unread, no-control, stopped}
@@ -29,7 +29,7 @@ same-number e = cc
 same-place : {k p k′ p′ : ℕ} → refusal k p ≡ refusal k′ p′ → p ≡ p′
 same-place e = cc
 
-module _ (ns : List ℕ) (P : Pool) where
+module _ (ns : List ℕ) (P : Pool) (far : ℕ) where
   -- the walk from a place on, where the message before is of queue q
   record Halted (place q : ℕ) (u : List ℕ) (k p : ℕ) : Type 0 where
     front : List ℕ
@@ -40,9 +40,9 @@ module _ (ns : List ℕ) (P : Pool) where
     at : p ≡ place + length front
     cause : ((k ≡ 12) × (total ns ≤ message)) ⊎ ((k ≡ 13) × (message < total ns) × (queueOf ns message < lastQueue ns q front))
 
-  halted : (place q : ℕ) (s : Option ℕ) (u : List ℕ) {k p : ℕ} → judge ns P place q s u ≡ refusal k p → Halted place q u k p
+  halted : (place q : ℕ) (s : Option ℕ) (u : List ℕ) {k p : ℕ} → judge ns P far place q s u ≡ refusal k p → Halted place q u k p
   unfolding judge
-  halted place q s [] {k} {p} e = absurd (refusal-no-answer (accepts P s []) (sym e))
+  halted place q s [] {k} {p} e = absurd (refusal-no-answer (accepts P s []) far (sym e))
   halted place q s (m ∷ u) {k} {p} e =
       go (halted (place + 1) (queueOf ns m) (along P s m) u) (ltb m (total ns)) refl (leb q (queueOf ns m)) refl
     where
@@ -60,19 +60,19 @@ module _ (ns : List ℕ) (P : Pool) where
             cause = why;
           })
 
-      go : (judge ns P (place + 1) (queueOf ns m) (along P s m) u ≡ refusal k p → Halted (place + 1) (queueOf ns m) u k p)
+      go : (judge ns P far (place + 1) (queueOf ns m) (along P s m) u ≡ refusal k p → Halted (place + 1) (queueOf ns m) u k p)
           → (x : Bool) → ltb m (total ns) ≡ x → (y : Bool) → leb q (queueOf ns m) ≡ y → Halted place q (m ∷ u) k p
       go later false f y g =
           let h = ltb-false m (total ns) f in
-          here 12 (sym e ∙ judge-unknown ns P place q s m u h) (inl (refl, h))
+          here 12 (sym e ∙ judge-unknown ns P far place q s m u h) (inl (refl, h))
       go later true f false g =
           let h = ltb-true m (total ns) f in
           let l = leb-false q (queueOf ns m) g in
-          here 13 (sym e ∙ judge-earlier ns P place q s m u h l) (inr (refl, h, l))
+          here 13 (sym e ∙ judge-earlier ns P far place q s m u h l) (inr (refl, h, l))
       go later true f true g =
           let h = ltb-true m (total ns) f in
           let l = leb-true q (queueOf ns m) g in
-          let H = later (sym (judge-on ns P place q s m u h l) ∙ e) in
+          let H = later (sym (judge-on ns P far place q s m u h l) ∙ e) in
           record {
             front = m ∷ H .front;
             message = H .message;
@@ -83,7 +83,7 @@ module _ (ns : List ℕ) (P : Pool) where
             cause = H .cause;
           }
 
-  judge-stops : (s : Option ℕ) (u : List ℕ) {k p : ℕ} → judge ns P 0 0 s u ≡ refusal k p → Stopped ns u k p
+  judge-stops : (s : Option ℕ) (u : List ℕ) {k p : ℕ} → judge ns P far 0 0 s u ≡ refusal k p → Stopped ns u k p
   judge-stops s u e =
       let H = halted 0 0 s u e in
       let S = split (H .rises) in
@@ -102,18 +102,18 @@ module _ (ns : List ℕ) (P : Pool) where
   -- contents in order up to a message that is refused
   stopped-walk : (place : ℕ) {q : ℕ} (s : Option ℕ) {front : List ℕ} (m : ℕ) (rest : List ℕ) {k : ℕ} → Rises (queueOf ns) (total ns) q front
       → ((k ≡ 12) × (total ns ≤ m)) ⊎ ((k ≡ 13) × (m < total ns) × (queueOf ns m < lastQueue ns q front))
-      → judge ns P place q s (front ++ (m ∷ rest)) ≡ refusal k (place + length front)
+      → judge ns P far place q s (front ++ (m ∷ rest)) ≡ refusal k (place + length front)
   stopped-walk place {q} s m rest at-last (inl c) =
-      judge-unknown ns P place q s m rest (c .1) ∙ ap₂ refusal (sym (c .0)) (sym (add-zero place))
+      judge-unknown ns P far place q s m rest (c .1) ∙ ap₂ refusal (sym (c .0)) (sym (add-zero place))
   stopped-walk place {q} s m rest at-last (inr c) =
-      judge-earlier ns P place q s m rest (c .1) (c .2) ∙ ap₂ refusal (sym (c .0)) (sym (add-zero place))
+      judge-earlier ns P far place q s m rest (c .1) (c .2) ∙ ap₂ refusal (sym (c .0)) (sym (add-zero place))
   stopped-walk place {q} s m rest {k} (further {m = n} {u = u} h l r) c =
-      judge-on ns P place q s n (u ++ (m ∷ rest)) h l ∙ stopped-walk (place + 1) (along P s n) m rest r c ∙ ap (refusal k) (omega arith)
+      judge-on ns P far place q s n (u ++ (m ∷ rest)) h l ∙ stopped-walk (place + 1) (along P s n) m rest r c ∙ ap (refusal k) (omega arith)
 
-  stops-judge : (s : Option ℕ) (u : List ℕ) {k p : ℕ} → Stopped ns u k p → judge ns P 0 0 s u ≡ refusal k p
+  stops-judge : (s : Option ℕ) (u : List ℕ) {k p : ℕ} → Stopped ns u k p → judge ns P far 0 0 s u ≡ refusal k p
   stops-judge s u {k} {p} S =
       let rises = subst (Rises (queueOf ns) (total ns) 0) (S .words) (contents-rise (S .own)) in
-      ap (judge ns P 0 0 s) (S .whole) ∙ stopped-walk 0 s (S .message) (S .rest) rises (S .cause)
+      ap (judge ns P far 0 0 s) (S .whole) ∙ stopped-walk 0 s (S .message) (S .rest) rises (S .cause)
       ∙ ap (refusal k) (omega (arith, S .place))
 
 -- WHAT A REFUSAL MEANS
@@ -129,7 +129,7 @@ refusal-means file c contents {k} {p} e = byReading (readFile file) refl
         (subst (λ x. Refused file c contents 11 x) (sym (same-place g)) (no-control r h))
     byControl {T} r true f a =
         let h = ltb-true c (controls (sessionOf T .model)) f in
-        stopped r h (judge-stops (sessionOf T .model .queues) (sessionOf T .pool) (sessionOf T .root c) contents (sym (ask-on (sessionOf T) c contents h) ∙ a))
+        stopped r h (judge-stops (sessionOf T .model .queues) (sessionOf T .pool) (howFar (sessionOf T .pool) (sessionOf T .root c) contents) (sessionOf T .root c) contents (sym (ask-on (sessionOf T) c contents h) ∙ a))
 
     byReading : (x : Part Tables) → readFile file ≡ x → Refused file c contents k p
     byReading (refused j q) f =
@@ -144,7 +144,7 @@ means-refusal file c contents (no-control {T = T} r h) = member-asked file c con
 means-refusal file c contents (stopped {T = T} r h S) =
     member-asked file c contents r
     ∙ ask-on (sessionOf T) c contents h
-    ∙ stops-judge (sessionOf T .model .queues) (sessionOf T .pool) (sessionOf T .root c) contents S
+    ∙ stops-judge (sessionOf T .model .queues) (sessionOf T .pool) (howFar (sessionOf T .pool) (sessionOf T .root c) contents) (sessionOf T .root c) contents S
 
 -- THE REFUSALS OF MEMBERSHIP: each exactly in its case
 pub member-refusal-is : (file : List ℕ) (c : ℕ) (contents : List ℕ) (k p : ℕ) → (memberOf file c contents ≡ refusal k p) ↔ Refused file c contents k p
