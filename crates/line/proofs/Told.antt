@@ -9,6 +9,6 @@ use Rattle.line.proofs.verdict.Verdict.{the-type}
 pub outside-told : (v : Verdict) → tagOf the-type v ≡ 1 → v ≡ Outside
 outside-told (Closed p) e = absurd (omega arith)
 outside-told Outside e = refl
-outside-told (Leaves c t n) e = absurd (omega arith)
+outside-told (Leaves c t n f) e = absurd (omega arith)
 outside-told (Bad b n) e = absurd (omega arith)
 outside-told (Refused k p) e = absurd (omega arith)

@@ -1,4 +1,3 @@
 -- The line that the program prints, in a buffer: what its verdict says, and what writing it promises. The laws are proved from that.
-pub mod Shown
 pub mod Said
 pub mod Laws

@@ -14,7 +14,7 @@ use Rattle.line.specs.declared.verdict.Verdict.the-variants.{Closed, Out
 abbrev pub said : Verdict → List ℕ → FileReply
 said (Closed p) contents = verdict (closed p)
 said Outside contents = verdict outside
-said (Leaves c t n) contents = verdict (leaves c t (take n contents))
+said (Leaves c t n f) contents = verdict (leaves c t (take n contents) f)
 said (Bad b n) contents = verdict (bad b (take n contents))
 said (Refused k p) contents = refused k p
 
@@ -22,13 +22,13 @@ said (Refused k p) contents = refused k p
 abbrev pub shownBy : Verdict → ℕ
 shownBy (Closed p) = 0
 shownBy Outside = 0
-shownBy (Leaves c t n) = n
+shownBy (Leaves c t n f) = n
 shownBy (Bad b n) = n
 shownBy (Refused k p) = 0
 
 -- the contents hold the messages shown, and the buffer holds any line that shows so many
 abbrev pub holds : ℕ → ℕ → ℕ → Bool
-holds room contents shown = leb shown contents && (leb shown 32768 && leb (4 * shown + 41) room)
+holds room contents shown = leb shown contents && (leb shown 32768 && leb (4 * shown + 52) room)
 
 pub record Room (room contents shown : ℕ) (r : Bool) : Type 0 where
   pub is : r ≡ holds room contents shown

@@ -5,9 +5,8 @@ ghost use Prim.Native.Nat.{_+_, _*_, _≤_, _<_};
 ghost use mathlib.Core.Path.{_≡_};
 ghost use mathlib.Core.List.{_∷_};
 ghost use lib.ListN.{length, take};
-ghost use Rattle.model.specs.Line.{digits, spacedAll};
+ghost use Rattle.model.specs.Line.{digits, spacedAll, listed};
 ghost use Rattle.numbers.specs.Put.{Put};
-ghost use Rattle.line.specs.Shown.{shownFrom};
 
 // The byte of a decimal digit.
 pub(crate) fn digit(n: usize) -> u8
@@ -55,12 +54,11 @@ pub(crate) fn put_messages(s: &mut [u8], at: usize, contents: &[u8], count: usiz
     next
 }
 
-// How many messages, a colon, and the messages.
-pub(crate) fn put_shown(s: &mut [u8], at: usize, contents: &[u8], count: usize) -> usize
-    requires { ⌜ (at + (12 + 4 * count) ≤ length (now s)) × (count ≤ length (now contents)) ⌝ }
-    ensures { λ r. ⌜ Put (now (s .entry)) at (12 + 4 * count) (shownFrom (now (contents .entry)) count) (now (s .exit)) r ⌝ }
+// A colon, and the first messages of the contents.
+pub(crate) fn put_listed(s: &mut [u8], at: usize, contents: &[u8], count: usize) -> usize
+    requires { ⌜ (at + (1 + 4 * count) ≤ length (now s)) × (count ≤ length (now contents)) ⌝ }
+    ensures { λ r. ⌜ Put (now (s .entry)) at (1 + 4 * count) (listed (take count (now (contents .entry)))) (now (s .exit)) r ⌝ }
 {
-    let counted = put_spaced(s, at, 10, count);
-    let colon = put_byte(s, counted, 58);
+    let colon = put_byte(s, at, 58);
     put_messages(s, colon, contents, count)
 }

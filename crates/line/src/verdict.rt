@@ -1,5 +1,5 @@
 // What is printed, by value, and the line of it.
-use crate::put::put_shown;
+use crate::put::put_listed;
 use crate::put::put_spaced;
 use numbers::put::put_byte;
 use numbers::put::put_word;
@@ -13,8 +13,8 @@ pub enum Verdict {
     // the pairs visited
     Closed(usize),
     Outside,
-    // control state, transition, and how many messages are shown
-    Leaves(usize, usize, usize),
+    // control state, transition, how many messages are shown, and how many are followed after the step
+    Leaves(usize, usize, usize, usize),
     // bad entry, and how many messages are shown
     Bad(usize, usize),
     // number and place
@@ -31,7 +31,7 @@ fn has_room(room: usize, contents: usize, shown: usize) -> bool
     if 32768 < shown {
         return false;
     }
-    if room < 4 * shown + 41 {
+    if room < 4 * shown + 52 {
         return false;
     }
     true
@@ -80,14 +80,17 @@ fn write_leaves(
     transition: usize,
     contents: &[u8],
     shown: usize,
+    far: usize,
 ) -> usize
-    ensures { λ r. ⌜ Lined (now (buffer .entry)) (now (contents .entry)) shown (line (leaves control transition (take shown (now (contents .entry))))) (now (buffer .exit)) r ⌝ }
+    ensures { λ r. ⌜ Lined (now (buffer .entry)) (now (contents .entry)) shown (line (leaves control transition (take shown (now (contents .entry))) far)) (now (buffer .exit)) r ⌝ }
 {
     if has_room(buffer.len(), contents.len(), shown) {
         let word = put_word(buffer, 0, b"leaves");
         let from = put_spaced(buffer, word, 10, control);
         let step = put_spaced(buffer, from, 10, transition);
-        let messages = put_shown(buffer, step, contents, shown);
+        let counted = put_spaced(buffer, step, 10, shown);
+        let followed = put_spaced(buffer, counted, 10, far);
+        let messages = put_listed(buffer, followed, contents, shown);
         put_byte(buffer, messages, 10)
     } else {
         0
@@ -100,7 +103,8 @@ fn write_bad(buffer: &mut [u8], entry: usize, contents: &[u8], shown: usize) -> 
     if has_room(buffer.len(), contents.len(), shown) {
         let word = put_word(buffer, 0, b"bad");
         let number = put_spaced(buffer, word, 10, entry);
-        let messages = put_shown(buffer, number, contents, shown);
+        let counted = put_spaced(buffer, number, 10, shown);
+        let messages = put_listed(buffer, counted, contents, shown);
         put_byte(buffer, messages, 10)
     } else {
         0
@@ -114,12 +118,13 @@ pub fn write_line(buffer: &mut [u8], verdict: Verdict, contents: &[u8]) -> usize
     match verdict {
         Verdict::Closed(pairs) => write_closed(buffer, pairs),
         Verdict::Outside => write_outside(buffer),
-        Verdict::Leaves(control, transition, shown) => write_leaves(
+        Verdict::Leaves(control, transition, shown, far) => write_leaves(
             buffer,
             control,
             transition,
             contents,
             shown,
+            far,
         ),
         Verdict::Bad(entry, shown) => write_bad(buffer, entry, contents, shown),
         Verdict::Refused(cause, place) => write_refused(buffer, cause, place),

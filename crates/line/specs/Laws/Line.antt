@@ -10,29 +10,28 @@ use borrow.Author.Tests.{leb-true, le-leb}
 use native.Mathlib.Omega.{arith}
 use native.Mathlib.Nat.{zero-add}
 use Rattle.model.specs.Verdict.{closed, outside, leaves, bad}
-use Rattle.model.specs.Line.{spaced, spacedAll, newline, closedWord, outsideWord, leavesWord, badWord, refusedWord, atWord, line, refusedLine}
+use Rattle.model.specs.Line.{spaced, spacedAll, listed, newline, closedWord, outsideWord, leavesWord, badWord, refusedWord, atWord, line, refusedLine}
 use Rattle.model.specs.Laws.Basics.{and-is}
 use Rattle.meaning.specs.Reply.{lineOf}
 use Rattle.numbers.specs.Put.{Put}
-use Rattle.line.specs.Shown.{shownFrom}
 use Rattle.numbers.specs.Laws.Put.{put-then, put-front}
 use Rattle.line.specs.Said.{said, shownBy, holds, Room, given, Lined, Writes}
 use Rattle.line.specs.declared.verdict.Verdict.{Verdict}
 use Rattle.line.specs.declared.verdict.Verdict.the-variants.{Closed, Outside, Leaves, Bad, Refused}
 
 -- ROOM
-pub room-is : (room contents shown : ℕ) → holds room contents shown ≡ true → (shown ≤ contents) × (4 * shown + 41 ≤ room)
+pub room-is : (room contents shown : ℕ) → holds room contents shown ≡ true → (shown ≤ contents) × (4 * shown + 52 ≤ room)
 room-is room contents shown e =
-    let (a, d) = and-is (leb shown contents) (leb shown 32768 && leb (4 * shown + 41) room) e in
-    let (b, c) = and-is (leb shown 32768) (leb (4 * shown + 41) room) d in
-    (leb-true shown contents a, leb-true (4 * shown + 41) room c)
+    let (a, d) = and-is (leb shown contents) (leb shown 32768 && leb (4 * shown + 52) room) e in
+    let (b, c) = and-is (leb shown 32768) (leb (4 * shown + 52) room) d in
+    (leb-true shown contents a, leb-true (4 * shown + 52) room c)
 
 -- what the test says where it holds, and where it does not
 module _ {room contents shown : ℕ} {r : Bool} (found : Room room contents shown r) where
   pub enough : r ≡ true → holds room contents shown ≡ true
   enough e = sym (found .is) ∙ e
 
-  pub bounds : r ≡ true → (shown ≤ contents) × (4 * shown + 41 ≤ room)
+  pub bounds : r ≡ true → (shown ≤ contents) × (4 * shown + 52 ≤ room)
   bounds e = room-is room contents shown (enough e)
 
   pub little : r ≡ false → holds room contents shown ≡ false
@@ -40,7 +39,7 @@ module _ {room contents shown : ℕ} {r : Bool} (found : Room room contents show
 
 -- of no message the contents need not hold any
 pub room-none : (room contents : ℕ) → holds room contents 0 ≡ holds room 0 0
-room-none room contents = ap (λ b. b && (leb 0 32768 && leb (4 * 0 + 41) room)) (le-leb 0 contents (omega arith))
+room-none room contents = ap (λ b. b && (leb 0 32768 && leb (4 * 0 + 52) room)) (le-leb 0 contents (omega arith))
 
 module _ (contents : List ℕ) (shown : ℕ) {entry text : List ℕ} where
   pub lined : {exit : List ℕ} {r : ℕ} (most : ℕ) → holds (length entry) (length contents) shown ≡ true → Put entry 0 most text exit r
@@ -61,16 +60,14 @@ module _ (contents : List ℕ) (shown : ℕ) {entry text : List ℕ} where
         buffer = subst (λ (t : List ℕ). entry ≡ t ++ drop (length t) entry) (sym none) refl;
       }
 
--- SHOWN
-shown-is : (contents : List ℕ) (count : ℕ) → count ≤ length contents
-    → spaced (length (take count contents)) ++ (58 ∷ spacedAll (take count contents)) ≡ shownFrom contents count
-shown-is contents count h = ap (λ (n : ℕ). spaced n ++ (58 ∷ spacedAll (take count contents))) (length-take-le count contents h)
+-- THE MESSAGES, and how many of them there are
+pub put-listed : (contents : List ℕ) (count : ℕ) {a b c : List ℕ} {at p r : ℕ} → Put a at 1 (58 ∷ []) b p
+    → Put b p (4 * count) (spacedAll (take count contents)) c r → Put a at (1 + 4 * count) (listed (take count contents)) c r
+put-listed contents count x y = put-then x y (omega arith)
 
-pub put-shown : (contents : List ℕ) (count : ℕ) {a b c d : List ℕ} {at p q r : ℕ} → Put a at 11 (spaced count) b p
-    → Put b p 1 (58 ∷ []) c q → Put c q (4 * count) (spacedAll (take count contents)) d r
-    → Put a at (12 + 4 * count) (shownFrom contents count) d r
-put-shown contents count x y z =
-    put-then x (put-then {most = 1 + 4 * count} y z (omega arith)) (omega arith)
+counted : (contents : List ℕ) (count : ℕ) {a b : List ℕ} {at r : ℕ} → count ≤ length contents → Put a at 11 (spaced count) b r
+    → Put a at 11 (spaced (length (take count contents))) b r
+counted contents count {a} {b} {at} {r} h x = subst (λ (n : ℕ). Put a at 11 (spaced n) b r) (sym (length-take-le count contents h)) x
 
 -- THE LINES
 module _ {a b c d : List ℕ} {p q r : ℕ} where
@@ -89,25 +86,29 @@ module _ {a b c d e f : List ℕ} {p q s t r : ℕ} where
   put-refused k n u v w x y =
       put-then u (put-then {most = 26} v (put-then {most = 15} w (put-then {most = 12} x y (omega arith)) (omega arith)) (omega arith)) (omega arith)
 
-  pub put-leaves : (control transition : ℕ) (contents : List ℕ) (count : ℕ) → count ≤ length contents → Put a 0 6 leavesWord b p
-      → Put b p 11 (spaced control) c q → Put c q 11 (spaced transition) d s → Put d s (12 + 4 * count) (shownFrom contents count) e t
-      → Put e t 1 newline f r → Put a 0 (4 * count + 41) (line (leaves control transition (take count contents))) f r
-  unfolding line
-  put-leaves control transition contents count h u v w x y =
-      subst (λ (l : List ℕ). Put a 0 (4 * count + 41) (leavesWord ++ (spaced control ++ (spaced transition ++ (l ++ newline)))) f r)
-      (sym (shown-is contents count h))
-      (put-then u
-      (put-then {most = 4 * count + 35} v
-      (put-then {most = 4 * count + 24} w (put-then {most = 4 * count + 13} x y (omega arith)) (omega arith)) (omega arith)) (omega arith))
-
-module _ {a b c d e : List ℕ} {p q s r : ℕ} where
   pub put-bad : (number : ℕ) (contents : List ℕ) (count : ℕ) → count ≤ length contents → Put a 0 3 badWord b p
-      → Put b p 11 (spaced number) c q → Put c q (12 + 4 * count) (shownFrom contents count) d s
-      → Put d s 1 newline e r → Put a 0 (4 * count + 27) (line (bad number (take count contents))) e r
+      → Put b p 11 (spaced number) c q → Put c q 11 (spaced count) d s → Put d s (1 + 4 * count) (listed (take count contents)) e t
+      → Put e t 1 newline f r → Put a 0 (4 * count + 27) (line (bad number (take count contents))) f r
   unfolding line
-  put-bad number contents count h u v x y =
-      subst (λ (l : List ℕ). Put a 0 (4 * count + 27) (badWord ++ (spaced number ++ (l ++ newline))) e r) (sym (shown-is contents count h))
-      (put-then u (put-then {most = 4 * count + 24} v (put-then {most = 4 * count + 13} x y (omega arith)) (omega arith)) (omega arith))
+  put-bad number contents count h u v w x y =
+      put-then u
+      (put-then {most = 4 * count + 24} v
+      (put-then {most = 4 * count + 13} (counted contents count h w) (put-then {most = 4 * count + 2} x y (omega arith)) (omega arith)) (omega arith))
+      (omega arith)
+
+module _ {a b c d e g k l : List ℕ} {p q s t n o r : ℕ} where
+  pub put-leaves : (control transition : ℕ) (contents : List ℕ) (count far : ℕ) → count ≤ length contents → Put a 0 6 leavesWord b p
+      → Put b p 11 (spaced control) c q → Put c q 11 (spaced transition) d s → Put d s 11 (spaced count) e t → Put e t 11 (spaced far) g n
+      → Put g n (1 + 4 * count) (listed (take count contents)) k o → Put k o 1 newline l r
+      → Put a 0 (4 * count + 52) (line (leaves control transition (take count contents) far)) l r
+  unfolding line
+  put-leaves control transition contents count far h u v w x y z end =
+      put-then u
+      (put-then {most = 4 * count + 46} v
+      (put-then {most = 4 * count + 35} w
+      (put-then {most = 4 * count + 24} (counted contents count h x)
+      (put-then {most = 4 * count + 13} y (put-then {most = 4 * count + 2} z end (omega arith)) (omega arith)) (omega arith)) (omega arith)) (omega arith))
+      (omega arith)
 
 -- no message is shown
 bare : (contents : List ℕ) {entry text exit : List ℕ} {r : ℕ} → Lined entry [] 0 text exit r → Lined entry contents 0 text exit r
@@ -129,9 +130,9 @@ module _ {entry contents exit : List ℕ} {v : Verdict} {r : ℕ} where
   pub writes-outside : v ≡ Outside → Lined entry [] 0 (line outside) exit r → Writes entry v contents exit r
   writes-outside e l = writes Outside e (bare contents l)
 
-  pub writes-leaves : {c t n : ℕ} → v ≡ Leaves c t n → Lined entry contents n (line (leaves c t (take n contents))) exit r
+  pub writes-leaves : {c t n f : ℕ} → v ≡ Leaves c t n f → Lined entry contents n (line (leaves c t (take n contents) f)) exit r
       → Writes entry v contents exit r
-  writes-leaves {c} {t} {n} e l = writes (Leaves c t n) e l
+  writes-leaves {c} {t} {n} {f} e l = writes (Leaves c t n f) e l
 
   pub writes-bad : {b n : ℕ} → v ≡ Bad b n → Lined entry contents n (line (bad b (take n contents))) exit r → Writes entry v contents exit r
   writes-bad {b} {n} e l = writes (Bad b n) e l
@@ -140,8 +141,8 @@ module _ {entry contents exit : List ℕ} {v : Verdict} {r : ℕ} where
   writes-refused {k} {p} e l = writes (Refused k p) e (bare contents l)
 
 -- WHAT A CALLER HAS where there is room: the front of the buffer is the line
-pub room-for : (room contents shown : ℕ) → shown ≤ contents → shown ≤ 32768 → 4 * shown + 41 ≤ room → holds room contents shown ≡ true
-room-for room contents shown a b c = rw (le-leb shown contents a, le-leb shown 32768 b, le-leb (4 * shown + 41) room c)
+pub room-for : (room contents shown : ℕ) → shown ≤ contents → shown ≤ 32768 → 4 * shown + 52 ≤ room → holds room contents shown ≡ true
+room-for room contents shown a b c = rw (le-leb shown contents a, le-leb shown 32768 b, le-leb (4 * shown + 52) room c)
 
 pub written : {entry contents exit : List ℕ} {v : Verdict} {r : ℕ} → Writes entry v contents exit r
     → holds (length entry) (length contents) (shownBy v) ≡ true
