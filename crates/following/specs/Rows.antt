@@ -7,9 +7,11 @@ use mathlib.Core.List.{List}
 use lib.Dec.{eqb}
 use lib.ListN.{getD}
 use Rattle.tables.specs.Limits.{mostMessages, mostPool}
-use Rattle.following.specs.Follow.{FollowsTo}
+use Rattle.following.specs.Follow.{FollowsTo, farArcs}
 use Rattle.following.specs.declared.rows.Row.{Row}
 use Rattle.following.specs.declared.rows.Row.the-variants.{At, Nowhere}
+use Rattle.following.specs.declared.messages.Followed.{Followed}
+use Rattle.following.specs.declared.messages.Followed.the-variants as Answer
 
 -- an entry of the table is 0 for none, or 1 plus the target
 abbrev pub rowOf : ℕ → Option ℕ
@@ -36,10 +38,10 @@ pub record RowOf (s row : ℕ) : Type 0 where
   pub begins : StateRow row
   pub state : stateAt row ≡ s
 
--- what a word says from a row on: the row of the state that it leads to
-abbrev pub followedTo : List ℕ → ℕ → List ℕ → Row → Type 0
-followedTo arcs row u (At next) = StateRow next × FollowsTo arcs (stateAt row) u (stateAt next)
-followedTo arcs row u Nowhere = FollowsTo arcs (stateAt row) u mostPool
+-- what a word says from a row on: the row of the state that it leads to, or that it leads nowhere and how far it is followed
+abbrev pub followedTo : List ℕ → ℕ → List ℕ → Followed → Type 0
+followedTo arcs row u (Answer.At next) = StateRow next × FollowsTo arcs (stateAt row) u (stateAt next)
+followedTo arcs row u (Answer.Lost n) = FollowsTo arcs (stateAt row) u mostPool × (n ≡ farArcs arcs (some (stateAt row)) u)
 
-pub record RowFollows (arcs : List ℕ) (row : ℕ) (u : List ℕ) (r : Row) : Type 0 where
+pub record RowFollows (arcs : List ℕ) (row : ℕ) (u : List ℕ) (r : Followed) : Type 0 where
   pub is : followedTo arcs row u r

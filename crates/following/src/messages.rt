@@ -15,8 +15,14 @@ ghost use Rattle.following.specs.Follow.{FollowsTo};
 ghost use Rattle.following.specs.Rows.{StateRow, RowFollows};
 ghost use Rattle.following.specs.Standing.{standing, wordOver, RingAt, WordWithin};
 
-// The row that so many messages lead to, in the ring of this size at base, from head on. The first that has nowhere to go ends it. Callers
-// give the size as a constant, a power of two, so that no division is left of it.
+// Where messages lead: to the row of a state, or nowhere after so many of them.
+pub enum Followed {
+    At(usize),
+    Lost(usize),
+}
+
+// The row that so many messages lead to, in the ring of this size at base, from head on. The first that has nowhere to go ends it, and those
+// before it are counted by what is left then. Callers give the size as a constant, a power of two, so that no division is left of it.
 pub fn follow(
     arcs: &[u8],
     from: usize,
@@ -25,7 +31,7 @@ pub fn follow(
     size: usize,
     head: usize,
     count: usize,
-) -> Row
+) -> Followed
     requires { ⌜ ArcsSmall (now arcs) ⌝ }
     requires { ⌜ StateRow from ⌝ }
     requires { ⌜ RingAt (now table) base size head ⌝ }
@@ -37,13 +43,13 @@ pub fn follow(
     let mut left = count;
     while 0 < left {
         let Row::At(next) = row_after(arcs, row, Message(table[base + i])) else {
-            return Row::Nowhere;
+            return Followed::Lost(count - left);
         };
         row = next;
         i = (i + 1) % size;
         left -= 1;
     }
-    Row::At(row)
+    Followed::At(row)
 }
 
 // Where so many messages of the word at this entry of the table lead. From nowhere there is nowhere to go.
@@ -57,7 +63,7 @@ pub fn follow_word(arcs: &[u8], from: Reached, table: &[u8], at: usize, n: usize
         return from;
     }
     let row = row_of(from.state());
-    let Row::At(last) = follow(arcs, row, table, at, MOST_WORD as usize, 0, n) else {
+    let Followed::At(last) = follow(arcs, row, table, at, MOST_WORD as usize, 0, n) else {
         return Reached::nowhere();
     };
     Reached::at(state_of(last))

@@ -12,10 +12,12 @@ use lib.Seq.{getD-take, getD-drop}
 use Rattle.tables.specs.Limits.{mostMessages, mostPool}
 use Rattle.tables.specs.Pool.{arcAt}
 use Rattle.model.specs.Laws.Basics.{none-not-some}
-use Rattle.following.specs.Follow.{FollowsTo}
+use Rattle.following.specs.Follow.{FollowsTo, farArcs}
 use Rattle.following.specs.Rows.{rowOf, saidRow, RowTo, stateAt, StateRow, followedTo, RowFollows}
 use Rattle.following.specs.declared.rows.Row.{Row}
 use Rattle.following.specs.declared.rows.Row.the-variants.{At, Nowhere}
+use Rattle.following.specs.declared.messages.Followed.{Followed}
+use Rattle.following.specs.declared.messages.Followed.the-variants as Answer
 
 -- an entry, by its test
 missing-entry : (b : Bool) (x : ℕ) → cond b none (some ((x - 1) * mostMessages)) ≡ none → cond b none (some (x - 1)) ≡ none
@@ -62,9 +64,9 @@ row-some {x} {e} s n =
     ∙ sym (ap (λ b. cond b none (some ((e - 1) * mostMessages))) (ne-eqb e 0 (λ z. n (s ∙ z))))
 
 -- where a word was followed from a row on, by its answer
-module _ {arcs u : List ℕ} {row : ℕ} {r : Row} (R : RowFollows arcs row u r) where
-  pub followed-at : {next : ℕ} → r ≡ At next → StateRow next × FollowsTo arcs (stateAt row) u (stateAt next)
+module _ {arcs u : List ℕ} {row : ℕ} {r : Followed} (R : RowFollows arcs row u r) where
+  pub followed-at : {next : ℕ} → r ≡ Answer.At next → StateRow next × FollowsTo arcs (stateAt row) u (stateAt next)
   followed-at z = subst (followedTo arcs row u) z (R .is)
 
-  pub followed-nowhere : r ≡ Nowhere → FollowsTo arcs (stateAt row) u mostPool
-  followed-nowhere z = subst (followedTo arcs row u) z (R .is)
+  pub followed-lost : {n : ℕ} → r ≡ Answer.Lost n → FollowsTo arcs (stateAt row) u mostPool × (n ≡ farArcs arcs (some (stateAt row)) u)
+  followed-lost z = subst (followedTo arcs row u) z (R .is)

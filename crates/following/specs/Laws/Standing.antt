@@ -36,7 +36,7 @@ pub next-placed : {i size : ℕ} → i < size → (i + 1) % size < size
 next-placed {i} {size} h = mod-lt (i + 1) (omega arith)
 
 -- A WORD stands from the first place of its ring on
-on-the-way : (size : ℕ) (table : List ℕ) (base i n : ℕ) → i + n ≤ size → base + size ≤ length table
+pub on-the-way : (size : ℕ) (table : List ℕ) (base i n : ℕ) → i + n ≤ size → base + size ≤ length table
     → standing size table base i n ≡ wordOver table (base + i) n
 unfolding standing
 on-the-way size table base i zero h g = refl

@@ -1,6 +1,6 @@
 use borrow.Author.Needs.{needs}
 use mathlib.Core.Path.{refl}
-use Prim.Native.Nat.{_<_}
+use Prim.Native.Nat.{_-_, _≤_, _<_}
 use native.Mathlib.Omega.{arith}
 use Rattle.tables.specs.Laws.Lookup.{arc-small, along-missing, along-arc}
 use Rattle.following.specs.Rows.{stateAt, StateRow}
@@ -8,6 +8,7 @@ use Rattle.following.specs.Standing.{standing}
 use Rattle.following.specs.Laws.Rows.{row-missing, row-arc}
 use Rattle.following.specs.Laws.Standing.{standing-first, standing-none, next-placed}
 use Rattle.following.specs.Laws.Follow.{Following, follow-begin, state-some, message-small, follow-message, follow-end, follow-lost}
+use Rattle.following.specs.Laws.Far.{Counting, count-begin, count-message, count-missing}
 use Rattle.following.proofs.messages.follow.Statement.{statement}
 use Rattle.following.proofs.messages.follow.Tie as tie
 use Rattle.following.proofs.messages.follow.Reads as reads
@@ -15,76 +16,85 @@ use Rattle.following.proofs.messages.follow.Lts as lts
 use Rattle.following.proofs.rows.row_after.Reads as row-after-reads
 
 abbrev Inv-loop : tie.InvT-loop
-Inv-loop arcs from table base size head count row₀ i₀ left₀ row i left = Following arcs (stateAt from) (standing size table base head count) (stateAt row) (standing size table base i left) × (StateRow row × (i < size))
+Inv-loop arcs from table base size head count row₀ i₀ left₀ row i left =
+    (Following arcs (stateAt from) (standing size table base head count) (stateAt row) (standing size table base i left) × (StateRow row × (i < size)))
+    × (Counting arcs (stateAt from) (standing size table base head count) (count - left) (stateAt row) (standing size table base i left) × (left ≤ count))
 
 abbrev μ-loop : tie.MeasureT-loop
 μ-loop arcs from table base size head count row₀ i₀ left₀ row i left = left
 
--- src/messages.rt:38:5
+-- src/messages.rt:44:5
 loop-holds : tie.Need-loop-holds Inv-loop μ-loop
 loop-holds c =
     let p = c .before .before .pre in
-    (follow-begin (omega (arith, p .1 .0 .below)) (p .1 .1 .1) refl, (p .1 .0, p .1 .1 .0 .placed))
+    ((follow-begin (omega (arith, p .1 .0 .below)) (p .1 .1 .1) refl, (p .1 .0, p .1 .1 .0 .placed)), (count-begin (omega arith) refl, omega arith))
 
--- src/messages.rt:39:64
+-- src/messages.rt:45:64
 add-t14 : tie.Need-add-t14 Inv-loop μ-loop
-add-t14 c = omega (arith, c .before .loop .inv .1 .1, c .before .before .before .before .pre .1 .1 .0 .within)
+add-t14 c = omega (arith, c .before .loop .inv .0 .1 .1, c .before .before .before .before .pre .1 .1 .0 .within)
 
--- src/messages.rt:39:58
+-- src/messages.rt:45:58
 shared-slice-read-t16 : tie.Need-shared-slice-read-t16 Inv-loop μ-loop
-shared-slice-read-t16 c = omega (arith, c .before .before .loop .inv .1 .1, c .before .before .before .before .before .pre .1 .1 .0 .within)
+shared-slice-read-t16 c = omega (arith, c .before .before .loop .inv .0 .1 .1, c .before .before .before .before .before .pre .1 .1 .0 .within)
 
--- src/messages.rt:39:29
+-- src/messages.rt:45:29
 row-after-requires : tie.Need-row-after-requires Inv-loop μ-loop
 row-after-requires c κs =
-    let inv = c .before .before .loop .inv in
+    let inv = c .before .before .loop .inv .0 in
     let p = c .before .before .before .before .before .pre in
     omega (arith, message-small (inv .0) (standing-first _ _ _ _ _ (inv .1 .1) (c .before .loop-test .taken)), inv .1 .0 .is, inv .1 .0 .below, p .0 .long)
 
--- src/messages.rt:39:21
+-- src/messages.rt:45:21
 enum-known-next : tie.Need-enum-known-next Inv-loop μ-loop
 enum-known-next c = search needs
 
--- src/messages.rt:40:13
+-- src/messages.rt:46:35
 enum-told : tie.Need-enum-told Inv-loop μ-loop
 enum-told c = search needs
 
--- src/messages.rt:40:13
+-- src/messages.rt:46:35
+sub-t18 : tie.Need-sub-t18 Inv-loop μ-loop
+sub-t18 c = c .before .before .before .before .before .loop .inv .1 .1
+
+-- src/messages.rt:46:13
 returns : tie.Need-returns Inv-loop μ-loop
 returns c =
     let inv = c .before .before .before .before .before .loop .inv in
-    let missing = row-missing (inv .1 .0 .is) (c .before .before .row-after .ensures) (c .enum-told .given .1) in
-    let first = standing-first _ _ _ _ _ (inv .1 .1) (c .before .before .before .before .loop-test .taken) in
-    record { is = follow-lost (follow-message (inv .0) first (along-missing (state-some (inv .1 .0 .below)) refl missing refl)) refl refl }
+    let missing = row-missing (inv .0 .1 .0 .is) (c .before .before .row-after .ensures) (c .enum-told .given .1) in
+    let first = standing-first _ _ _ _ _ (inv .0 .1 .1) (c .before .before .before .before .loop-test .taken) in
+    let from = c .before .before .before .before .before .before .before .before .pre .1 .0 .below in
+    record { is = (follow-lost (follow-message (inv .0 .0) first (along-missing (state-some (inv .0 .1 .0 .below)) refl missing refl)) refl refl, count-missing (inv .1 .0) (inv .0 .1 .0 .below) first from missing) }
 
--- src/messages.rt:43:14
+-- src/messages.rt:49:14
 add-i : tie.Need-add-i Inv-loop μ-loop
-add-i c = omega (arith, c .before .before .before .before .before .before .loop .inv .1 .1, c .before .before .before .before .before .before .before .before .before .pre .1 .1 .0 .within)
+add-i c = omega (arith, c .before .before .before .before .before .before .loop .inv .0 .1 .1, c .before .before .before .before .before .before .before .before .before .pre .1 .1 .0 .within)
 
--- src/messages.rt:43:13
+-- src/messages.rt:49:13
 rem-i : tie.Need-rem-i Inv-loop μ-loop
-rem-i c = omega (arith, c .before .before .before .before .before .before .loop .inv .1 .1)
+rem-i c = omega (arith, c .before .before .before .before .before .before .loop .inv .0 .1 .1)
 
--- src/messages.rt:44:9
+-- src/messages.rt:50:9
 sub-left : tie.Need-sub-left Inv-loop μ-loop
 sub-left c = search needs
 
--- src/messages.rt:38:5
+-- src/messages.rt:44:5
 loop-less : tie.Need-loop-less Inv-loop μ-loop
 loop-less c = search needs
 
--- src/messages.rt:38:5
+-- src/messages.rt:44:5
 loop-again : tie.Need-loop-again Inv-loop μ-loop
 loop-again c =
-    let inv = c .before .before .before .before .before .before .loop .inv in
+    let whole = c .before .before .before .before .before .before .loop .inv in
+    let inv = whole .0 in
     let p = c .before .before .before .before .before .before .before .before .before .pre in
     let arc = row-arc (inv .1 .0 .is) (c .before .before .before .row-after .ensures) (c .before .next .given .1) in
     let first = standing-first _ _ _ _ _ (inv .1 .1) (c .before .before .before .before .before .loop-test .taken) in
-    (follow-message (inv .0) first (along-arc (state-some (inv .1 .0 .below)) refl (p .0) (arc .0) refl), (record { is = arc .1; below = arc-small _ _ (p .0) (arc .0) }, next-placed (inv .1 .1)))
+    let small = arc-small _ _ (p .0) (arc .0) in
+    ((follow-message (inv .0) first (along-arc (state-some (inv .1 .0 .below)) refl (p .0) (arc .0) refl), (record { is = arc .1; below = small }, next-placed (inv .1 .1))), (count-message (whole .1 .0) (inv .1 .0 .below) first (arc .0) small (omega (arith, whole .1 .1, c .before .before .before .before .before .loop-test .taken)), omega (arith, whole .1 .1)))
 
--- src/messages.rt:20:1
+-- src/messages.rt:26:1
 returns-2 : tie.Need-returns-2 Inv-loop μ-loop
-returns-2 c = record { is = (c .before .loop .inv .1 .0, follow-end (c .before .loop .inv .0) (standing-none _ _ _ _ _ (c .loop-test .left)) refl) }
+returns-2 c = record { is = (c .before .loop .inv .0 .1 .0, follow-end (c .before .loop .inv .0 .0) (standing-none _ _ _ _ _ (c .loop-test .left)) refl) }
 
 pub follow-spec : {M : Type 1} → statement M
 follow-spec =
@@ -98,6 +108,7 @@ follow-spec =
     row-after-requires
     enum-known-next
     enum-told
+    sub-t18
     returns
     add-i
     rem-i

@@ -4,7 +4,7 @@ use denote.Ref.{now}
 use Rattle.tables.specs.Limits.{mostMessages}
 use Rattle.tables.specs.Laws.Lookup.{nowhere-true, nowhere-false, state-below}
 use Rattle.model.specs.Model.{Between}
-use Rattle.following.specs.Laws.Rows.{followed-at, followed-nowhere}
+use Rattle.following.specs.Laws.Rows.{followed-at, followed-lost}
 use Rattle.following.specs.Laws.Follow.{follow-begin, follow-lost, follows-as, follows-word}
 use Rattle.following.specs.Laws.Words.{word-small}
 use Rattle.following.specs.Laws.Standing.{word-standing, word-ring}
@@ -21,30 +21,30 @@ use Rattle.tables.proofs.kinds.Reached.is_nowhere.Reads as is-nowhere-reads
 use Rattle.tables.proofs.kinds.Reached.nowhere.Reads as nowhere-reads
 use Rattle.tables.proofs.kinds.Reached.state.Reads as state-reads
 
--- src/messages.rt:56:8
+-- src/messages.rt:62:8
 is-nowhere-requires : tie.Need-is-nowhere-requires
 is-nowhere-requires c κs = search needs
 
--- src/messages.rt:57:9
+-- src/messages.rt:63:9
 returns : tie.Need-returns
 returns c =
     let a = c .before .before .before .before .args in
     let e = nowhere-true _ (c .before .is-nowhere .ensures) (c .if1 .taken) in
     follow-lost (follow-begin (c .before .before .before .before .pre .1 .0) (word-small (now (a .table)) (a .at) (a .n) (c .before .before .before .before .pre .1 .1)) refl) e e
 
--- src/messages.rt:59:22
+-- src/messages.rt:65:22
 state-requires : tie.Need-state-requires
 state-requires c κs = state-below (c .before .before .before .before .pre .1 .0) (nowhere-false _ (c .before .is-nowhere .ensures) (c .if1 .left))
 
--- src/messages.rt:59:9
+-- src/messages.rt:65:9
 row-of-requires : tie.Need-row-of-requires
 row-of-requires c κs = omega (arith, c .state .ensures, state-below (c .before .before .before .before .before .pre .1 .0) (nowhere-false _ (c .before .before .is-nowhere .ensures) (c .before .if1 .left)))
 
--- src/messages.rt:60:54
+-- src/messages.rt:66:54
 cast-follow : tie.Need-cast-follow
 cast-follow c = search needs
 
--- src/messages.rt:60:25
+-- src/messages.rt:66:25
 follow-requires : tie.Need-follow-requires
 follow-requires c κs =
     let a = c .before .before .before .before .before .before .args in
@@ -52,34 +52,34 @@ follow-requires c κs =
     let word = word-standing (now (a .table)) (a .at) (a .n) (p .1 .1) in
     (p .0, (c .row-of .ensures .begins, (word-ring (p .1 .1), subst (Between 0 mostMessages) (sym word) (word-small (now (a .table)) (a .at) (a .n) (p .1 .1)))))
 
--- src/messages.rt:60:17
+-- src/messages.rt:66:17
 enum-known-last : tie.Need-enum-known-last
 enum-known-last c = search needs
 
--- src/messages.rt:61:9
+-- src/messages.rt:67:9
 enum-told : tie.Need-enum-told
 enum-told c = search needs
 
--- src/messages.rt:61:9
+-- src/messages.rt:67:9
 nowhere-requires : tie.Need-nowhere-requires
 nowhere-requires c κs = search needs
 
--- src/messages.rt:61:9
+-- src/messages.rt:67:9
 returns-2 : tie.Need-returns-2
 returns-2 c =
     let a = c .before .before .before .before .before .before .before .before .before .before .args in
     let word = word-standing (now (a .table)) (a .at) (a .n) (c .before .before .before .before .before .before .before .before .before .before .pre .1 .1) in
-    follows-as (c .before .before .before .before .row-of .ensures .state ∙ c .before .before .before .before .before .state .ensures) (c .nowhere .ensures) (follows-word word (followed-nowhere (c .before .before .before .follow .ensures) (c .before .enum-told .given .1)))
+    follows-as (c .before .before .before .before .row-of .ensures .state ∙ c .before .before .before .before .before .state .ensures) (c .nowhere .ensures) (follows-word word (followed-lost (c .before .before .before .follow .ensures) (c .before .enum-told .given .1) .0))
 
--- src/messages.rt:63:17
+-- src/messages.rt:69:17
 state-of-requires : tie.Need-state-of-requires
 state-of-requires c κs = followed-at (c .before .before .before .follow .ensures) (c .before .last .given .1) .0
 
--- src/messages.rt:63:5
+-- src/messages.rt:69:5
 at-requires : tie.Need-at-requires
 at-requires c κs = search needs
 
--- src/messages.rt:50:1
+-- src/messages.rt:56:1
 returns-3 : tie.Need-returns-3
 returns-3 c =
     let a = c .before .before .before .before .before .before .before .before .before .before .before .before .args in
