@@ -31,6 +31,11 @@ module _ (size : ℕ) (table : List ℕ) (base i n : ℕ) where
   unfolding standing
   standing-none h = ap (standing size table base i) (let z : n ≡ 0 = omega arith in z)
 
+pub standing-length : (size : ℕ) (table : List ℕ) (base i n : ℕ) → length (standing size table base i n) ≡ n
+unfolding standing
+standing-length size table base i zero = refl
+standing-length size table base i (suc n) = ap suc (standing-length size table base (i + 1) n)
+
 -- the next place is one of the ring's
 pub next-placed : {i size : ℕ} → i < size → (i + 1) % size < size
 next-placed {i} {size} h = mod-lt (i + 1) (omega arith)
