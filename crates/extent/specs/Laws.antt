@@ -1,0 +1,4 @@
+-- What the proofs of the extent rest on.
+pub mod Part
+pub mod Front
+pub mod After
