@@ -28,8 +28,8 @@ ends : (replayed S [] ≡ ended end 0 (waiting [])) × (replayed S (0 ∷ 1 ∷ 
 unfolding replayFrom turn readBelow readNumber
 ends = (refl, refl)
 
--- three are too many, and what follows in the trace is not read; a map that does not hold the start
-leaves : (replayed S (0 ∷ 0 ∷ 0 ∷ 99 ∷ []) ≡ ended outside 3 (waiting (0 ∷ 0 ∷ 0 ∷ []))) × (replayed (sessionR (twoAtMost 1) []) (0 ∷ []) ≡ ended outside 0 (waiting []))
+-- three are too many, and two are followed; what is left of the trace is not read; a map that does not hold the start, where nothing waits
+leaves : (replayed S (0 ∷ 0 ∷ 0 ∷ 99 ∷ []) ≡ ended (outside 2) 3 (waiting (0 ∷ 0 ∷ 0 ∷ []))) × (replayed (sessionR (twoAtMost 1) []) (0 ∷ []) ≡ ended (outside 0) 0 (waiting []))
 unfolding replayFrom turn readBelow readNumber
 leaves = (refl, refl)
 
@@ -51,6 +51,6 @@ sends n =
       bad = [];
     }
 
-has-room : (replayed (sends 1024) (0 ∷ []) .why ≡ outside) × (replayed (sends 1025) (0 ∷ []) ≡ ended (refusal 15 0) 0 (waiting []))
+has-room : (replayed (sends 1024) (0 ∷ []) .why ≡ outside 2) × (replayed (sends 1025) (0 ∷ []) ≡ ended (refusal 15 0) 0 (waiting []))
 unfolding replayFrom turn readBelow readNumber
 has-room = (refl, refl)

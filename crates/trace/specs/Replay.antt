@@ -8,7 +8,7 @@ use lib.Dec.{ltb}
 use Rattle.numbers.specs.Part.{Part, got, refused}
 use Rattle.numbers.specs.Number.{readBelow}
 use Rattle.model.specs.Model.{Configuration, take?, begin}
-use Rattle.model.specs.Session.{Session, inside}
+use Rattle.model.specs.Session.{Session, inside, howFarIn}
 use Rattle.trace.specs.Rules.{fits, Why, end, outside, refusal, Ended, ended}
 
 -- ONE TURN at a configuration: the replay stops, or goes on at the next configuration and the place after the number
@@ -32,7 +32,7 @@ module _ (S : Session) where
   taken at γ (got t next) = moved at next (take? (S .model) t γ)
 
   abbrev pub asked : Bool → Bool → ℕ → Configuration → Part ℕ → Turn
-  asked false more at γ x = stops outside
+  asked false more at γ x = stops (outside (howFarIn S γ))
   asked true false at γ x = stops end
   asked true true at γ x = taken at γ x
 

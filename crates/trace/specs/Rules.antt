@@ -10,7 +10,7 @@ use lib.Dec.{leb}
 use Rattle.numbers.specs.Part.{got, refused}
 use Rattle.numbers.specs.Number.{readBelow}
 use Rattle.model.specs.Model.{Configuration, take?, begin}
-use Rattle.model.specs.Session.{Session, Inside, Outside}
+use Rattle.model.specs.Session.{Session, Inside, Outside, howFarIn}
 
 -- a queue holds so many messages at most
 abbrev pub room : ℕ
@@ -21,10 +21,11 @@ abbrev pub fits : List (List ℕ) → Bool
 fits [] = true
 fits (q ∷ qs) = leb (length q) room && fits qs
 
--- why a replay ended: the end of the trace, a configuration outside the map, or a refused step, by its number and its place in the trace
+-- why a replay ended: the end of the trace; a configuration outside the map, by how far its contents are followed (change 7); or a refused step, by its
+-- number and its place in the trace
 pub data Why : Type 0 where
   end : Why
-  outside : Why
+  outside : ℕ → Why
   refusal : ℕ → ℕ → Why
 
 module _ (S : Session) (s : List ℕ) where
@@ -43,7 +44,7 @@ module _ (S : Session) (s : List ℕ) where
   -- THE REPLAY STOPS at a place of the trace and a configuration
   pub data Stops (at : ℕ) (γ : Configuration) : Why → Type 0 where
     -- asked first, before the end and before the next number
-    left-map : Outside S γ → Stops at γ outside
+    left-map : Outside S γ → Stops at γ (outside (howFarIn S γ))
     no-more : Inside S γ → length s ≤ at → Stops at γ end
     -- 3, 4, or 5 for a number that is no transition
     unread : {k p : ℕ} → Inside S γ → at < length s → readBelow s at (length (S .model .transitions)) ≡ refused k p → Stops at γ (refusal k p)

@@ -12,7 +12,7 @@ use Rattle.explore.specs.Mem.{Mem, here, there}
 use Rattle.numbers.specs.Part.{refused}
 use Rattle.numbers.specs.Number.{readBelow}
 use Rattle.model.specs.Model.{Model, Configuration, take?, next, begin, runFrom, run}
-use Rattle.model.specs.Session.{Session, Inside, Outside}
+use Rattle.model.specs.Session.{Session, Inside, Outside, howFarIn}
 use Rattle.model.specs.Verdict.{closed}
 use Rattle.model.specs.TwoRuns.{Says}
 use Rattle.model.specs.Laws.Basics.{false-not-true}
@@ -61,8 +61,11 @@ module _ (S : Session) (s : List ℕ) where
 
 module _ {S : Session} {s : List ℕ} {at : ℕ} {γ : Configuration} where
   -- why it stopped there
-  stops-outside : Stops S s at γ outside → Outside S γ
-  stops-outside (left-map o) = o
+  stops-outside : {f : ℕ} → Stops S s at γ (outside f) → Outside S γ × (f ≡ howFarIn S γ)
+  stops-outside (left-map o) = (o, refl)
+
+  outside-stops : {f : ℕ} → Outside S γ → f ≡ howFarIn S γ → Stops S s at γ (outside f)
+  outside-stops o e = subst (λ f. Stops S s at γ (outside f)) (sym e) (left-map o)
 
   stops-end : Stops S s at γ end → Inside S γ × (length s ≤ at)
   stops-end (no-more i h) = (i, h)
@@ -104,12 +107,13 @@ module _ (S : Session) (s : List ℕ) where
   pub steps-within : replayed S s .steps ≤ length s
   steps-within = let m = replay-means S s in let w = leads-within (m .leads) in omega (arith, m .steps)
 
-  -- outside after n steps: the run of the first n numbers, each taken from inside, has left the map
-  pub outside-exactly : (n : ℕ)
-      → ((replayed S s .why ≡ outside) × (replayed S s .steps ≡ n)) ↔ ((ts : List ℕ) × (at : ℕ) × Leads S s ts at × (length ts ≡ n) × Outside S (last S ts))
-  outside-exactly n = (
-    (λ x. let (ts, at, L, k, p) = ends-exactly S s outside n .0 x in (ts, at, L, k, stops-outside p)),
-    (λ (ts, at, L, k, o). ends-exactly S s outside n .1 (ts, at, L, k, left-map o)),
+  -- outside after n steps, with f: the run of the first n numbers, each taken from inside, has left the map, and f messages of what waits there are followed
+  pub outside-exactly : (f n : ℕ)
+      → ((replayed S s .why ≡ outside f) × (replayed S s .steps ≡ n))
+      ↔ ((ts : List ℕ) × (at : ℕ) × Leads S s ts at × (length ts ≡ n) × Outside S (last S ts) × (f ≡ howFarIn S (last S ts)))
+  outside-exactly f n = (
+    (λ x. let (ts, at, L, k, p) = ends-exactly S s (outside f) n .0 x in let (o, e) = stops-outside p in (ts, at, L, k, o, e)),
+    (λ (ts, at, L, k, o, e). ends-exactly S s (outside f) n .1 (ts, at, L, k, outside-stops o e)),
   )
 
   -- the end after n steps: the whole trace is taken, and its last configuration is inside too
@@ -172,7 +176,7 @@ pub in-run : (S : Session) (ts : List ℕ) → Mem (last S ts) (run (S .model) t
 in-run S ts = last-from (S .model) (begin (S .model)) (begin (S .model)) ts
 
 module _ (S : Session) (s : List ℕ) where
-  pub never-outside : (k : ℕ) → ((ts : List ℕ) → Says S ts (closed k)) → replayed S s .why ≡ outside → ⊥
-  never-outside k says e =
-      let (ts, at, L, l, o) = outside-exactly S s (replayed S s .steps) .0 (e, refl) in
+  pub never-outside : (k f : ℕ) → ((ts : List ℕ) → Says S ts (closed k)) → replayed S s .why ≡ outside f → ⊥
+  never-outside k f says e =
+      let (ts, at, L, l, o, far) = outside-exactly S s f (replayed S s .steps) .0 (e, refl) in
       false-not-true o (says ts (last S ts) (in-run S ts) .0)

@@ -13,14 +13,14 @@ use Rattle.numbers.specs.Laws.Parts.{one-more}
 use Rattle.numbers.specs.Laws.Ranges.{below-number}
 use Rattle.model.specs.Diagram.{Pool}
 use Rattle.model.specs.Model.{Model, Configuration, take?, begin}
-use Rattle.model.specs.Session.{Session, inside}
+use Rattle.model.specs.Session.{Session, inside, howFarIn}
 use Rattle.trace.specs.Rules.{fits, Why, end, outside, refusal, Asked, Steps, Stops, left-map, no-more, unread, untaken, full, Ended, ended}
 use Rattle.trace.specs.Replay.{Turn, stops, goes, kept, moved, taken, asked, turn, onward, replayFrom, replayed}
 use Rattle.trace.specs.Laws.Numbers.{number-after}
 
 -- WHAT DECIDES A TURN, question by question
 module _ (S : Session) (s : List ℕ) (at : ℕ) (γ : Configuration) where
-  pub turn-outside : inside S γ ≡ false → turn S s at γ ≡ stops outside
+  pub turn-outside : inside S γ ≡ false → turn S s at γ ≡ stops (outside (howFarIn S γ))
   unfolding turn
   turn-outside o = rw (o, turn)
 
