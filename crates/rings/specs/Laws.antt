@@ -2,5 +2,6 @@
 pub mod Waiting
 pub mod Each
 pub mod Rings
+pub mod Led
 pub mod Words
 pub mod Settle

@@ -1,4 +1,5 @@
 pub mod Ring
 pub mod Laid
 pub mod Lent
+pub mod Led
 pub mod Laws
