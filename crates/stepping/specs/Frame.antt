@@ -10,7 +10,7 @@ use Rattle.tables.specs.declared.tables.Pool.{Pool}
 use Rattle.tables.specs.declared.tables.BadList.{BadList}
 use Rattle.tables.specs.declared.tables.Tables.{Tables}
 use Rattle.model.specs.Model.{Model, Configuration}
-use Rattle.model.specs.Diagram.{accepts, word}
+use Rattle.model.specs.Diagram.{accepts, howFar, word}
 use Rattle.queue_order.specs.Pool.{poolOf}
 use Rattle.meaning.specs.Tables.{modelOf}
 use Rattle.stepping.specs.declared.frame.Frame.{Frame}
@@ -35,9 +35,12 @@ tablesOf f rows finals arcs roots =
       bad = noBad;
     }
 
--- the model of these tables, and whether a configuration is inside their map: what `sessionOf` says of them
+-- the model of these tables, whether a configuration is inside their map, and how far its contents are followed: what `sessionOf` says of them
 abbrev pub modelIn : Frame → List ℕ → Model
 modelIn f rows = modelOf (f .machines) (f .queues) (transitionsOf f rows)
 
 abbrev pub insideOf : Frame → List ℕ → List ℕ → List ℕ → Configuration → Bool
 insideOf f finals arcs roots γ = accepts (poolOf (poolIn f finals arcs)) (rootOf roots (γ .control)) (word (γ .queues))
+
+abbrev pub farOf : Frame → List ℕ → List ℕ → List ℕ → Configuration → ℕ
+farOf f finals arcs roots γ = howFar (poolOf (poolIn f finals arcs)) (rootOf roots (γ .control)) (word (γ .queues))

@@ -18,9 +18,10 @@ use Rattle.following.specs.Laws.Follow.{follow-none}
 use Rattle.following.specs.Laws.Far.{far-none-arcs}
 use Rattle.rings.specs.Ring.{ringAt, rings}
 use Rattle.rings.specs.Lent.{Rings}
-use Rattle.rings.specs.Led.{Leads, Waits}
+use Rattle.rings.specs.Led.{ledTo, Leads, Waits}
 use Rattle.rings.specs.Laws.Waiting.{waiting-length}
 use Rattle.rings.specs.Laws.Each.{each-snoc}
+use Rattle.rings.specs.declared.follow.Led.{Led}
 use Rattle.rings.specs.declared.follow.Led.the-variants.{To, Lost}
 
 -- ONE QUEUE MORE
@@ -93,3 +94,11 @@ module _ {arcs u : List ℕ} where
     pub leads-to : {s : ℕ} {d : DiagramState} → s < mostPool → FollowsTo arcs t u s → d .0 ≡ s → Leads arcs t′ u (To d)
     leads-to below f e =
         record { is = (sym (f .is ∙ ap (λ x. followArcs arcs (reachedOf x) u) from) ∙ reached-small below ∙ ap some (sym e), omega arith) }
+
+-- and back, by the answer
+module _ {arcs u : List ℕ} {t : ℕ} {r : Led} (L : Leads arcs t u r) where
+  pub led-to : {s : DiagramState} → r ≡ To s → (followArcs arcs (reachedOf t) u ≡ some (s .0)) × (s .0 < mostPool)
+  led-to z = subst (ledTo arcs t u) z (L .is)
+
+  pub led-nowhere : {n : ℕ} → r ≡ Lost n → (followArcs arcs (reachedOf t) u ≡ none) × (n ≡ farArcs arcs (reachedOf t) u)
+  led-nowhere z = subst (ledTo arcs t u) z (L .is)

@@ -1,7 +1,7 @@
--- Whether the configuration of a record is inside, by what the code finds in the tables.
-use Prim.Native.Nat.{ℕ, _≤_}
-use mathlib.Core.Path.{_≡_, sym, ap, _∙_}
-use mathlib.Core.Bool.{Bool}
+-- Whether the configuration of a record is inside, and how far it is followed if not, by what the code finds in the tables.
+use Prim.Native.Nat.{ℕ, _≤_, _<_}
+use mathlib.Core.Path.{_≡_, refl, sym, ap, ap₂, _∙_}
+use mathlib.Core.Bool.{Bool, true, false}
 use mathlib.Core.Option.{Option, some}
 use mathlib.Core.List.{List}
 use native.Mathlib.Omega.{arith}
@@ -9,23 +9,33 @@ use lib.ListN.{length, getD, take}
 use Rattle.tables.specs.Limits.{mostMessages, mostPool}
 use Rattle.tables.specs.Kinds.{reachedOf}
 use Rattle.tables.specs.Lookup.{rootOf, finalAt, RootAt, ArcsSmall}
-use Rattle.tables.specs.Laws.Lookup.{arcs-small}
+use Rattle.tables.specs.Pool.{arcAt}
+use Rattle.tables.specs.Laws.Lookup.{arcs-small, reached-small}
+use Rattle.tables.specs.declared.kinds.DiagramState.{DiagramState}
 use Rattle.model.specs.Model.{Between, Own, number, total}
 use Rattle.model.specs.Laws.Queues.{between-wide, word-between}
-use Rattle.model.specs.Diagram.{follow, word}
+use Rattle.model.specs.Diagram.{Pool, follow, howFar, isFinal, accepts, word}
+use Rattle.model.specs.Laws.Far.{far-whole}
 use Rattle.queue_order.specs.Pool.{poolOf}
 use Rattle.meaning.specs.Laws.Lookup.{along-is, final-is}
 use Rattle.queue_order.specs.Laws.Tables.{messages-are}
 use Rattle.controls.specs.Controls.{sizesOf}
-use Rattle.following.specs.Follow.{followArcs, FollowsTo}
+use Rattle.following.specs.Follow.{followArcs, farArcs}
 use Rattle.following.specs.Laws.Follow.{follow-is}
+use Rattle.following.specs.Laws.Far.{far-is-arcs}
 use Rattle.rings.specs.Ring.{rings}
 use Rattle.rings.specs.Lent.{Rings}
-use Rattle.stepping.specs.Frame.{poolIn, insideOf}
+use Rattle.rings.specs.Led.{Leads, Waits}
+use Rattle.rings.specs.Laws.Led.{led-to, led-nowhere}
+use Rattle.rings.specs.declared.follow.Led.{Led}
+use Rattle.rings.specs.declared.follow.Led.the-variants.{To, Lost}
+use Rattle.stepping.specs.Frame.{poolIn}
 use Rattle.stepping.specs.Configurations.{configOf}
-use Rattle.stepping.specs.Inside.{Mapped}
+use Rattle.stepping.specs.Inside.{positionBy, positionOf, Mapped}
 use Rattle.stepping.specs.Laws.Shifting.{ringed-rings}
 use Rattle.stepping.specs.declared.frame.Frame.{Frame}
+use Rattle.stepping.specs.declared.inside.Position.{Position}
+use Rattle.stepping.specs.declared.inside.Position.the-variants.{Inside, Outside}
 use Rattle.stepping.specs.declared.runs.RunRecord.{RunRecord}
 
 -- the messages of queues that have messages of their own
@@ -45,19 +55,59 @@ module _ {f : Frame} {finals arcs roots : List ℕ} {r : RunRecord} {mem : List 
   pub messages-small : Between 0 mostMessages (word (rings mem (r .heads) (r .lengths) (f .queues .count)))
   messages-small = own-small (omega (arith, messages-are (A .queues), A .queues .sumMost)) (A .holds .contents)
 
-  pub inside-is : {b : Bool} {c t s : ℕ} → c ≡ number (sizesOf (f .machines)) (take (f .machines .count) (r .states)) → RootAt roots c t
-      → FollowsTo arcs t (word (rings mem (r .heads) (r .lengths) (f .queues .count))) s → b ≡ finalAt finals (reachedOf s)
-      → b ≡ insideOf f finals arcs roots (configOf (f .machines) (f .queues) r mem)
-  inside-is e root leads final =
-      final
-      ∙ ap (finalAt finals)
-      (leads .is
-      ∙ ap (λ x. followArcs arcs x waiting) (root .is ∙ ap (rootOf roots) e)
-      ∙ follow-is (poolOf (poolIn f finals arcs)) arcs (λ s. along-is (poolIn f finals arcs) (some s)) start waiting messages-small)
-      ∙ sym (final-is (poolIn f finals arcs) (follow (poolOf (poolIn f finals arcs)) start waiting))
-    where
-      start : Option ℕ
-      start = rootOf roots (number (sizesOf (f .machines)) (take (f .machines .count) (r .states)))
+  -- WHAT THE CODE FINDS from the root of the control state, t: c is its number
+  module _ {c t : ℕ} (e : c ≡ number (sizesOf (f .machines)) (take (f .machines .count) (r .states))) (root : RootAt roots c t) where
+    abbrev pool : Pool
+    pool = poolOf (poolIn f finals arcs)
 
-      waiting : List ℕ
-      waiting = word (rings mem (r .heads) (r .lengths) (f .queues .count))
+    abbrev start : Option ℕ
+    start = rootOf roots (number (sizesOf (f .machines)) (take (f .machines .count) (r .states)))
+
+    abbrev waiting : List ℕ
+    waiting = word (rings mem (r .heads) (r .lengths) (f .queues .count))
+
+    abbrev position : Position
+    position = positionOf f finals arcs roots (configOf (f .machines) (f .queues) r mem)
+
+    same-arcs : (s m : ℕ) → m < mostMessages → pool .arc s m ≡ arcAt arcs s m
+    same-arcs s = along-is (poolIn f finals arcs) (some s)
+
+    from-root : reachedOf t ≡ start
+    from-root = root .is ∙ ap (rootOf roots) e
+
+    follow-table : {x : Option ℕ} → followArcs arcs (reachedOf t) waiting ≡ x → follow pool start waiting ≡ x
+    follow-table g = sym (ap (λ y. followArcs arcs y waiting) from-root ∙ follow-is pool arcs same-arcs start waiting messages-small) ∙ g
+
+    far-table : farArcs arcs (reachedOf t) waiting ≡ howFar pool start waiting
+    far-table = ap (λ y. farArcs arcs y waiting) from-root ∙ far-is-arcs pool arcs same-arcs start waiting messages-small
+
+    inside-table : {x : Option ℕ} → followArcs arcs (reachedOf t) waiting ≡ x → accepts pool start waiting ≡ finalAt finals x
+    inside-table {x} g = ap (isFinal pool) (follow-table g) ∙ final-is (poolIn f finals arcs) x
+
+    -- nowhere to go; a final state; another, and then all that waits is followed
+    pub position-lost : {a : Led} {n : ℕ} → Leads arcs t waiting a → a ≡ Lost n → Outside n ≡ position
+    position-lost l z =
+        let (g, far) = led-nowhere l z in
+        sym (ap₂ positionBy (inside-table g) (sym (far ∙ far-table)))
+
+    module _ {a : Led} {s : DiagramState} (l : Leads arcs t waiting a) (z : a ≡ To s) {b : Bool} {k : ℕ} (h : k ≡ s .0) (d : b ≡ finalAt finals (reachedOf k)) where
+      state-final : accepts pool start waiting ≡ b
+      state-final =
+          let (g, below) = led-to l z in
+          inside-table g ∙ ap (finalAt finals) (sym (ap reachedOf h ∙ reached-small below)) ∙ sym d
+
+      pub position-final : b ≡ true → Inside ≡ position
+      position-final i = sym (ap (λ x. positionBy x (howFar pool start waiting)) (state-final ∙ i))
+
+      pub position-other : {n : ℕ} → b ≡ false → Waits (r .lengths) (f .queues .count) n → Outside n ≡ position
+      position-other i W =
+          sym (ap₂ positionBy (state-final ∙ i) (far-whole pool start waiting (follow-table (led-to l z .0)) ∙ sym (W .is mem (r .heads))))
+
+-- what a position says
+pub found-inside : (b : Bool) (far : ℕ) → Inside ≡ positionBy b far → b ≡ true
+found-inside true far e = refl
+found-inside false far e = cc
+
+pub found-outside : (b : Bool) (far : ℕ) {n : ℕ} → Outside n ≡ positionBy b far → (b ≡ false) × (n ≡ far)
+found-outside true far e = (cc, cc)
+found-outside false far e = (refl, cc)
