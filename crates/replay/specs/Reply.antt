@@ -65,7 +65,7 @@ replayOf bytes s mem r = replayTo (readFile bytes) s mem r
 -- what the code's answer says: 14 and 15 are a step's, 1 the trace's and 2 the memory's
 abbrev pub saidStop : Stop → Reply
 saidStop End = ran end
-saidStop Outside = ran outside
+saidStop (Outside far) = ran (outside far)
 saidStop (Unread why) = ran (refusal (numberOf why) (placeOf why))
 saidStop (NotPossible p) = ran (refusal 14 p)
 saidStop (NoRoom p) = ran (refusal 15 p)

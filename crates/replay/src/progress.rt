@@ -8,8 +8,8 @@ use tables::tables::MOST_CONTROLS;
 pub enum Stop {
     // the end of the trace
     End,
-    // the configuration is outside the map
-    Outside,
+    // the configuration is outside the map, and so many messages of what waits are followed
+    Outside(usize),
     // no number, or one that is no transition
     Unread(Refusal),
     // the machine is in another state, or the queue does not begin with the word

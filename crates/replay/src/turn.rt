@@ -6,7 +6,8 @@ use numbers::number::Field;
 use numbers::number::read_below;
 use numbers::number::wide;
 use stepping::frame::Frame;
-use stepping::inside::is_inside;
+use stepping::inside::Position;
+use stepping::inside::locate;
 use stepping::settling::settle;
 use stepping::taking::Took;
 use stepping::taking::take;
@@ -82,8 +83,9 @@ pub(crate) fn turn(
     requires { ⌜ Ready (tablesOf f (now rows) (now finals) (now arcs) (now roots)) (now trace) (parts (now states) (now heads) (now lengths) (now memory) p) ⌝ }
     ensures { λ a. ⌜ Stepped (tablesLent f (rows .entry) (finals .entry) (arcs .entry) (roots .entry)) (now (trace .entry)) (partsLent (states .entry) (heads .entry) (lengths .entry) (memory .entry) p) (partsLent (states .exit) (heads .exit) (lengths .exit) (memory .exit) a) ⌝ }
 {
-    if !is_inside(f, finals, arcs, roots, states, heads, lengths, memory) {
-        return stopped(heads, lengths, f, memory, p, Stop::Outside);
+    match locate(f, finals, arcs, roots, states, heads, lengths, memory) {
+        Position::Outside(far) => return stopped(heads, lengths, f, memory, p, Stop::Outside(far)),
+        Position::Inside => {}
     }
     let at = p.at;
     if trace.len() <= at {

@@ -27,8 +27,8 @@ pub ran-why : {w w′ : Why} → Replaying.ran w ≡ Replaying.ran w′ → w �
 ran-why e = cc
 
 -- where a file that was read has a replay that ended outside, so has its session
-lent-outside : (b c : Bool) (T : Tables) (s mem : List ℕ) (lent : RunRecord)
-    → Replaying.lentTo b c T s mem lent .reply ≡ Replaying.ran outside → replayed (sessionOf T) s .why ≡ outside
+lent-outside : (b c : Bool) (T : Tables) (s mem : List ℕ) (lent : RunRecord) {f : ℕ}
+    → Replaying.lentTo b c T s mem lent .reply ≡ Replaying.ran (outside f) → replayed (sessionOf T) s .why ≡ outside f
 lent-outside false c T s mem lent e = cc
 lent-outside true false T s mem lent e = cc
 lent-outside true true T s mem lent e = ran-why e
@@ -43,10 +43,11 @@ module _ (bytes seen queue contents : List ℕ) (r : FileReply) (runs : (ts : Li
       let one : v ≡ closed k = cc in
       subst (Says (sessionOf T) ts) one (two .says)
 
-  -- A CLOSED FILE: the reply r of a check with any memory lent, as its clause `two_runs` says it, and a replay of any trace with any memory and record
-  pub closed-never-outside : (s mem : List ℕ) (lent : RunRecord) → Replaying.replayOf bytes s mem lent .reply ≡ Replaying.ran outside → ⊥
+  -- A CLOSED FILE: the reply r of a check with any memory lent, as its clause `two_runs` says it, and a replay of any trace with any memory and record:
+  -- it does not end outside, whatever f
+  pub closed-never-outside : (s mem : List ℕ) (lent : RunRecord) (f : ℕ) → Replaying.replayOf bytes s mem lent .reply ≡ Replaying.ran (outside f) → ⊥
   unfolding Replaying.replayOf readLent
-  closed-never-outside s mem lent out = go (readLent bytes seen queue contents) refl
+  closed-never-outside s mem lent f out = go (readLent bytes seen queue contents) refl
     where
       go : (x : Part.Part Tables) → readLent bytes seen queue contents ≡ x → ⊥
       go (Part.refused j p) x =
@@ -56,6 +57,6 @@ module _ (bytes seen queue contents : List ℕ) (r : FileReply) (runs : (ts : Li
       go (Part.got T next) x =
           let first = provided-got (leb (length bytes) mostBytes) 1 mostBytes _ x in
           let second = provided-got (enough seen queue contents) 2 0 (readFile bytes) (first .1) in
-          never-outside (sessionOf T) s k (says x)
+          never-outside (sessionOf T) s k f (says x)
           (lent-outside (leb (length s) mostBytes) (leb (T .queues .count * room) (length mem)) T s mem lent
           (ap (λ y. Replaying.replayTo y s mem lent .reply) (sym (second .1)) ∙ out))

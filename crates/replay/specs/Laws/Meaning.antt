@@ -12,7 +12,7 @@ use Rattle.numbers.specs.Part.{got}
 use Rattle.tables.specs.declared.tables.Tables.{Tables}
 use Rattle.session.specs.File.{readFile}
 use Rattle.model.specs.Model.{take?}
-use Rattle.model.specs.Session.{Outside}
+use Rattle.model.specs.Session.{Outside, howFarIn}
 use Rattle.meaning.specs.Tables.{sessionOf}
 use Rattle.trace.specs.Rules.{room, Why, outside, refusal, Asked}
 use Rattle.trace.specs.Meaning.{Leads, Means, last}
@@ -39,13 +39,14 @@ module _ (bytes s mem : List ℕ) (r : RunRecord) {T : Tables} {next : ℕ} (e :
     (λ (a, b). (ap (λ o. o .reply) ran-is ∙ ap ran a, ap (λ o. o .steps) ran-is ∙ b)),
   )
 
-  -- OUTSIDE after n steps: configurations 0 to n − 1 of the run that is fed the trace's first n numbers are inside, each of them taken, and
-  -- configuration n is not
-  pub outside-after : (n : ℕ) → ((replayOf bytes s mem r .reply ≡ ran outside) × (replayOf bytes s mem r .steps ≡ n))
-      ↔ ((ts : List ℕ) × (at : ℕ) × Leads (sessionOf T) s ts at × (length ts ≡ n) × Outside (sessionOf T) (last (sessionOf T) ts))
-  outside-after n = (
-    (λ x. outside-exactly (sessionOf T) s n .0 (ended-so outside n .0 x)),
-    (λ y. ended-so outside n .1 (outside-exactly (sessionOf T) s n .1 y)),
+  -- OUTSIDE after n steps, with f: configurations 0 to n − 1 of the run that is fed the trace's first n numbers are inside, each of them taken, and
+  -- configuration n is not, and f messages of what waits there are followed
+  pub outside-after : (f n : ℕ) → ((replayOf bytes s mem r .reply ≡ ran (outside f)) × (replayOf bytes s mem r .steps ≡ n))
+      ↔ ((ts : List ℕ) × (at : ℕ) × Leads (sessionOf T) s ts at × (length ts ≡ n) × Outside (sessionOf T) (last (sessionOf T) ts)
+      × (f ≡ howFarIn (sessionOf T) (last (sessionOf T) ts)))
+  outside-after f n = (
+    (λ x. outside-exactly (sessionOf T) s f n .0 (ended-so (outside f) n .0 x)),
+    (λ y. ended-so (outside f) n .1 (outside-exactly (sessionOf T) s f n .1 y)),
   )
 
   -- 14 at place p: the number that stands there is a transition's, and the configuration that the trace has led to does not allow it

@@ -1,7 +1,7 @@
 -- One turn on record and memory is the turn on their configuration, by what the code finds.
 use Prim.Native.Nat.{ℕ, _+_, _≤_, _<_}
 use mathlib.Core.Path.{_≡_, refl, sym, ap, subst, _∙_}
-use mathlib.Core.Bool.{Bool, true, false}
+use mathlib.Core.Bool.{true}
 use mathlib.Core.List.{List}
 use native.Mathlib.Omega.{arith}
 use lib.ListN.{length}
@@ -12,18 +12,21 @@ use Rattle.numbers.specs.Number.{readBelow}
 use Rattle.numbers.specs.Laws.Ranges.{below-range}
 use Rattle.numbers.specs.declared.refusal.Refusal.{Refusal}
 use Rattle.model.specs.Model.{Configuration, take?}
-use Rattle.model.specs.Session.{Session, inside}
+use Rattle.model.specs.Session.{Session, inside, howFarIn}
 use Rattle.meaning.specs.Tables.{sessionOf}
 use Rattle.meaning.specs.Laws.Rows.{transitions-length}
 use Rattle.trace.specs.Rules.{Why, end, outside, refusal}
 use Rattle.trace.specs.Replay.{Turn, stops, kept, moved, turn}
 use Rattle.trace.specs.Laws.Turns.{turn-outside, turn-end, turn-unread}
-use Rattle.stepping.specs.Frame.{modelIn, insideOf}
+use Rattle.stepping.specs.Frame.{modelIn}
 use Rattle.tables.specs.Valid.{MachinesValid, QueuesValid}
 use Rattle.tables.specs.declared.tables.Tables.{Tables}
 use Rattle.stepping.specs.Configurations.{runOf, configOf, Holds, Settleable}
 use Rattle.stepping.specs.Laws.Settling.{record-is}
-use Rattle.stepping.specs.Inside.{Mapped}
+use Rattle.stepping.specs.Inside.{positionOf, Mapped}
+use Rattle.stepping.specs.Laws.Inside.{found-inside, found-outside}
+use Rattle.stepping.specs.declared.inside.Position.{Position}
+use Rattle.stepping.specs.declared.inside.Position.the-variants as Found
 use Rattle.stepping.specs.Taking.{Takeable, Stays, Takes}
 use Rattle.stepping.specs.declared.frame.Frame.{Frame}
 use Rattle.stepping.specs.declared.runs.RunRecord.{RunRecord}
@@ -118,35 +121,44 @@ module _ {T : Tables} {s : List ℕ} {x : State} (R : Ready T s x) where
         holds = R .holds;
       }
 
-  abbrev isInside : Bool
-  isInside = insideOf f (T .pool .finals) (T .pool .arcs) (T .map .roots) (stands f x)
+  -- what was found of the configuration
+  abbrev found : Position
+  found = positionOf f (T .pool .finals) (T .pool .arcs) (T .map .roots) (stands f x)
 
-  pub stepped-outside : {y : State} → false ≡ isInside → Stopped f x Outside y → Stepped T s x y
+  is-inside : Found.Inside ≡ found → inside (sessionOf T) (stands f x) ≡ true
+  is-inside i = found-inside (inside (sessionOf T) (stands f x)) (howFarIn (sessionOf T) (stands f x)) i
+
+  pub stepped-outside : {far : ℕ} {y : State} → Found.Outside far ≡ found → Stopped f x (Outside far) y → Stepped T s x y
   stepped-outside i S =
-      record { turned = turned-off outside (turn-outside (sessionOf T) s (x .progress .at) (stands f x) (sym i)) refl S }
+      let (o, e) = found-outside (inside (sessionOf T) (stands f x)) (howFarIn (sessionOf T) (stands f x)) i in
+      record {
+        turned =
+            turned-off (outside (howFarIn (sessionOf T) (stands f x))) (turn-outside (sessionOf T) s (x .progress .at) (stands f x) o)
+            (ap (λ n. ran (outside n)) e) S;
+      }
 
-  pub stepped-end : {y : State} → true ≡ isInside → length s ≤ x .progress .at → Stopped f x End y → Stepped T s x y
+  pub stepped-end : {y : State} → Found.Inside ≡ found → length s ≤ x .progress .at → Stopped f x End y → Stepped T s x y
   stepped-end i h S =
-      record { turned = turned-off end (turn-end (sessionOf T) s (x .progress .at) (stands f x) (sym i) h) refl S }
+      record { turned = turned-off end (turn-end (sessionOf T) s (x .progress .at) (stands f x) (is-inside i) h) refl S }
 
-  pub stepped-unread : {y : State} {why : Refusal} → true ≡ isInside → x .progress .at < length s
+  pub stepped-unread : {y : State} {why : Refusal} → Found.Inside ≡ found → x .progress .at < length s
       → refused (numberOf why) (placeOf why) ≡ readBelow s (x .progress .at) (f .transitions) → Stopped f x (Unread why) y → Stepped T s x y
   stepped-unread {why = why} i h e S =
       record {
         turned =
             turned-off (refusal (numberOf why) (placeOf why))
-            (turn-unread (sessionOf T) s (x .progress .at) (stands f x) (sym i) h
+            (turn-unread (sessionOf T) s (x .progress .at) (stands f x) (is-inside i) h
             (ap (readBelow s (x .progress .at)) transitions-counted ∙ sym e)) refl S;
       }
 
-  pub stepped-taken : {t next : ℕ} {y : State} → true ≡ isInside → x .progress .at < length s
+  pub stepped-taken : {t next : ℕ} {y : State} → Found.Inside ≡ found → x .progress .at < length s
       → got t next ≡ readBelow s (x .progress .at) (f .transitions)
       → Turned f (moved (x .progress .at) next (take? (modelIn f (T .transitions .rows)) t (stands f x))) x y → Stepped T s x y
   stepped-taken i h e t =
       record {
         turned =
             turned-as
-            (turn-is (sessionOf T) s (x .progress .at) (stands f x) (sym i) h
+            (turn-is (sessionOf T) s (x .progress .at) (stands f x) (is-inside i) h
             (ap (readBelow s (x .progress .at)) transitions-counted ∙ sym e)) t;
       }
 
