@@ -6,14 +6,12 @@ use lib.ListN.{length, drop, set, getD}
 use lib.Seq.{sets, sets-eq}
 use native.Mathlib.Omega.{arith}
 use Rattle.stepping.specs.declared.runs.RunRecord.{RunRecord}
+use Rattle.telling.specs.Told.{replyLeast}
 use Rattle.telling.specs.Replays.{recordOut, recordLeast}
 
--- three numbers stored one by one
-pub told-stored : (reply : List ℕ) (x y z : ℕ) → 3 ≤ length reply → set (set (set reply 0 x) 1 y) 2 z ≡ x ∷ y ∷ z ∷ drop 3 reply
-told-stored [] x y z h = absurd (omega arith)
-told-stored (a ∷ []) x y z h = absurd (omega arith)
-told-stored (a ∷ b ∷ []) x y z h = absurd (omega arith)
-told-stored (a ∷ b ∷ c ∷ rest) x y z h = refl
+-- four numbers stored one by one
+pub told-stored : (reply : List ℕ) (w x y z : ℕ) → replyLeast ≤ length reply → sets reply 0 (w ∷ x ∷ y ∷ z ∷ []) ≡ w ∷ x ∷ y ∷ z ∷ drop replyLeast reply
+told-stored reply w x y z h = sets-eq (w ∷ x ∷ y ∷ z ∷ []) reply 0 h
 
 -- a table of four, written out before others
 abbrev fourThen : List ℕ → List ℕ → List ℕ

@@ -25,14 +25,14 @@ TRACE-REFUSED = 12
 abbrev pub MEMORY-REFUSED : ℕ
 MEMORY-REFUSED = 13
 
--- the steps taken; after a refused step its number and its place in the trace come before them
+-- the steps taken, and outside the map how many messages are followed; after a refused step its number and its place in the trace come before them
 abbrev pub toldReplay : Reply → ℕ → Told
-toldReplay (ran end) n = toldOf END n 0 0
-toldReplay (ran outside) n = toldOf LEFT n 0 0
-toldReplay (ran (refusal k p)) n = toldOf STEP-REFUSED k p n
+toldReplay (ran end) n = toldOf END n 0 0 0
+toldReplay (ran (outside far)) n = toldOf LEFT n far 0 0
+toldReplay (ran (refusal k p)) n = toldOf STEP-REFUSED k p n 0
 toldReplay (file k p) n = toldRefusal k p
-toldReplay (trace k p) n = toldOf TRACE-REFUSED k p 0
-toldReplay (memory k p) n = toldOf MEMORY-REFUSED k p 0
+toldReplay (trace k p) n = toldOf TRACE-REFUSED k p 0 0
+toldReplay (memory k p) n = toldOf MEMORY-REFUSED k p 0 0
 
 -- each machine's state, each queue's head, each queue's length
 abbrev pub recordOut : RunRecord → List ℕ

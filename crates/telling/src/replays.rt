@@ -1,5 +1,6 @@
 // What a replay tells, and the record of its run as numbers.
 use crate::told::Told;
+use crate::told::counted;
 use crate::told::tell_refusal;
 use numbers::refusal::MOST_BYTES;
 use numbers::refusal::number;
@@ -39,6 +40,7 @@ fn step_refused(number: usize, place: usize, steps: usize) -> Told
         first: number,
         second: place,
         third: steps,
+        fourth: 0,
     }
 }
 
@@ -48,17 +50,13 @@ pub fn tell_replay(e: Ended) -> Told
     let why = e.why;
     let steps = e.steps;
     match why {
-        Stop::End => Told {
-            kind: END,
-            first: steps,
-            second: 0,
-            third: 0,
-        },
-        Stop::Outside => Told {
+        Stop::End => counted(END, steps),
+        Stop::Outside(far) => Told {
             kind: LEFT,
             first: steps,
-            second: 0,
+            second: far,
             third: 0,
+            fourth: 0,
         },
         Stop::Unread(refusal) => step_refused(number(refusal), place(refusal), steps),
         Stop::NotPossible(at) => step_refused(14, at, steps),
@@ -69,12 +67,14 @@ pub fn tell_replay(e: Ended) -> Told
             first: 1,
             second: MOST_BYTES,
             third: 0,
+            fourth: 0,
         },
         Stop::MemoryShort => Told {
             kind: MEMORY_REFUSED,
             first: 2,
             second: 0,
             third: 0,
+            fourth: 0,
         },
     }
 }

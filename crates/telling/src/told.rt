@@ -1,4 +1,4 @@
-// What a call tells: the kind of its reply, and up to three numbers that go with it.
+// What a call tells: the kind of its reply, and up to four numbers that go with it.
 use diagram::reply::Member;
 use line::verdict::Verdict;
 use numbers::refusal::Refusal;
@@ -11,7 +11,7 @@ ghost use lib.ListN.{length};
 ghost use Rattle.numbers.specs.Said.{numberOf, placeOf};
 ghost use Rattle.diagram.specs.Said.{saidMember};
 ghost use Rattle.writing.specs.Write.{saidWritten};
-ghost use Rattle.telling.specs.Told.{toldOf, toldLine, toldMember, toldWritten, toldRefusal, Tells};
+ghost use Rattle.telling.specs.Told.{toldOf, toldLine, toldMember, toldWritten, toldRefusal, replyLeast, Tells};
 
 // The kinds, as the header names them.
 pub const CLOSED: usize = 0;
@@ -35,24 +35,39 @@ pub const NO: usize = 8;
 pub const WRITTEN: usize = 14;
 
 // Entries that the reply's space needs.
-pub const REPLY_LEAST: usize = 3;
+pub const REPLY_LEAST: usize = 4;
 
 pub struct Told {
     pub kind: usize,
     pub first: usize,
     pub second: usize,
     pub third: usize,
+    pub fourth: usize,
 }
 
 // A kind that no numbers go with.
 pub fn bare(kind: usize) -> Told
-    ensures { λ r. ⌜ r ≡ toldOf kind 0 0 0 ⌝ }
+    ensures { λ r. ⌜ r ≡ toldOf kind 0 0 0 0 ⌝ }
 {
     Told {
         kind,
         first: 0,
         second: 0,
         third: 0,
+        fourth: 0,
+    }
+}
+
+// A kind that one number goes with.
+pub fn counted(kind: usize, count: usize) -> Told
+    ensures { λ r. ⌜ r ≡ toldOf kind count 0 0 0 ⌝ }
+{
+    Told {
+        kind,
+        first: count,
+        second: 0,
+        third: 0,
+        fourth: 0,
     }
 }
 
@@ -64,6 +79,7 @@ pub fn refused(number: usize, place: usize) -> Told
         first: number,
         second: place,
         third: 0,
+        fourth: 0,
     }
 }
 
@@ -77,24 +93,21 @@ pub fn tell_verdict(v: Verdict) -> Told
     ensures { λ r. ⌜ r ≡ toldLine v ⌝ }
 {
     match v {
-        Verdict::Closed(pairs) => Told {
-            kind: CLOSED,
-            first: pairs,
-            second: 0,
-            third: 0,
-        },
+        Verdict::Closed(pairs) => counted(CLOSED, pairs),
         Verdict::Outside => bare(OUTSIDE),
-        Verdict::Leaves(control, transition, shown) => Told {
+        Verdict::Leaves(control, transition, shown, far) => Told {
             kind: LEAVES,
             first: control,
             second: transition,
             third: shown,
+            fourth: far,
         },
         Verdict::Bad(entry, shown) => Told {
             kind: BAD,
             first: entry,
             second: shown,
             third: 0,
+            fourth: 0,
         },
         Verdict::Refused(number, place) => refused(number, place),
     }
@@ -104,8 +117,8 @@ pub fn tell_member(m: Member) -> Told
     ensures { λ r. ⌜ r ≡ toldMember (saidMember m) ⌝ }
 {
     match m {
-        Member::Yes => bare(YES),
-        Member::No => bare(NO),
+        Member::Yes(far) => counted(YES, far),
+        Member::No(far) => counted(NO, far),
         Member::Unread(why) => tell_refusal(why),
         Member::NoControl => refused(11, 0),
         Member::NoMessage(at) => refused(12, at),
@@ -117,12 +130,7 @@ pub fn tell_written(w: Written) -> Told
     ensures { λ r. ⌜ r ≡ toldWritten (saidWritten w) ⌝ }
 {
     match w {
-        Written::Length(length) => Told {
-            kind: WRITTEN,
-            first: length,
-            second: 0,
-            third: 0,
-        },
+        Written::Length(length) => counted(WRITTEN, length),
         Written::NotReadable => refused(16, 0),
         Written::TooShort => refused(17, 0),
     }
@@ -130,11 +138,12 @@ pub fn tell_written(w: Written) -> Told
 
 // The numbers fill the front of the reply's space. Returns the kind.
 pub fn put_told(reply: &mut [usize], t: Told) -> usize
-    requires { ⌜ 3 ≤ length (now reply) ⌝ }
+    requires { ⌜ replyLeast ≤ length (now reply) ⌝ }
     ensures { λ r. ⌜ Tells t (now (reply .entry)) (now (reply .exit)) r ⌝ }
 {
     reply[0] = t.first;
     reply[1] = t.second;
     reply[2] = t.third;
+    reply[3] = t.fourth;
     t.kind
 }

@@ -24,7 +24,7 @@ ranCases = 0 ∷ 1 ∷ 2 ∷ 3 ∷ 4 ∷ []
 ran-told : (why : Stop) (r : RunRecord) (space : List ℕ) → OneOf ranCases (tagOf the-type why)
     → recordOut r ++ drop recordLeast space ≡ runAfter (saidStop why) r space
 ran-told End r space o = refl
-ran-told Outside r space o = refl
+ran-told (Outside far) r space o = refl
 ran-told (Unread w) r space o = refl
 ran-told (NotPossible p) r space o = refl
 ran-told (NoRoom p) r space o = refl
