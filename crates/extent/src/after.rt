@@ -59,10 +59,11 @@ pub fn far_after(
     let kept = front_of(contents, shown, x.cut);
     let front = follow_part(arcs, target, contents, 0, ROOM, 0, kept);
     let word = follow_part(arcs, front.to, rows, x.word, MOST_WORD as usize, 0, x.into);
-    if shown - kept <= x.out {
+    let out = x.out;
+    if shown - kept <= out {
         return front.far + word.far;
     }
-    let behind = kept + x.out;
+    let behind = kept + out;
     let rest = follow_part(arcs, word.to, contents, 0, ROOM, behind, shown - behind);
     front.far + word.far + rest.far
 }

@@ -36,59 +36,58 @@ follow-part-requires-2 c κs =
     let word = word-standing (now (a .rows)) (a .x .word) (a .x .into) (p .1 .0) in
     (p .0, (c .follow-part .ensures .leads .most, (word-ring (p .1 .0), subst (Between 0 mostMessages) (sym word) (word-small (now (a .rows)) (a .x .word) (a .x .into) (p .1 .0)))))
 
--- src/after.rt:62:8
+-- src/after.rt:63:8
 sub-if1 : tie.Need-sub-if1
 sub-if1 c = kept-most (c .before .before .before .before .before .before .pre .1 .1 .1) (c .before .before .front-of .ensures)
 
--- src/after.rt:63:16
+-- src/after.rt:64:16
 add-result : tie.Need-add-result
 add-result c =
-    let p = c .before .before .before .before .before .before .before .before .before .before .pre in
-    omega (arith, both-most (p .1 .1 .1) (c .before .before .before .before .before .before .front-of .ensures) (p .1 .0) (c .before .before .before .before .before .before .before .before .before .before .args .x .out) (c .before .before .before .before .before .follow-part .ensures) (c .before .before .before .before .follow-part2 .ensures), p .1 .1 .1 .most)
+    let p = c .before .before .before .before .before .before .before .before .before .pre in
+    omega (arith, both-most (p .1 .1 .1) (c .before .before .before .before .before .front-of .ensures) (p .1 .0) (c .before .before .before .before .before .before .before .before .before .args .x .out) (c .before .before .before .before .follow-part .ensures) (c .before .before .before .follow-part2 .ensures), p .1 .1 .1 .most)
 
--- src/after.rt:63:9
+-- src/after.rt:64:9
 returns : tie.Need-returns
 returns c =
-    let p = c .before .before .before .before .before .before .before .before .before .before .pre in
-    far-without (p .1 .1 .1) (c .before .before .before .before .before .before .front-of .ensures) (p .1 .0) (c .before .before .before .before .before .before .before .before .before .before .args .x .out) (c .before .before .before .before .before .follow-part .ensures) (c .before .before .before .before .follow-part2 .ensures) (c .before .before .if1 .taken)
+    let p = c .before .before .before .before .before .before .before .before .before .pre in
+    far-without (p .1 .1 .1) (c .before .before .before .before .before .front-of .ensures) (p .1 .0) (c .before .before .before .before .before .before .before .before .before .args .x .out) (c .before .before .before .before .follow-part .ensures) (c .before .before .before .follow-part2 .ensures) (c .before .before .if1 .taken)
 
--- src/after.rt:65:18
+-- src/after.rt:66:18
 add-behind : tie.Need-add-behind
 add-behind c = search needs
 
--- src/after.rt:66:70
+-- src/after.rt:67:70
 sub-follow-part : tie.Need-sub-follow-part
 sub-follow-part c = search needs
 
--- src/after.rt:66:9
+-- src/after.rt:67:9
 follow-part-requires-3 : tie.Need-follow-part-requires-3
 follow-part-requires-3 c κs =
-    let p = c .before .before .before .before .before .before .before .before .before .pre in
-    let K = c .before .before .before .before .before .front-of .ensures in
-    let less = behind-less (p .1 .1 .1) K (c .before .before .before .before .before .before .before .before .before .args .x .out) (c .before .if1 .left) in
-    (p .0, (c .before .before .before .follow-part2 .ensures .leads .most, (contents-ring (p .1 .1 .1) (omega (arith, less)), end-between (p .1 .1 .1) _ (omega (arith, less)))))
+    let p = c .before .before .before .before .before .before .before .pre in
+    let less = behind-less (p .1 .1 .1) (c .before .before .before .front-of .ensures) (c .before .before .before .before .before .before .before .args .x .out) (c .if1 .left) in
+    (p .0, (c .before .follow-part2 .ensures .leads .most, (contents-ring (p .1 .1 .1) (omega (arith, less)), end-between (p .1 .1 .1) _ (omega (arith, less)))))
 
--- src/after.rt:67:5
+-- src/after.rt:68:5
 add-result-2 : tie.Need-add-result-2
 add-result-2 c =
-    let p = c .before .before .before .before .before .before .before .before .before .before .before .before .pre in
-    omega (arith, both-most (p .1 .1 .1) (c .before .before .before .before .before .before .before .before .front-of .ensures) (p .1 .0) (c .before .before .before .before .before .before .before .before .before .before .before .before .args .x .out) (c .before .before .before .before .before .before .before .follow-part .ensures) (c .before .before .before .before .before .before .follow-part2 .ensures), p .1 .1 .1 .most)
+    let p = c .before .before .before .before .before .before .before .before .before .before .pre in
+    omega (arith, both-most (p .1 .1 .1) (c .before .before .before .before .before .before .front-of .ensures) (p .1 .0) (c .before .before .before .before .before .before .before .before .before .before .args .x .out) (c .before .before .before .before .before .follow-part .ensures) (c .before .before .before .before .follow-part2 .ensures), p .1 .1 .1 .most)
 
--- src/after.rt:67:5
+-- src/after.rt:68:5
 add-result-3 : tie.Need-add-result-3
 add-result-3 c =
-    let p = c .before .before .before .before .before .before .before .before .before .before .before .before .before .pre in
-    let most = both-most (p .1 .1 .1) (c .before .before .before .before .before .before .before .before .before .front-of .ensures) (p .1 .0) (c .before .before .before .before .before .before .before .before .before .before .before .before .before .args .x .out) (c .before .before .before .before .before .before .before .before .follow-part .ensures) (c .before .before .before .before .before .before .before .follow-part2 .ensures) in
+    let p = c .before .before .before .before .before .before .before .before .before .before .before .pre in
+    let most = both-most (p .1 .1 .1) (c .before .before .before .before .before .before .before .front-of .ensures) (p .1 .0) (c .before .before .before .before .before .before .before .before .before .before .before .args .x .out) (c .before .before .before .before .before .before .follow-part .ensures) (c .before .before .before .before .before .follow-part2 .ensures) in
     omega (arith, most, part-most _ _ _ _ _ (c .before .before .before .follow-part3 .ensures), p .1 .1 .1 .most)
 
 -- src/after.rt:45:1
 returns-2 : tie.Need-returns-2
 returns-2 c =
-    let p = c .before .before .before .before .before .before .before .before .before .before .before .before .before .pre in
-    let K = c .before .before .before .before .before .before .before .before .before .front-of .ensures in
-    let out = c .before .before .before .before .before .before .before .before .before .before .before .before .before .args .x .out in
-    let less = behind-less (p .1 .1 .1) K out (c .before .before .before .before .before .if1 .left) in
-    far-with (p .1 .1 .1) K (p .1 .0) out (c .before .before .before .before .before .before .before .before .follow-part .ensures) (c .before .before .before .before .before .before .before .follow-part2 .ensures) less (c .before .before .before .follow-part3 .ensures)
+    let p = c .before .before .before .before .before .before .before .before .before .before .before .pre in
+    let K = c .before .before .before .before .before .before .before .front-of .ensures in
+    let out = c .before .before .before .before .before .before .before .before .before .before .before .args .x .out in
+    let less = behind-less (p .1 .1 .1) K out (c .before .before .before .before .if1 .left) in
+    far-with (p .1 .1 .1) K (p .1 .0) out (c .before .before .before .before .before .before .follow-part .ensures) (c .before .before .before .before .before .follow-part2 .ensures) less (c .before .before .before .follow-part3 .ensures)
 
 pub far-after-spec : {M : Type 1} → statement M
 far-after-spec =
