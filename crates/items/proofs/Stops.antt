@@ -22,5 +22,5 @@ module _ {P Q : Tables → Type 0} (weaker : (T : Tables) → Q T → P T) {most
       → {bound sum : ℕ} {contents₀ seen queue : List ℕ} → Going Q bound start here contents₀ sum contents seen queue → (top : ℕ)
       → Judges Q top start contents₀ r contents₁ seen₁ queue₁
   stops (Passed n) k j g top = absurd (⊎-elim (λ e. omega arith) (λ e. omega arith) k)
-  stops (Leaves a b n) k j g top = stops-left weaker start here next link (Leaves a b n) a b n refl j g top
+  stops (Leaves a b n f) k j g top = stops-left weaker start here next link (Leaves a b n f) a b n f refl j g top
   stops (Meets a n) k j g top = stops-met weaker start here next link (Meets a n) a n refl j g top

@@ -6,6 +6,7 @@ use lib.ListN.{length, getD, take, drop}
 use Rattle.model.specs.Judge as Model
 use Rattle.model.specs.Laws.Items.{IsItem}
 use Rattle.meaning.specs.Tables.{sessionOf, transitionAt, transitionsFrom, badFrom}
+use Rattle.meaning.specs.Checking.{contentsLeast}
 use Rattle.tables.specs.Limits.{mostTransitions, mostBad}
 use Rattle.session.specs.Valid.{Valid}
 use Rattle.tables.specs.declared.tables.Machines.{Machines}
@@ -49,23 +50,24 @@ pub record Scratch (seen queue : List ℕ) : Type 0 where
 pub record Judging (P : Tables → Type 0) (o : Tables → Model.Judged) (contents₀ : List ℕ) (r : Judged) (contents₁ seen₁ queue₁ : List ℕ) : Type 0 where
   pub is : (T : Tables) → P T → saidJudged r contents₁ ≡ o T
   pub few : pairsOf r ≤ mostCodes
+  pub most : shownBy r ≤ contentsLeast
   pub kept : Kept (shownBy r) contents₀ contents₁
   pub scratch : Scratch seen₁ queue₁
 
 -- SEVERAL ITEMS: all passed, with so many pairs till now; or the first that failed
 abbrev pub saidSoFar : Progress → List ℕ → Reply
 saidSoFar (Passed pairs) contents = closed pairs
-saidSoFar (Leaves control transition shown) contents = leaves (control .0) transition (take shown contents)
+saidSoFar (Leaves control transition shown far) contents = leaves (control .0) transition (take shown contents) far
 saidSoFar (Meets number shown) contents = bad number (take shown contents)
 
 abbrev pub shownSoFar : Progress → ℕ
 shownSoFar (Passed pairs) = 0
-shownSoFar (Leaves control transition shown) = shown
+shownSoFar (Leaves control transition shown far) = shown
 shownSoFar (Meets number shown) = shown
 
 abbrev pub pairsSoFar : Progress → ℕ
 pairsSoFar (Passed pairs) = pairs
-pairsSoFar (Leaves control transition shown) = 0
+pairsSoFar (Leaves control transition shown far) = 0
 pairsSoFar (Meets number shown) = 0
 
 pub record Judges (P : Tables → Type 0) (most : ℕ) (o : Tables → Reply) (contents₀ : List ℕ) (r : Progress) (contents₁ seen₁ queue₁ : List ℕ) : Type 0 where

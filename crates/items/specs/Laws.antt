@@ -5,5 +5,6 @@ pub mod Judged
 pub mod Sequence
 pub mod Entries
 pub mod Item
+pub mod Far
 pub mod Walked
 pub mod Whole

@@ -1,4 +1,5 @@
 pub mod Start
 pub mod Judging
+pub mod Far
 pub mod Promises
 pub mod Laws

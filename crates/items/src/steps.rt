@@ -1,4 +1,5 @@
 // The steps, by control state and within it by transition number.
+use crate::far::far_of;
 use crate::item::judge_step;
 use crate::judged::Progress;
 use controls::moves::is_at;
@@ -52,7 +53,10 @@ fn judge_turn(
         queue,
         contents,
     ) {
-        Judged::Fails(shown) => Progress::Leaves(c, i, shown),
+        Judged::Fails(shown) => {
+            let far = far_of(m, q, rows, arcs, roots, c, row, contents, shown);
+            Progress::Leaves(c, i, shown, far)
+        }
         Judged::Passes(more) => Progress::Passed(pairs + more),
     }
 }

@@ -38,7 +38,7 @@ use Rattle.controls.specs.Controls.{Moved}
 use Rattle.items.specs.declared.start.Cut.{Cut}
 use Rattle.tables.specs.Rows.{wordEntry, lengthAt}
 
-cut-is : (S : Session) (a : Action) → cutOf (S .model .queues) a ≡ cut S a
+pub cut-is : (S : Session) (a : Action) → cutOf (S .model .queues) a ≡ cut S a
 cut-is S local = refl
 cut-is S (send q w) = refl
 cut-is S (receive q w) = refl

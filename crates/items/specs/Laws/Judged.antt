@@ -21,10 +21,14 @@ use Rattle.model.specs.Searched.{judgeBySearch}
 use Rattle.model.specs.Laws.Items.{IsItem}
 use Rattle.meaning.specs.Tables.{sessionOf, transitionAt}
 use Rattle.meaning.specs.Laws.Rows.{transition-at}
+use Rattle.meaning.specs.Checking.{contentsLeast}
+use Rattle.extent.specs.After.{ContentsAt}
 use Rattle.pairs.specs.Pairs.{mostCodes}
 use Rattle.controls.specs.Controls.{sizesOf, IsAt}
 use Rattle.items.specs.Judging.{Kept, Scratch, Judging, saidSoFar, Judges, StepsAsked, StepAsked, Parts}
 use Rattle.controls.specs.Laws.Parting.{sizes-product}
+use Rattle.items.specs.Far.{FarFound}
+use Rattle.items.specs.Laws.Far.{shown-between}
 use Rattle.items.specs.Laws.Turns.{turn-skips, turn-passes, turn-fails}
 use Rattle.walk.specs.declared.judge.Judged.{Judged}
 use Rattle.walk.specs.declared.judge.Judged.the-variants.{Passes, Fails}
@@ -137,13 +141,28 @@ module _ (m : Machines) (q : Queues) (rows arcs finals roots : List ℕ) (c : Co
           scratch = k .scratch;
         }
 
-    pub turn-shown : (r : Judged) (shown : ℕ) → r ≡ Fails shown → Judge r
-        → Judges Over (pairs + mostCodes) after contents (Leaves c i shown) contents₁ seen₁ queue₁
-    turn-shown r shown z j =
+    pub turn-shown : (r : Judged) (shown far : ℕ) → r ≡ Fails shown → Judge r → FarFound m q rows arcs roots (c .0) (i * rowLength) contents₁ shown far
+        → Judges Over (pairs + mostCodes) after contents (Leaves c i shown far) contents₁ seen₁ queue₁
+    turn-shown r shown far z j f =
         let k = subst Judge z j in
         record {
-          is = λ T p. sym (turn-fails T (p .valid) (c .0) i (transitionAt rows (i * rowLength)) pairs (step-item (c .0) i p h (at-is (c .0) i p true e)) (at-is (c .0) i p true e) (take shown contents₁) (sym (k .is T (fewer-parts p (omega arith)))));
+          is = λ T p.
+              ap (leaves (c .0) i (take shown contents₁)) (f .is T finals (i + 1) p)
+              ∙ sym (turn-fails T (p .valid) (c .0) i (transitionAt rows (i * rowLength)) pairs (step-item (c .0) i p h (at-is (c .0) i p true e)) (at-is (c .0) i p true e) (take shown contents₁) (sym (k .is T (fewer-parts p (omega arith)))));
           few = omega arith;
           kept = k .kept;
           scratch = k .scratch;
+        }
+
+    -- what is asked of the contents shown
+    pub turn-contents : (r : Judged) (shown : ℕ) → r ≡ Fails shown → Judge r → contentsLeast ≤ length contents
+        → StepAsked m q rows arcs finals roots (c .0) (i * rowLength) → ContentsAt contents₁ shown
+    turn-contents r shown z j room a =
+        let k = subst Judge z j in
+        record {
+          within = omega (arith, k .kept .long);
+          most = k .most;
+          messages =
+              shown-between (a .whole) (a .parts .valid) (c .0) (a .number) (transitionAt rows (i * rowLength)) (take shown contents₁) (a .item)
+              (sym (k .is (a .whole) (fewer-parts (a .parts) (omega arith))));
         }

@@ -46,10 +46,10 @@ module _ {P Q : Tables → Type 0} (weaker : (T : Tables) → Q T → P T) {most
         scratch = k .scratch;
       }
 
-  pub stops-left : (r : Progress) (a : ControlState) (b n : ℕ) → r ≡ Leaves a b n → Judges P most o contents r contents₁ seen₁ queue₁
+  pub stops-left : (r : Progress) (a : ControlState) (b n f : ℕ) → r ≡ Leaves a b n f → Judges P most o contents r contents₁ seen₁ queue₁
       → {bound sum : ℕ} {contents₀ seen queue : List ℕ} → Going Q bound start here contents₀ sum contents seen queue → (top : ℕ)
-      → Judges Q top start contents₀ (Leaves a b n) contents₁ seen₁ queue₁
-  stops-left r a b n z j g top =
+      → Judges Q top start contents₀ (Leaves a b n f) contents₁ seen₁ queue₁
+  stops-left r a b n f z j g top =
       let k = subst (λ p. Judges P most o contents p contents₁ seen₁ queue₁) z j in
       record {
         is = λ T p. ap (λ x. unlessFailed x (next T)) (k .is T (weaker T p)) ∙ sym (link T p) ∙ g .same T p;

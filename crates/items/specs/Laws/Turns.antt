@@ -11,7 +11,7 @@ use Rattle.tables.specs.declared.tables.Tables.{Tables}
 use Rattle.model.specs.Model.{Model, Transition, isAt, controls}
 use Rattle.model.specs.Session.{Session}
 use Rattle.model.specs.Verdict.{Item, step, entry, stepsAt, stepsFrom, mostPairs, Reply, closed, leaves, bad}
-use Rattle.model.specs.Judge.{Judged, passes, fails, judge, decide}
+use Rattle.model.specs.Judge.{Judged, passes, fails, judge, decide, farAfter}
 use Rattle.model.specs.Searched.{judgeBySearch}
 use Rattle.model.specs.Laws.Items.{IsItem, step-here, step-not-here}
 use Rattle.model.specs.Laws.Deciding.{decide-passes, decide-fails, decide-append, unlessFailed}
@@ -57,7 +57,7 @@ module _ (T : Tables) (v : Valid T) where
           ∙ decide-passes S (step c i τ) [] n k (judged-item (step c i τ) item ∙ j)
 
       pub turn-fails : (w : List ℕ) → judgeBySearch S Walk.mostCodes (step c 0 τ) ≡ fails w
-          → decide S (stepsAt (S .model) c i (τ ∷ [])) n ≡ leaves c i w
+          → decide S (stepsAt (S .model) c i (τ ∷ [])) n ≡ leaves c i w (farAfter S c τ w)
       unfolding decide judgeBySearch
       turn-fails w j =
           ap (λ is. decide S is n) (step-here (S .model) c i τ [] e)

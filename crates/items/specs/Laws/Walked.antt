@@ -21,6 +21,7 @@ use Rattle.model.specs.Searched.{judgeBySearch}
 use Rattle.model.specs.Laws.Items.{IsItem, is-item, at-place}
 use Rattle.model.specs.Laws.Deciding.{judge-bound}
 use Rattle.meaning.specs.Tables.{sessionOf, transitionAt}
+use Rattle.meaning.specs.Checking.{contentsLeast}
 use Rattle.meaning.specs.Laws.Sessions.{well-formed}
 use Rattle.pairs.specs.Pairs.{mostCodes, pairOf, NodeFits, afterSide}
 use Rattle.pairs.specs.Marks.{Blank}
@@ -29,7 +30,7 @@ use Rattle.pairs.specs.Over.{Lent}
 use Rattle.walk.specs.Laws.Valid.{word-empty}
 use Rattle.walk.specs.Judged.{judgedOver, ShownFits, WalkJudged, shownOf, saidJudged, shownBy}
 use Rattle.tables.specs.Limits.{mostPool, mostWord}
-use Rattle.tables.specs.Lookup.{RootAt}
+use Rattle.tables.specs.Lookup.{ArcsSmall, RootAt}
 use Rattle.tables.specs.Laws.Lookup.{arcs-small, state-below}
 use Rattle.tables.specs.declared.kinds.DiagramState.{DiagramState}
 use Rattle.tables.specs.declared.kinds.Reached.{Reached}
@@ -56,6 +57,15 @@ kept-front u contents contents′ n e is long =
           ap (drop n) is ∙ drop-at u (drop (length u) contents) n (sym e) ∙ ap (λ k. drop k contents) (sym e);
     }
 
+-- no more are shown than fit
+fitting : {arcs finals rows : List ℕ} {w : Walk} {x : Pair} {contents seen′ queue′ contents′ : List ℕ} {r : Judged} → ShownFits arcs finals rows w x
+    → WalkJudged arcs finals rows w x contents seen′ queue′ contents′ r → shownBy r ≤ contentsLeast
+fitting {arcs} {finals} {rows} {w} {x} s j = omega (arith, j .number, byJudged (judgedOver arcs finals rows w x) refl)
+  where
+    byJudged : (o : Model.Judged) → judgedOver arcs finals rows w x ≡ o → length (shownOf o) ≤ contentsLeast
+    byJudged (passes n) e = omega arith
+    byJudged (fails u) e = s .most u e
+
 -- so many pairs and no more
 few-passed : (T : Tables) (p : Valid T) (i : Item) → IsItem (sessionOf T) i → (r : Judged) (contents : List ℕ)
     → saidJudged r contents ≡ judgeBySearch (sessionOf T) mostCodes i → most (sessionOf T) i ≤ mostCodes → pairsOf r ≤ mostCodes
@@ -71,7 +81,7 @@ entry-few T v =
     omega arith
 
 -- what holds of all parts of tables holds of what is lent of them
-over-parts : {T : Tables} {m : Machines} {q : Queues} {rows arcs finals roots : List ℕ} {count : ℕ}
+pub over-parts : {T : Tables} {m : Machines} {q : Queues} {rows arcs finals roots : List ℕ} {count : ℕ}
     (F : Machines → Queues → List ℕ → List ℕ → List ℕ → List ℕ → Type 0) → Parts T m q rows arcs finals roots count
     → F (T .machines) (T .queues) (T .transitions .rows) (T .pool .arcs) (T .pool .finals) (T .map .roots) → F m q rows arcs finals roots
 over-parts {T} {m} {q} {rows} {arcs} {finals} {roots} F p f =
@@ -104,6 +114,21 @@ module _ {m : Machines} {q : Queues} {rows arcs finals roots : List ℕ} {c row 
   pub asked-roots : (i : ℕ) → getD roots i 0 ≤ mostPool
   asked-roots i =
       subst (λ l. getD l i 0 ≤ mostPool) (a .parts .sameRoots) (omega (arith, a .parts .valid .map .roots i, a .parts .valid .pool .most))
+
+  pub asked-arcs : ArcsSmall arcs
+  asked-arcs = over-parts (λ m q rows arcs finals roots. ArcsSmall arcs) (a .parts) (arcs-small (a .parts .valid .pool))
+
+  -- messages of its word
+  pub asked-word : {n : ℕ} → n ≤ lengthAt rows row → WordWithin rows (wordEntry row) n
+  asked-word l =
+      let valid = asked-row in
+      let long = asked-long in
+      let queues = asked-queues in
+      record {
+        within = omega arith;
+        most = omega (arith, valid .action .most);
+        messages = λ i h. omega (arith, valid .action .below i (omega arith), queues .sumMost);
+      }
 
 -- THE STEP: its walk and its first pair, as the code makes them
 abbrev pub walkOf : Queues → ℕ → Cut → Walk
@@ -155,6 +180,7 @@ module _ {m : Machines} {q : Queues} {rows arcs finals roots : List ℕ} {c : �
       record {
         is = λ T p. sym (nothing-is p here e 0);
         few = omega arith;
+        most = omega arith;
         kept = record { long = refl; within = omega arith; rest = refl };
         scratch = s;
       }
@@ -187,27 +213,13 @@ module _ {m : Machines} {q : Queues} {rows arcs finals roots : List ℕ} {c : �
 
     pub step-lent : Lent arcs rows (walkOf q row k)
     step-lent =
-        over-parts
-        (λ m q rows arcs finals roots. Cuts q rows row k → RowValid m q rows row → row + rowLength ≤ length rows → Lent arcs rows (walkOf q row k))
-        (a .parts)
-        (λ cuts valid long.
         record {
-          small = arcs-small (a .parts .valid .pool);
-          sum = a .parts .valid .queues .sumMost;
-          cut = cuts .small .0;
-          out = word-in (k .out) valid long (cuts .small .1);
-          into = word-in (k .into) valid long (cuts .small .2);
-        })
-        (b .cuts) (asked-row a) (asked-long a)
-      where
-        word-in : {rs : List ℕ} (n : ℕ) → RowValid (a .whole .machines) (a .whole .queues) rs row → row + rowLength ≤ length rs → n ≤ lengthAt rs row
-            → WordWithin rs (wordEntry row) n
-        word-in n valid long l =
-            record {
-              within = omega arith;
-              most = omega (arith, valid .action .most);
-              messages = λ i h. omega (arith, valid .action .below i (omega arith), a .parts .valid .queues .sumMost);
-            }
+          small = asked-arcs a;
+          sum = asked-queues a .sumMost;
+          cut = b .cuts .small .0;
+          out = asked-word a (b .cuts .small .1);
+          into = asked-word a (b .cuts .small .2);
+        }
 
     pub step-finals : length finals ≡ mostPool
     step-finals = over-parts (λ m q rows arcs finals roots. length finals ≡ mostPool) (a .parts) (a .parts .valid .pool .finalsLong)
@@ -224,6 +236,7 @@ module _ {m : Machines} {q : Queues} {rows arcs finals roots : List ℕ} {c : �
           few =
               few-passed (a .whole) (a .parts .valid) (step c (a .number) (transitionAt rows row)) (a .item) r contents′
               (j .reply ∙ step-is (a .parts) (a .number)) (few-pairs (a .whole) (a .parts .valid));
+          most = fitting step-shown j;
           kept =
               kept-front (shownOf (judgedOver arcs finals rows (walkOf q row k) (pairOf (nodeOf k source target)))) contents contents′ (shownBy r)
               (j .number) (j .shown) lc;
@@ -267,6 +280,7 @@ module _ {q : Queues} {rows arcs finals roots : List ℕ} {control root : ℕ} (
       record {
         is = λ T p. sym (entry-nothing T (p .valid) control root source 0 (subst (λ l. RootAt l control source) (sym (p .sameRoots)) here) e);
         few = omega arith;
+        most = omega arith;
         kept = record { long = refl; within = omega arith; rest = refl };
         scratch = s;
       }
@@ -315,6 +329,7 @@ module _ {q : Queues} {rows arcs finals roots : List ℕ} {control root : ℕ} (
           few =
               few-passed (a .whole) (a .parts .valid) (entry (a .number) (control, root)) (a .item) r contents′
               (j .reply ∙ entry-is (a .parts) (a .number)) (entry-few (a .whole) (a .parts .valid));
+          most = fitting entry-shown j;
           kept =
               kept-front (shownOf (judgedOver arcs finals rows (entryWalkOf q) (pairOf (entryNodeOf source target)))) contents contents′ (shownBy r)
               (j .number) (j .shown) lc;
