@@ -23,7 +23,7 @@ use Rattle.tables.specs.declared.tables.Machines.{Machines}
 abbrev pub saidVerdict : Verdict → List ℕ → FileReply
 saidVerdict (Closed pairs) contents = verdict (closed pairs)
 saidVerdict Outside contents = verdict outside
-saidVerdict (Leaves control transition shown) contents = verdict (leaves (control .0) transition (take shown contents))
+saidVerdict (Leaves control transition shown far) contents = verdict (leaves (control .0) transition (take shown contents) far)
 saidVerdict (Bad number shown) contents = verdict (bad number (take shown contents))
 saidVerdict (Refused why) contents = refused (numberOf why) (placeOf why)
 saidVerdict ShortMemory contents = refused 2 0
@@ -31,7 +31,7 @@ saidVerdict ShortMemory contents = refused 2 0
 abbrev pub shownIn : Verdict → ℕ
 shownIn (Closed pairs) = 0
 shownIn Outside = 0
-shownIn (Leaves control transition shown) = shown
+shownIn (Leaves control transition shown far) = shown
 shownIn (Bad number shown) = shown
 shownIn (Refused why) = 0
 shownIn ShortMemory = 0
@@ -44,7 +44,7 @@ pub record Shows (r : Verdict) (contents : List ℕ) : Type 0 where
 -- the items have been judged
 abbrev pub concluded : Progress → Verdict
 concluded (Progress.Passed pairs) = Closed pairs
-concluded (Progress.Leaves control transition shown) = Leaves control transition shown
+concluded (Progress.Leaves control transition shown far) = Leaves control transition shown far
 concluded (Progress.Meets number shown) = Bad number shown
 
 -- memory enough is lent, and the scratch tables are 0

@@ -41,8 +41,8 @@ pub enum Verdict {
     Closed(usize),
     // empty queues are not in the set of the starting control state
     Outside,
-    // a step leads out: control state, transition, messages shown
-    Leaves(ControlState, usize, usize),
+    // a step leads out: control state, transition, messages shown, how far the contents after it are followed
+    Leaves(ControlState, usize, usize, usize),
     // a bad entry's contents are inside: the entry, messages shown
     Bad(usize, usize),
     // the file is not read
@@ -67,7 +67,9 @@ fn verdict_of(p: Progress) -> Verdict
 {
     match p {
         Progress::Passed(pairs) => Verdict::Closed(pairs),
-        Progress::Leaves(control, transition, shown) => Verdict::Leaves(control, transition, shown),
+        Progress::Leaves(control, transition, shown, far) => {
+            Verdict::Leaves(control, transition, shown, far)
+        }
         Progress::Meets(entry, shown) => Verdict::Bad(entry, shown),
     }
 }

@@ -126,12 +126,12 @@ module _ {m : Machines} {q : Queues} {rows arcs finals roots entries : List ℕ}
     where
       said-concluded : (r : Progress) (l : List ℕ) → saidVerdict (concluded r) l ≡ verdict (saidSoFar r l)
       said-concluded (Passed k) l = refl
-      said-concluded (Leaves a b k) l = refl
+      said-concluded (Leaves a b k f) l = refl
       said-concluded (Meets a k) l = refl
 
       shown-concluded : (r : Progress) → shownSoFar r ≡ shownIn (concluded r)
       shown-concluded (Passed k) = refl
-      shown-concluded (Leaves a b k) = refl
+      shown-concluded (Leaves a b k f) = refl
       shown-concluded (Meets a k) = refl
 
       all-items : (T : Tables) → AllParts T m q rows arcs finals roots entries count many

@@ -44,7 +44,7 @@ promised file seen queue contents v k =
 shown-front : (r : Verdict) (contents₁ : List ℕ) → shownOf (saidVerdict r contents₁) ≡ take (shownIn r) contents₁
 shown-front (Closed n) l = refl
 shown-front Outside l = refl
-shown-front (Leaves c t n) l = refl
+shown-front (Leaves c t n f) l = refl
 shown-front (Bad b n) l = refl
 shown-front (Refused why) l = refl
 shown-front ShortMemory l = refl

@@ -20,7 +20,7 @@ front-number n contents h = omega (arith, length-take n contents)
 shows-fewer : (r : Verdict) (contents : List ℕ) → length (shownOf (saidVerdict r contents)) < length contents → Shows r contents
 shows-fewer (Closed n) contents h = record { number = refl; within = zero-le }
 shows-fewer Outside contents h = record { number = refl; within = zero-le }
-shows-fewer (Leaves c t n) contents h = let e = front-number n contents h in record { number = e; within = omega arith }
+shows-fewer (Leaves c t n f) contents h = let e = front-number n contents h in record { number = e; within = omega arith }
 shows-fewer (Bad b n) contents h = let e = front-number n contents h in record { number = e; within = omega arith }
 shows-fewer (Refused why) contents h = record { number = refl; within = zero-le }
 shows-fewer ShortMemory contents h = record { number = refl; within = zero-le }
@@ -29,7 +29,7 @@ shows-fewer ShortMemory contents h = record { number = refl; within = zero-le }
 shows-refused : (r : Verdict) (contents : List ℕ) {k p : ℕ} → saidVerdict r contents ≡ refused k p → Shows r contents
 shows-refused (Closed n) contents e = record { number = refl; within = zero-le }
 shows-refused Outside contents e = record { number = refl; within = zero-le }
-shows-refused (Leaves c t n) contents e = absurd (let z : _≡_ {A = ℕ} 0 1 = cc in omega arith)
+shows-refused (Leaves c t n f) contents e = absurd (let z : _≡_ {A = ℕ} 0 1 = cc in omega arith)
 shows-refused (Bad b n) contents e = absurd (let z : _≡_ {A = ℕ} 0 1 = cc in omega arith)
 shows-refused (Refused why) contents e = record { number = refl; within = zero-le }
 shows-refused ShortMemory contents e = record { number = refl; within = zero-le }
