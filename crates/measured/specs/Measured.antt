@@ -21,7 +21,7 @@ sampled T i = together (T .transitions .rows) (T .pool .finals) (T .pool .arcs) 
 abbrev pub toldOf : Verdict → ℕ
 toldOf (Closed pairs) = pairs
 toldOf Outside = 3000000000
-toldOf (Leaves control transition shown) = 2000000000 + shown % 1000000
+toldOf (Leaves control transition shown far) = 2000000000 + shown % 1000000
 toldOf (Bad number shown) = 2000000000 + shown % 1000000
 toldOf (Refused why) = 3000000000
 toldOf ShortMemory = 3000000000

@@ -47,7 +47,7 @@ fn told(v: Verdict) -> usize
     match v {
         Verdict::Closed(pairs) => pairs,
         Verdict::Outside => 3000000000,
-        Verdict::Leaves(control, transition, shown) => 2000000000 + shown % 1000000,
+        Verdict::Leaves(control, transition, shown, far) => 2000000000 + shown % 1000000,
         Verdict::Bad(entry, shown) => 2000000000 + shown % 1000000,
         Verdict::Refused(why) => 3000000000,
         Verdict::ShortMemory => 3000000000,
