@@ -19,7 +19,7 @@ moved-requires c κs =
 
 -- src/far.rt:31:9
 root-of-requires : tie.Need-root-of-requires
-root-of-requires c κs = asked-roots (c .before .before .before .before .before .pre .0 .asked) (c .moved .result .0)
+root-of-requires c κs = asked-roots (c .before .before .before .before .before .pre .0 .asked) _
 
 -- src/far.rt:32:9
 cut-of-requires : tie.Need-cut-of-requires
