@@ -10,7 +10,7 @@ use Rattle.line.specs.Said.{given}
 
 -- the line of a reply, where so many bytes have room for any line that shows so many messages; else nothing
 abbrev pub lineIn : ℕ → FileReply → List ℕ
-lineIn room r = given (leb (4 * length (shownOf r) + 41) room) (lineOf r)
+lineIn room r = given (leb (4 * length (shownOf r) + 52) room) (lineOf r)
 
 -- WHAT ANSWERING PROMISES: at entry with ₀, at exit with ₁. The line fills the front of the line's buffer and the rest keeps its bytes;
 -- r is its length
@@ -28,9 +28,9 @@ pub record Lines (file buffer₀ buffer₁ : List ℕ) (r : ℕ) : Type 0 where
   pub reply : r ≡ length (lineIn (length buffer₀) (replyOf file))
   pub buffer : buffer₁ ≡ lineIn (length buffer₀) (replyOf file) ++ drop (length (lineIn (length buffer₀) (replyOf file))) buffer₀
 
--- so many bytes hold any line: the most messages that are shown, each a space and at most three digits, and 41 for the rest
+-- so many bytes hold any line: the most messages that are shown, each a space and at most three digits, and 52 for the rest
 abbrev pub mostLine : ℕ
-mostLine = 4 * mostShown + 41
+mostLine = 4 * mostShown + 52
 
 -- WHAT THE PROGRAM PRINTS, with a buffer of so many bytes: the line of the reply to the file
 pub record WholeLine (file buffer₀ buffer₁ : List ℕ) (r : ℕ) : Type 0 where

@@ -20,14 +20,14 @@ use Rattle.answer.specs.Printed.{printedOf}
 use Rattle.answer.specs.Answer.{lineIn, Answers, Lines, mostLine, WholeLine}
 
 -- room for a line that shows no more messages than there are, and no more than any verdict shows
-room-for : (room contents shown : ℕ) → shown ≤ contents → shown ≤ mostShown → holds room contents shown ≡ leb (4 * shown + 41) room
+room-for : (room contents shown : ℕ) → shown ≤ contents → shown ≤ mostShown → holds room contents shown ≡ leb (4 * shown + 52) room
 room-for room contents shown h k = rw (le-leb shown contents h, le-leb shown contentsLeast (omega arith))
 
 -- what is printed of a verdict says what the verdict says, and shows as many messages
 said-printed : (v : Verdict) (contents : List ℕ) → saidVerdict v contents ≡ said (printedOf v) contents
 said-printed (Verdict.Closed n) contents = refl
 said-printed Verdict.Outside contents = refl
-said-printed (Verdict.Leaves c t n) contents = refl
+said-printed (Verdict.Leaves c t n f) contents = refl
 said-printed (Verdict.Bad b n) contents = refl
 said-printed (Verdict.Refused why) contents = refl
 said-printed Verdict.ShortMemory contents = refl
@@ -35,7 +35,7 @@ said-printed Verdict.ShortMemory contents = refl
 shown-printed : (v : Verdict) → shownBy (printedOf v) ≡ shownIn v
 shown-printed (Verdict.Closed n) = refl
 shown-printed Verdict.Outside = refl
-shown-printed (Verdict.Leaves c t n) = refl
+shown-printed (Verdict.Leaves c t n f) = refl
 shown-printed (Verdict.Bad b n) = refl
 shown-printed (Verdict.Refused why) = refl
 shown-printed Verdict.ShortMemory = refl
@@ -57,7 +57,7 @@ module _ {file seen queue contents seen₁ queue₁ contents₁ : List ℕ} (v :
   within : length (shownOf (said p contents₁)) ≤ length contents₁
   within = omega (arith, ap shownBy e ∙ shown-printed v, counted, checks-shows v given-checks .within)
 
-  room : (n : ℕ) → holds n (length contents₁) (shownBy p) ≡ leb (4 * length (shownOf (said p contents₁)) + 41) n
+  room : (n : ℕ) → holds n (length contents₁) (shownBy p) ≡ leb (4 * length (shownOf (said p contents₁)) + 52) n
   room n = ap (holds n (length contents₁)) counted ∙ room-for n (length contents₁) (length (shownOf (said p contents₁))) within few
 
   text : (n : ℕ) → given (holds n (length contents₁) (shownBy p)) (lineOf (said p contents₁)) ≡ lineIn n (checkOf file seen queue contents .reply)
@@ -115,8 +115,8 @@ room-for-all file room h =
     let few =
     subst (λ r. length (shownOf r) ≤ mostShown) e (shown-fits (readLent file seen seen contents) (lent-sound file seen seen contents))
     in
-    let wide : 4 * length (shownOf (replyOf file)) + 41 ≤ room = omega (arith, few) in
-    ap (λ b. given b (lineOf (replyOf file))) (le-leb (4 * length (shownOf (replyOf file)) + 41) room wide)
+    let wide : 4 * length (shownOf (replyOf file)) + 52 ≤ room = omega (arith, few) in
+    ap (λ b. given b (lineOf (replyOf file))) (le-leb (4 * length (shownOf (replyOf file)) + 52) room wide)
 
 pub whole : {file buffer buffer₁ : List ℕ} {r : ℕ} → length buffer ≡ mostLine → length buffer₁ ≡ mostLine → Lines file buffer buffer₁ r
     → WholeLine file buffer buffer₁ r

@@ -8,7 +8,7 @@ use Rattle.line.specs.declared.verdict.Verdict.the-variants.{Closed as lineClos
 abbrev pub printedOf : Verdict → Line
 printedOf (Closed pairs) = lineClosed pairs
 printedOf Outside = lineOutside
-printedOf (Leaves c t shown) = lineLeaves (c .0) t shown
+printedOf (Leaves c t shown far) = lineLeaves (c .0) t shown far
 printedOf (Bad b shown) = lineBad b shown
 printedOf (Refused why) = lineRefused (numberOf why) (placeOf why)
 printedOf ShortMemory = lineRefused 2 0

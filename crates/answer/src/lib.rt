@@ -13,8 +13,8 @@ ghost use mathlib.Core.Path.{_≡_};
 ghost use Rattle.answer.specs.Printed.{printedOf};
 ghost use Rattle.answer.specs.Answer.{Answers, Lines, WholeLine};
 
-// Bytes that hold any line: for each message a space and at most three digits, and 41 for the rest.
-pub const MOST_LINE: usize = 4 * MOST_SHOWN + 41;
+// Bytes that hold any line: for each message a space and at most three digits, and 52 for the rest.
+pub const MOST_LINE: usize = 4 * MOST_SHOWN + 52;
 
 // What is printed of a verdict: of a refusal its number and its place.
 pub fn printed(v: Verdict) -> Printed
@@ -23,7 +23,12 @@ pub fn printed(v: Verdict) -> Printed
     match v {
         Verdict::Closed(pairs) => Printed::Closed(pairs),
         Verdict::Outside => Printed::Outside,
-        Verdict::Leaves(c, transition, shown) => Printed::Leaves(wide(c.0), transition, shown),
+        Verdict::Leaves(c, transition, shown, far) => Printed::Leaves(
+            wide(c.0),
+            transition,
+            shown,
+            far,
+        ),
         Verdict::Bad(entry, shown) => Printed::Bad(entry, shown),
         Verdict::Refused(why) => Printed::Refused(number(why), place(why)),
         Verdict::ShortMemory => Printed::Refused(2, 0),
