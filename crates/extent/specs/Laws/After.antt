@@ -1,10 +1,10 @@
 -- The parts of the contents after a step, where they lie.
 use Prim.Native.Nat.{ℕ, _+_, _-_, _≤_, _<_}
-use mathlib.Core.Path.{_≡_, refl, sym, ap, subst, _∙_}
+use mathlib.Core.Path.{_≡_, sym, ap, subst, _∙_}
 use mathlib.Core.List.{List, [], _++_, append-assoc, append-nil}
 use native.Mathlib.Omega.{arith}
-use native.Mathlib.Nat.{add-zero, zero-add}
-use lib.ListN.{length, length-append, length-take, take, drop, take-append-drop}
+use native.Mathlib.Nat.{zero-add}
+use lib.ListN.{length, take, drop, take-append-drop}
 use lib.Seq.{take-take, take-add, drop-at, drop-drop, drop-length, drop-nil, length-take-le}
 use Rattle.tables.specs.Limits.{mostMessages, mostWord}
 use Rattle.tables.specs.Kinds.{reachedOf}

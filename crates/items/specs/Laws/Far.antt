@@ -1,16 +1,13 @@
 -- How far the contents after a step are followed: what is asked of the contents before it, and that what is found is the model's number.
-use Prim.Native.Nat.{ℕ, zero, _+_, _≤_, _<_}
-use mathlib.Core.Path.{_≡_, refl, sym, ap, ap₂, subst, _∙_}
-use mathlib.Core.Bool.{true, false}
-use mathlib.Core.Option.{Option}
-use mathlib.Core.List.{List, [], _∷_, _++_}
+use Prim.Native.Nat.{ℕ}
+use mathlib.Core.Path.{_≡_, sym, ap, ap₂, subst, _∙_}
+use mathlib.Core.List.{List}
 use native.Mathlib.Omega.{arith}
 use borrow.Author.Tests.{lt-ltb}
-use lib.ListN.{length, take, drop, take-append-drop, length-take, length-drop}
+use lib.ListN.{length, take, drop, take-append-drop, length-drop}
 use lib.Seq.{length-take-le}
-use Rattle.tables.specs.Limits.{mostPool, mostMessages, mostWord}
+use Rattle.tables.specs.Limits.{mostMessages}
 use Rattle.tables.specs.Kinds.{reachedOf}
-use Rattle.tables.specs.Pool.{arcAt}
 use Rattle.tables.specs.Lookup.{rootOf, RootAt}
 use Rattle.tables.specs.Rows.{wordEntry}
 use Rattle.tables.specs.declared.tables.Machines.{Machines}
@@ -20,10 +17,10 @@ use Rattle.session.specs.Valid.{Valid}
 use Rattle.queue_order.specs.Pool.{arcOf}
 use Rattle.queue_order.specs.Laws.Tables.{messages-are}
 use Rattle.model.specs.Model.{Action, Transition, Between, moved}
-use Rattle.model.specs.Diagram.{howFar, word, frontOf, restOf}
+use Rattle.model.specs.Diagram.{howFar, frontOf, restOf}
 use Rattle.model.specs.Session.{Session}
 use Rattle.model.specs.Verdict.{step, Fails}
-use Rattle.model.specs.Judge.{cut, out, into, exchanged, farAfter, Judged, passes, fails, judge}
+use Rattle.model.specs.Judge.{cut, out, into, exchanged, farAfter, fails}
 use Rattle.model.specs.Searched.{judgeBySearch}
 use Rattle.model.specs.Laws.Queues.{between-wide, between-append, between-front, between-back, word-between}
 use Rattle.model.specs.Laws.Items.{IsItem}

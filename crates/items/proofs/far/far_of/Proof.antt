@@ -1,4 +1,3 @@
-use native.Mathlib.Omega.{arith}
 use Rattle.items.specs.Laws.Walked.{asked-machines, asked-queues, asked-long, asked-row, asked-roots, asked-arcs, asked-word}
 use Rattle.items.specs.Laws.Far.{step-far}
 use borrow.Author.Needs.{needs}
