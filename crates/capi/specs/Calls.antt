@@ -17,19 +17,20 @@ use Rattle.writing.specs.Write.{bufferAfter}
 use Rattle.flat.specs.Flat.{flat, tablesLeast}
 use Rattle.flat.specs.Taken.{tablesAt}
 use Rattle.flat.specs.Written.{writeReplyAt}
-use Rattle.telling.specs.Told.{NO-ROOM, toldReply, toldAnswer, toldMember, toldWritten, replyAfter}
+use Rattle.telling.specs.Told.{NO-ROOM, toldReply, toldAnswer, toldMember, toldWritten, replyLeast, replyAfter}
 use Rattle.telling.specs.Replays.{toldReplay, runAfter, recordLeast, blank}
 use Rattle.telling.specs.declared.told.Told.{Told}
 use Rattle.expression.specs.Expression.{expression}
 use Rattle.telling_drawn.specs.Drawn.{toldDrawn, poolLeast, poolAfter}
 
--- THE NUMBER OF THE LAYOUT: a layout of tables that differs in any entry, or another reply, has another. 1 had words of four messages
+-- THE NUMBER OF THE LAYOUT: a layout of tables that differs in any entry, or another reply, has another. 1 had words of four messages, 2 replies of three
+-- numbers
 abbrev pub layout : ℕ
-layout = 2
+layout = 3
 
 -- is there space for a reply?
 abbrev pub replyFits : List ℕ → Bool
-replyFits reply = leb 3 (length reply)
+replyFits reply = leb replyLeast (length reply)
 
 -- the kind that is told, and the reply's space at exit
 abbrev pub kindIf : Bool → Told → ℕ

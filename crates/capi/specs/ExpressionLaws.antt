@@ -8,7 +8,7 @@ use lib.Dec.{leb}
 use borrow.Author.Tests.{le-leb, lt-leb}
 use Rattle.model.specs.Laws.Basics.{is-and}
 use Rattle.tables.specs.declared.tables.Pool.{Pool}
-use Rattle.telling.specs.Told.{NO-ROOM, replyAfter, Tells}
+use Rattle.telling.specs.Told.{NO-ROOM, replyLeast, replyAfter, Tells}
 use Rattle.telling.specs.declared.told.Told.{Told}
 use Rattle.expression.specs.Expression.{Drawn, expression}
 use Rattle.expression.specs.Said.{saidReply, saidDrawing}
@@ -32,14 +32,14 @@ module _ (text pool reply : List ℕ) where
   pub expression-short : length pool < poolLeast → ExpressionCall text pool reply NO-ROOM pool reply
   expression-short h = expression-none (first-none (leb poolLeast (length pool)) (replyFits reply) (lt-leb poolLeast (length pool) h))
 
-  pub expression-unheard : length reply < 3 → ExpressionCall text pool reply NO-ROOM pool reply
-  expression-unheard h = expression-none (second-none (leb poolLeast (length pool)) (replyFits reply) (lt-leb 3 (length reply) h))
+  pub expression-unheard : length reply < replyLeast → ExpressionCall text pool reply NO-ROOM pool reply
+  expression-unheard h = expression-none (second-none (leb poolLeast (length pool)) (replyFits reply) (lt-leb replyLeast (length reply) h))
 
-  pub expression-told : {pool₁ reply₁ : List ℕ} {r : ℕ} {t : Told} → poolLeast ≤ length pool → 3 ≤ length reply → (d : Drawing)
+  pub expression-told : {pool₁ reply₁ : List ℕ} {r : ℕ} {t : Told} → poolLeast ≤ length pool → replyLeast ≤ length reply → (d : Drawing)
       → saidDrawing d ≡ expression text → pool₁ ≡ poolAfter (saidReply (d .reply)) (d .pool) pool
       → t ≡ toldDrawn (saidReply (d .reply)) (d .pool .count) → Tells t reply reply₁ r → ExpressionCall text pool reply r pool₁ reply₁
   expression-told {pool₁} {t = t} h l d draws put told tells =
-      let roomy = is-and (leb poolLeast (length pool)) (replyFits reply) (le-leb poolLeast (length pool) h) (le-leb 3 (length reply) l) in
+      let roomy = is-and (leb poolLeast (length pool)) (replyFits reply) (le-leb poolLeast (length pool) h) (le-leb replyLeast (length reply) l) in
       let same : t ≡ drawnTold text = told ∙ ap (λ (D : Drawn). toldDrawn (D .reply) (D .pool .count)) draws in
       let out : pool₁ ≡ filled = put ∙ ap (λ (D : Drawn). poolAfter (D .reply) (D .pool) pool) draws in
       record {

@@ -40,7 +40,7 @@ use Rattle.flat.specs.Flat.{flat, tablesLeast}
 use Rattle.flat.specs.Taken.{tablesAt}
 use Rattle.flat.specs.Written.{writeReplyAt, WritesFlat}
 use Rattle.flat.specs.Laws.Put.{flat-front}
-use Rattle.telling.specs.Told.{NO-ROOM, toldOf, toldReply, toldAnswer, toldMember, toldWritten, toldLine, replyAfter, Tells}
+use Rattle.telling.specs.Told.{NO-ROOM, toldOf, toldReply, toldAnswer, toldMember, toldWritten, toldLine, replyLeast, replyAfter, Tells}
 use Rattle.telling.specs.Replays.{toldReplay, recordLeast, runAfter, blank}
 use Rattle.capi.specs.Calls.{replyFits, kindIf, keepUnless, spaceAfter, outcomeOf, replayTold, replayFits, ReadCall, WriteCall, MemberCall, CheckCall, ReplayCall}
 use Rattle.telling.specs.declared.told.Told.{Told}
@@ -97,13 +97,13 @@ module _ (file space reply : List ℕ) where
   pub read-short : length space < tablesLeast → ReadCall file space reply NO-ROOM space reply
   read-short h = read-none (first-none (leb tablesLeast (length space)) (replyFits reply) (lt-leb tablesLeast (length space) h))
 
-  pub read-unheard : length reply < 3 → ReadCall file space reply NO-ROOM space reply
-  read-unheard h = read-none (second-none (leb tablesLeast (length space)) (replyFits reply) (lt-leb 3 (length reply) h))
+  pub read-unheard : length reply < replyLeast → ReadCall file space reply NO-ROOM space reply
+  read-unheard h = read-none (second-none (leb tablesLeast (length space)) (replyFits reply) (lt-leb replyLeast (length reply) h))
 
-module _ {file space reply reply₁ : List ℕ} {t : Told} {r : ℕ} (h : tablesLeast ≤ length space) (l : 3 ≤ length reply) (x : Reading) (reads : Reads (readFile file) x) (told : t ≡ toldAnswer (saidAnswer (x .answer))) (tells : Tells t reply reply₁ r) where
+module _ {file space reply reply₁ : List ℕ} {t : Told} {r : ℕ} (h : tablesLeast ≤ length space) (l : replyLeast ≤ length reply) (x : Reading) (reads : Reads (readFile file) x) (told : t ≡ toldAnswer (saidAnswer (x .answer))) (tells : Tells t reply reply₁ r) where
   called : {space₁ : List ℕ} → space₁ ≡ spaceAfter (readFile file) space → ReadCall file space reply r space₁ reply₁
   called e =
-      let roomy = is-and (leb tablesLeast (length space)) (replyFits reply) (le-leb tablesLeast (length space) h) (le-leb 3 (length reply) l) in
+      let roomy = is-and (leb tablesLeast (length space)) (replyFits reply) (le-leb tablesLeast (length space) h) (le-leb replyLeast (length reply) l) in
       let same = told ∙ ap toldAnswer (reads .reply) in
       record {
         kind = tells-kind (room space reply) roomy same tells;
@@ -128,19 +128,19 @@ module _ (tables buffer reply : List ℕ) where
   abbrev bufferThen : List ℕ
   bufferThen = bufferAfter (writeReplyAt tables buffer) (spelled (tablesAt tables)) buffer
 
-  pub write-unheard : length reply < 3 → WriteCall tables buffer reply NO-ROOM buffer reply
+  pub write-unheard : length reply < replyLeast → WriteCall tables buffer reply NO-ROOM buffer reply
   write-unheard h =
-      let e = lt-leb 3 (length reply) h in
+      let e = lt-leb replyLeast (length reply) h in
       record {
         kind = kind-none (replyFits reply) written e;
         reply = kept (replyFits reply) reply (replyAfter written reply) e;
         buffer = kept (replyFits reply) buffer bufferThen e;
       }
 
-  pub write-told : {buffer₁ reply₁ : List ℕ} {r : ℕ} {t : Told} → 3 ≤ length reply → (w : Written) → WritesFlat tables buffer w buffer₁
+  pub write-told : {buffer₁ reply₁ : List ℕ} {r : ℕ} {t : Told} → replyLeast ≤ length reply → (w : Written) → WritesFlat tables buffer w buffer₁
       → t ≡ toldWritten (saidWritten w) → Tells t reply reply₁ r → WriteCall tables buffer reply r buffer₁ reply₁
   write-told h w writes told tells =
-      let e = le-leb 3 (length reply) h in
+      let e = le-leb replyLeast (length reply) h in
       let same = told ∙ ap toldWritten (writes .reply) in
       record {
         kind = tells-kind (replyFits reply) e same tells;
@@ -150,18 +150,18 @@ module _ (tables buffer reply : List ℕ) where
 
 -- MEMBERSHIP
 module _ (file : List ℕ) (control : ℕ) (contents reply : List ℕ) where
-  pub member-unheard : length reply < 3 → MemberCall file control contents reply NO-ROOM reply
+  pub member-unheard : length reply < replyLeast → MemberCall file control contents reply NO-ROOM reply
   member-unheard h =
-      let e = lt-leb 3 (length reply) h in
+      let e = lt-leb replyLeast (length reply) h in
       record {
         kind = kind-none (replyFits reply) (toldMember (memberOf file control contents)) e;
         reply = kept (replyFits reply) reply (replyAfter (toldMember (memberOf file control contents)) reply) e;
       }
 
-  pub member-told : {t : Told} {reply₁ : List ℕ} {r : ℕ} → 3 ≤ length reply → (m : Member) → saidMember m ≡ memberOf file control contents
+  pub member-told : {t : Told} {reply₁ : List ℕ} {r : ℕ} → replyLeast ≤ length reply → (m : Member) → saidMember m ≡ memberOf file control contents
       → t ≡ toldMember (saidMember m) → Tells t reply reply₁ r → MemberCall file control contents reply r reply₁
   member-told h m is told tells =
-      let e = le-leb 3 (length reply) h in
+      let e = le-leb replyLeast (length reply) h in
       let same = told ∙ ap toldMember is in
       record { kind = tells-kind (replyFits reply) e same tells; reply = tells-reply (replyFits reply) e same tells }
 
@@ -169,17 +169,17 @@ module _ (file : List ℕ) (control : ℕ) (contents reply : List ℕ) where
 told-line : (p : Line) (contents : List ℕ) → shownBy p ≡ length (shownOf (said p contents)) → toldLine p ≡ toldReply (said p contents)
 told-line (Closed n) contents e = refl
 told-line Outside contents e = refl
-told-line (Leaves c t n) contents e = ap (λ (k : ℕ). toldOf 2 c t k) e
-told-line (Bad b n) contents e = ap (λ (k : ℕ). toldOf 3 b k 0) e
+told-line (Leaves c t n f) contents e = ap (λ (k : ℕ). toldOf 2 c t k f) e
+told-line (Bad b n) contents e = ap (λ (k : ℕ). toldOf 3 b k 0 0) e
 told-line (Refused k p) contents e = refl
 
 module _ (file seen queue contents reply : List ℕ) where
   abbrev whole : Checked
   whole = checkOf file seen queue contents
 
-  pub check-unheard : length reply < 3 → CheckCall file seen queue contents reply NO-ROOM seen queue contents reply
+  pub check-unheard : length reply < replyLeast → CheckCall file seen queue contents reply NO-ROOM seen queue contents reply
   check-unheard h =
-      let e = lt-leb 3 (length reply) h in
+      let e = lt-leb replyLeast (length reply) h in
       record {
         kind = kind-none (replyFits reply) (toldReply (whole .reply)) e;
         reply = kept (replyFits reply) reply (replyAfter (toldReply (whole .reply)) reply) e;
@@ -188,11 +188,11 @@ module _ (file seen queue contents reply : List ℕ) where
         contents = kept (replyFits reply) contents (whole .contents) e;
       }
 
-  pub check-told : {seen₁ queue₁ contents₁ reply₁ : List ℕ} {r : ℕ} {t : Told} → 3 ≤ length reply → (v : Verdict) (p : Line)
+  pub check-told : {seen₁ queue₁ contents₁ reply₁ : List ℕ} {r : ℕ} {t : Told} → replyLeast ≤ length reply → (v : Verdict) (p : Line)
       → Checks file seen queue contents (saidVerdict v contents₁) seen₁ queue₁ contents₁ → p ≡ printedOf v → t ≡ toldLine p
       → Tells t reply reply₁ r → CheckCall file seen queue contents reply r seen₁ queue₁ contents₁ reply₁
   check-told {contents₁ = contents₁} {t = t} h v p checks shows told tells =
-      let e = le-leb 3 (length reply) h in
+      let e = le-leb replyLeast (length reply) h in
       let by = counted-by v p shows checks in
       let same : t ≡ toldReply (whole .reply) = told ∙ told-line p contents₁ (by .1) ∙ ap toldReply (by .0) in
       record {
@@ -218,16 +218,16 @@ module _ (file trace memory run reply : List ℕ) where
   pub replay-short : length run < recordLeast → ReplayCall file trace memory run reply NO-ROOM memory run reply
   replay-short h = replay-none (first-none (leb recordLeast (length run)) (replyFits reply) (lt-leb recordLeast (length run) h))
 
-  pub replay-unheard : length reply < 3 → ReplayCall file trace memory run reply NO-ROOM memory run reply
-  replay-unheard h = replay-none (second-none (leb recordLeast (length run)) (replyFits reply) (lt-leb 3 (length reply) h))
+  pub replay-unheard : length reply < replyLeast → ReplayCall file trace memory run reply NO-ROOM memory run reply
+  replay-unheard h = replay-none (second-none (leb recordLeast (length run)) (replyFits reply) (lt-leb replyLeast (length reply) h))
 
-  pub replay-told : {memory₁ run₁ reply₁ : List ℕ} {r : ℕ} {t : Told} → recordLeast ≤ length run → 3 ≤ length reply
+  pub replay-told : {memory₁ run₁ reply₁ : List ℕ} {r : ℕ} {t : Told} → recordLeast ≤ length run → replyLeast ≤ length reply
       → (e : Ended) (after : RunRecord) → Replays file trace memory blank e after memory₁ → run₁ ≡ runAfter (saidStop (e .why)) after run
       → t ≡ toldReplay (saidStop (e .why)) (e .steps) → Tells t reply reply₁ r
       → ReplayCall file trace memory run reply r memory₁ run₁ reply₁
   replay-told {run₁ = run₁} {t = t} h l e after replays put told tells =
       let o = outcomeOf file trace memory in
-      let roomy = is-and (leb recordLeast (length run)) (replyFits reply) (le-leb recordLeast (length run) h) (le-leb 3 (length reply) l) in
+      let roomy = is-and (leb recordLeast (length run)) (replyFits reply) (le-leb recordLeast (length run) h) (le-leb replyLeast (length reply) l) in
       let same : t ≡ replayTold file trace memory = told ∙ ap₂ toldReplay (replays .reply) (replays .steps) in
       let out : run₁ ≡ runAfter (o .reply) (o .lent) run = put ∙ ap₂ (λ x y. runAfter x y run) (replays .reply) (replays .lent) in
       record {

@@ -14,7 +14,7 @@ DRAWN = 15
 
 -- the root, and how many states there are
 abbrev pub toldDrawn : Reply → ℕ → Told
-toldDrawn (root r) count = toldOf DRAWN r count 0
+toldDrawn (root r) count = toldOf DRAWN r count 0 0
 toldDrawn (refused k p) count = toldRefusal k p
 
 -- final marks, then arcs, as they lie in the tables of a file

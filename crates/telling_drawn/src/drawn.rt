@@ -30,6 +30,7 @@ pub fn tell_drawn(reply: Reply, count: u8) -> Told
             first: root.0 as usize,
             second: count as usize,
             third: 0,
+            fourth: 0,
         },
         Reply::TooLong => refused(18, MOST_TEXT),
         Reply::Outside(place) => refused(19, place),
