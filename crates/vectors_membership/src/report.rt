@@ -11,15 +11,17 @@ fn refused(cause: usize, at: usize) {
     io::write_all(1, b"\n");
 }
 
-fn said(word: &[u8]) {
+// Yes or no, and how many messages were followed.
+fn said(word: &[u8], far: usize) {
     io::write_all(1, word);
+    io::print_decimal(1, far as u64);
     io::write_all(1, b"\n");
 }
 
 pub(crate) fn report(reply: Member) {
     match reply {
-        Member::Yes => said(b"yes"),
-        Member::No => said(b"no"),
+        Member::Yes(far) => said(b"yes ", far),
+        Member::No(far) => said(b"no ", far),
         Member::Unread(why) => refused(number(why), place(why)),
         Member::NoControl => refused(11, 0),
         Member::NoMessage(at) => refused(12, at),

@@ -22,10 +22,16 @@ fn step_refused(cause: usize, at: usize, steps: usize) {
     told(b" after ", steps);
 }
 
+// Outside the map: how many messages were followed, too.
+fn left(steps: usize, far: usize) {
+    told(b"outside ", steps);
+    told(b" ", far);
+}
+
 fn reply(why: Stop, steps: usize) {
     match why {
         Stop::End => told(b"end ", steps),
-        Stop::Outside => told(b"outside ", steps),
+        Stop::Outside(far) => left(steps, far),
         Stop::Unread(why) => step_refused(number(why), place(why), steps),
         Stop::NotPossible(at) => step_refused(14, at, steps),
         Stop::NoRoom(at) => step_refused(15, at, steps),
