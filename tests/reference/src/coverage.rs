@@ -7,6 +7,8 @@ use crate::derivatives::State;
 use crate::expression::{expression, Pool};
 use crate::expression_features;
 use crate::expression_traps::{expression_with, ExpressionTrap};
+use crate::far_features;
+use crate::far_traps::{far_of_contents, far_of_replay, far_of_step, FarTrap};
 use crate::generate::draft::Role;
 use crate::generate::expression as texts;
 use crate::generate::membership::{Purpose, ABOUT_ORDER};
@@ -16,16 +18,16 @@ use crate::generate::row_9;
 use crate::generate::verdicts;
 use crate::generate::writing as writings;
 use crate::long_words::{self, has_long_word};
-use crate::membership::{membership, membership_line};
+use crate::membership::{membership, membership_line, Member};
 use crate::order_features::{self, OrderHits};
 use crate::positions::pool_of;
 use crate::read::{read, Kind, Refusal, Tables, WORD_LENGTH};
-use crate::replay::{replay, Answer};
-use crate::replay_features;
-use crate::replay_traps::{replay_with, ReplayTrap};
+use crate::replay::{replay, Answer, Reply};
+use crate::replay_features::{self, Retaken};
+use crate::replay_traps::{self, replay_with, ReplayTrap};
 use crate::rings::replay_in_rings;
 use crate::stream::{Question, Replay, Writing};
-use crate::traps::{verdict_with, Trap};
+use crate::traps::{self, Trap};
 use crate::verdict::{line, Verdict};
 use crate::walk::{check, Scratch};
 use crate::write::write;
@@ -166,20 +168,58 @@ const ENOUGH_OF_ORDER: usize = 10;
 /// Mistakes are tried on files up to this many bytes: they are searched for plainly.
 const SMALL_FILE: usize = 300;
 
+/// Which mistakes about how far a word is followed would be told, and how often.
+struct FarHits {
+    told: BTreeMap<FarTrap, usize>,
+    disagreements: Vec<String>,
+}
+
+impl FarHits {
+    fn new(traps: impl Iterator<Item = FarTrap>) -> Self {
+        FarHits { told: traps.map(|trap| (trap, 0)).collect(), disagreements: vec![] }
+    }
+
+    /// Counts the mistakes that a number tells, given how it is found with each of them or with none.
+    fn add(&mut self, what: &str, far: usize, far_with: impl Fn(Option<FarTrap>) -> usize) {
+        let by_arcs = far_with(None);
+        if by_arcs != far {
+            self.disagreements.push(format!("{what}: followed as far as {far}, but by arcs {by_arcs}"));
+        }
+        for (&trap, count) in &mut self.told {
+            *count += usize::from(far_with(Some(trap)) != far);
+        }
+    }
+
+    fn complaints(&self, of: &str) -> Vec<String> {
+        let seldom = self.told.iter().filter(|(trap, &count)| count < trap.asked());
+        let complaints = seldom.map(|(trap, count)| format!("only {count} {of} tell {trap:?}"));
+        self.disagreements.iter().cloned().chain(complaints).collect()
+    }
+
+    fn report(&self, of: &str) -> String {
+        self.told
+            .iter()
+            .map(|(trap, count)| format!("{of} whose number F would change by {trap:?}: {count}\n"))
+            .collect()
+    }
+}
+
 /// What the files for checking hit.
 struct VerdictHits<'c> {
     lines: BTreeMap<String, usize>,
     kinds: BTreeMap<&'c str, usize>,
     features: BTreeMap<&'static str, usize>,
-    /// Features of long words and of queue order that are asked.
+    /// Features of long words, of queue order and of how far contents are followed that are asked.
     asked_features: BTreeMap<String, usize>,
     told: BTreeMap<Trap, usize>,
+    far: FarHits,
     of_order: OrderHits,
 }
 
 /// The features that files for checking must have, each with how many files.
 fn asked_of_verdicts() -> BTreeMap<String, usize> {
-    long_words::asked().into_iter().chain(order_features::asked()).collect()
+    let others = order_features::asked().into_iter().chain(far_features::asked_of_verdicts());
+    long_words::asked().into_iter().chain(others).collect()
 }
 
 pub fn verdict_coverage(cases: &[verdicts::Case]) -> Coverage {
@@ -190,6 +230,7 @@ pub fn verdict_coverage(cases: &[verdicts::Case]) -> Coverage {
         features: BTreeMap::new(),
         asked_features: asked_of_verdicts().into_keys().map(|feature| (feature, 0)).collect(),
         told: Trap::all().map(|trap| (trap, 0)).collect(),
+        far: FarHits::new(FarTrap::of_verdicts()),
         of_order: OrderHits::default(),
     };
     for case in cases {
@@ -212,6 +253,11 @@ impl VerdictHits<'_> {
             *self.features.entry(feature).or_default() += usize::from(has);
         }
         let mut features = long_words::features(tables, verdict);
+        features.extend(far_features::of_verdict(tables, verdict));
+        if let Verdict::Leaves { control_state, transition, contents, far } = verdict {
+            let step = &tables.transitions[*transition];
+            self.far.add(&verdict.to_string(), *far, |trap| far_of_step(tables, *control_state, step, contents, trap));
+        }
         if is_small {
             features.extend(order_features::features(tables, verdict));
         }
@@ -220,7 +266,7 @@ impl VerdictHits<'_> {
         }
         if is_small {
             for (&trap, count) in &mut self.told {
-                *count += usize::from(verdict_with(tables, Some(trap)) != *verdict);
+                *count += usize::from(traps::tells(tables, verdict, trap));
             }
         }
     }
@@ -245,6 +291,7 @@ impl VerdictHits<'_> {
                 complaints.push(format!("only {count} files tell {trap:?}"));
             }
         }
+        complaints.extend(self.far.complaints("files"));
         complaints.extend(self.of_order.complaints(ENOUGH_OF_ORDER));
         complaints
     }
@@ -266,7 +313,7 @@ impl VerdictHits<'_> {
         for (trap, count) in &self.told {
             report += &format!("files whose line would change by {trap:?}: {count}\n");
         }
-        report + &self.of_order.report()
+        report + &self.far.report("files") + &self.of_order.report()
     }
 }
 
@@ -303,6 +350,9 @@ pub fn membership_coverage(questions: &[(Purpose, Question)]) -> Coverage {
     let mut replies: BTreeMap<String, usize> = BTreeMap::new();
     let mut about_order: BTreeMap<&str, usize> = ABOUT_ORDER.map(|kind| (kind, 0)).into();
     let mut of_order = OrderHits::default();
+    let asked = far_features::asked_of_questions();
+    let mut features: BTreeMap<String, usize> = asked.keys().map(|feature| (feature.clone(), 0)).collect();
+    let mut far = FarHits::new(FarTrap::of_questions());
     let mut complaints = Vec::new();
     for (index, (purpose, question)) in questions.iter().enumerate() {
         let reply = membership(&question.file, question.control_state, &question.contents);
@@ -314,13 +364,24 @@ pub fn membership_coverage(questions: &[(Purpose, Question)]) -> Coverage {
             }
             Purpose::WordOutOfOrder(refusal) => reply == Err(refusal),
             Purpose::RefusedFile => reply.is_err_and(|refusal| refusal.number <= 10),
-            Purpose::NoRoot | Purpose::IntoDeadEnd => reply == Ok(false),
+            Purpose::NoRoot => reply == Ok(Member { belongs: false, far: 0 }),
+            Purpose::IntoDeadEnd => reply == Ok(Member { belongs: false, far: question.contents.len() }),
             Purpose::OnTheWay | Purpose::InOrder | Purpose::Harmless => reply.is_ok(),
-            Purpose::Long => reply == Ok(true),
+            Purpose::Long => reply == Ok(Member { belongs: true, far: question.contents.len() }),
+            Purpose::Far(far) => reply.is_ok_and(|member| member.far == far),
             Purpose::Document => true,
         };
         if !as_made {
             complaints.push(format!("question {index} ({purpose:?}): {}", membership_line(&reply)));
+        }
+        if let (Ok(tables), Ok(member)) = (read(&question.file), reply) {
+            let Question { control_state, contents, .. } = question;
+            far.add(&format!("question {index}"), member.far, |trap| {
+                far_of_contents(&tables, *control_state, contents, trap)
+            });
+            for feature in far_features::of_question(&tables, *control_state, contents, member) {
+                features.entry(feature).and_modify(|count| *count += 1);
+            }
         }
         *replies.entry(line_kind(&membership_line(&reply))).or_default() += 1;
         of_order.add(&question.file);
@@ -337,6 +398,13 @@ pub fn membership_coverage(questions: &[(Purpose, Question)]) -> Coverage {
     for (kind, count) in about_order.iter().filter(|(_, &count)| count < ENOUGH_QUESTIONS_OF_ORDER) {
         complaints.push(format!("only {count} questions about order are: {kind}"));
     }
+    for (feature, enough) in &asked {
+        let count = features[feature];
+        if count < *enough {
+            complaints.push(format!("only {count} questions have: {feature}"));
+        }
+    }
+    complaints.extend(far.complaints("questions"));
     complaints.extend(of_order.complaints(ENOUGH_OF_ORDER));
     let mut report = format!("{} questions\n", questions.len());
     for (reply, count) in &replies {
@@ -345,7 +413,10 @@ pub fn membership_coverage(questions: &[(Purpose, Question)]) -> Coverage {
     for (kind, count) in &about_order {
         report += &format!("about order, {kind}: {count}\n");
     }
-    Coverage { report: report + &of_order.report(), complaints }
+    for (feature, count) in &features {
+        report += &format!("{feature}: {count}\n");
+    }
+    Coverage { report: report + &far.report("questions") + &of_order.report(), complaints }
 }
 
 /// Each mistake changes the line of at least this many replays.
@@ -364,6 +435,7 @@ pub fn replay_coverage(cases: &[replays::Case]) -> Coverage {
     let asked = replay_features::asked();
     let mut features: BTreeMap<String, usize> = asked.keys().map(|feature| (feature.clone(), 0)).collect();
     let mut told = BTreeMap::from(ReplayTrap::ALL.map(|trap| (trap, 0)));
+    let mut far_hits = FarHits::new(FarTrap::of_replays());
     let mut of_order = OrderHits::default();
     let mut complaints = Vec::new();
     let mut bytes = 0;
@@ -386,7 +458,13 @@ pub fn replay_coverage(cases: &[replays::Case]) -> Coverage {
         }
         let is_short = asked.trace.len() <= SHORT_TRACE;
         for (&trap, count) in told.iter_mut().filter(|(trap, _)| is_short || trap.is_of_long_traces()) {
-            *count += usize::from(replay_with(&asked.file, &asked.trace, &lent, Some(trap)) != answer);
+            *count += usize::from(replay_traps::tells(&asked.file, &asked.trace, &lent, &answer, trap));
+        }
+        if let (Ok(tables), Reply::Outside { steps, far }) = (read(&asked.file), answer.reply) {
+            let Retaken { before, last, received } = Retaken::new(&tables, &asked.trace[..steps]);
+            far_hits.add(&format!("replay {index}"), far, |trap| {
+                far_of_replay(&tables, before.as_ref(), &last, &received, trap)
+            });
         }
     }
     for (feature, &enough) in &asked {
@@ -400,6 +478,7 @@ pub fn replay_coverage(cases: &[replays::Case]) -> Coverage {
             complaints.push(format!("only {count} replays tell {trap:?}"));
         }
     }
+    complaints.extend(far_hits.complaints("replays"));
     complaints.extend(of_order.complaints(ENOUGH_OF_ORDER));
     let mut report = format!("{} replays, {bytes} bytes of files and traces\n", cases.len());
     for (feature, count) in &features {
@@ -408,7 +487,7 @@ pub fn replay_coverage(cases: &[replays::Case]) -> Coverage {
     for (trap, count) in &told {
         report += &format!("replays whose line would change by {trap:?}: {count}\n");
     }
-    Coverage { report: report + &of_order.report(), complaints }
+    Coverage { report: report + &far_hits.report("replays") + &of_order.report(), complaints }
 }
 
 /// Each mistake changes the line of at least this many writings.

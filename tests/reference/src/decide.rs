@@ -10,7 +10,7 @@
 use std::collections::HashSet;
 use std::ops::Range;
 
-use crate::diagram::{accepts, follow, root};
+use crate::diagram::{accepts, far, follow, root};
 use crate::read::{read, Kind, Tables, Transition};
 use crate::verdict::{Reply, Verdict};
 
@@ -100,6 +100,18 @@ impl<'t> Session<'t> {
         accepts(self.tables, self.root_of(&configuration.machines), &word)
     }
 
+    /// How far the contents of all queues are followed from the root of the control state.
+    fn far(&self, configuration: &Configuration) -> usize {
+        far(self.tables, self.root_of(&configuration.machines), &configuration.queues.concat())
+    }
+
+    /// The same by every beginning: the longest that leads somewhere.
+    fn far_by_beginnings(&self, configuration: &Configuration) -> usize {
+        let (word, root) = (configuration.queues.concat(), self.root_of(&configuration.machines));
+        let leads = |&taken: &usize| follow(self.tables, root, &word[..taken]).is_some();
+        (0..=word.len()).filter(leads).max().unwrap_or(0)
+    }
+
     /// The configuration after the step, or none if it cannot be taken.
     fn take(&self, transition: &Transition, before: &Configuration) -> Option<Configuration> {
         let mut after = before.clone();
@@ -137,7 +149,8 @@ impl<'t> Session<'t> {
                     continue;
                 }
                 if let Some(contents) = self.leaving_contents(machines, transition)? {
-                    return Ok(Verdict::Leaves { control_state, transition: number, contents });
+                    let far = self.far(&self.after(machines, transition, &contents).expect("the step is possible"));
+                    return Ok(Verdict::Leaves { control_state, transition: number, contents, far });
                 }
                 pairs += self.pairs_of_step(machines, transition)?;
             }
@@ -161,8 +174,13 @@ impl<'t> Session<'t> {
     }
 
     fn leaves(&self, machines: &[u8], transition: &Transition, word: &[u8]) -> bool {
-        let before = self.configuration(machines, word);
-        self.inside(&before) && self.take(transition, &before).is_some_and(|after| !self.inside(&after))
+        self.inside(&self.configuration(machines, word))
+            && self.after(machines, transition, word).is_some_and(|after| !self.inside(&after))
+    }
+
+    /// The configuration that a step leads to from contents, if they allow it.
+    fn after(&self, machines: &[u8], transition: &Transition, word: &[u8]) -> Option<Configuration> {
+        self.take(transition, &self.configuration(machines, word))
     }
 
     /// Every contents up to a length, shortest first and then lowest.
@@ -188,7 +206,8 @@ impl<'t> Session<'t> {
         for (control_state, machines) in self.control_states.iter().enumerate() {
             for (transition, step) in self.tables.used_transitions().iter().enumerate() {
                 if let Some(contents) = words.iter().find(|word| self.leaves(machines, step, word)) {
-                    return Verdict::Leaves { control_state, transition, contents: contents.clone() };
+                    let far = self.after(machines, step, contents).map_or(0, |after| self.far_by_beginnings(&after));
+                    return Verdict::Leaves { control_state, transition, contents: contents.clone(), far };
                 }
             }
         }
@@ -200,11 +219,15 @@ impl<'t> Session<'t> {
         Verdict::Closed { pairs: 0 }
     }
 
-    /// Whether the item that a verdict names fails on the contents it shows.
+    /// Whether the item that a verdict names fails on the contents it shows, and those after the step are followed as far
+    /// as it says.
     fn fails(&self, verdict: &Verdict) -> bool {
         match verdict {
-            Verdict::Leaves { control_state, transition, contents } => {
-                self.leaves(&self.control_states[*control_state], &self.tables.transitions[*transition], contents)
+            Verdict::Leaves { control_state, transition, contents, far } => {
+                let (machines, step) = (&self.control_states[*control_state], &self.tables.transitions[*transition]);
+                let after = self.after(machines, step, contents);
+                self.leaves(machines, step, contents)
+                    && after.is_some_and(|after| self.far_by_beginnings(&after) == *far)
             }
             Verdict::Bad { entry, contents } => self.is_bad(*entry, contents),
             Verdict::Closed { .. } | Verdict::Outside => false,

@@ -10,6 +10,15 @@ pub fn follow(tables: &Tables, from: Option<usize>, word: &[u8]) -> Option<usize
     })
 }
 
+/// How far a word is followed: how many messages it takes before it has nowhere to go, else its length; 0 from nowhere.
+pub fn far(tables: &Tables, from: Option<usize>, word: &[u8]) -> usize {
+    let next = |state: &mut Option<usize>, &message: &u8| {
+        *state = follow(tables, *state, &[message]);
+        *state
+    };
+    word.iter().scan(from, next).count()
+}
+
 /// The root of a control state, or none.
 pub fn root(tables: &Tables, control_state: usize) -> Option<usize> {
     usize::from(tables.roots[control_state]).checked_sub(1)

@@ -11,6 +11,8 @@ pub mod endings;
 pub mod expression;
 pub mod expression_features;
 pub mod expression_traps;
+pub mod far_features;
+pub mod far_traps;
 pub mod flat;
 pub mod generate;
 pub mod long_words;

@@ -93,7 +93,7 @@ pub fn features(tables: &Tables, verdict: &Verdict) -> BTreeSet<String> {
             let long = tables.used_transitions().iter().filter(|step| is_long(step));
             long.map(|step| of_length("outside", step.kind, step.word().len())).collect()
         }
-        Verdict::Leaves { control_state, transition, contents } => {
+        Verdict::Leaves { control_state, transition, contents, .. } => {
             let step = &tables.transitions[*transition];
             if is_long(step) {
                 of_leaving_step(tables, *control_state, step, contents)

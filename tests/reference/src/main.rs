@@ -22,7 +22,9 @@ use reference_checker::membership::{membership, membership_line};
 use reference_checker::random::Random;
 use reference_checker::read::read;
 use reference_checker::replay::replay;
-use reference_checker::selftest::{selftest, selftest_expression, selftest_order, selftest_writing, Agreement};
+use reference_checker::selftest::{
+    selftest, selftest_expression, selftest_far, selftest_order, selftest_writing, Agreement,
+};
 use reference_checker::stream::{put_file, put_question, put_replay, put_writing, Question, Records};
 use reference_checker::verdict::{line, Reply};
 use reference_checker::walk::{check, Scratch};
@@ -51,7 +53,7 @@ usage: reference COMMAND
   generate-expression    write the stream of texts
   expression             answer such a stream on standard input, one line a text
   coverage-expression    say what that stream hits, and which mistakes it would tell
-  selftest SEED COUNT    compare all ways to the verdict, to row 9, to 16, and from a text to a pool, on random input
+  selftest SEED COUNT    compare all ways to the verdict, to F, to row 9, to 16, and from a text to a pool, on random input
   check                  check one file on standard input, by walking
   maximal                write the longest file that is read";
 
@@ -140,6 +142,10 @@ fn run(arguments: &[String]) -> Result<(), String> {
             let (seed, count) = (number(seed)?, number(count)? as usize);
             let agreement = selftest(seed, count);
             tell_agreement(&agreement);
+            let of_far = selftest_far(seed, count);
+            let (leaves, by_words, outside) = (of_far.leaves, of_far.by_words, of_far.outside);
+            println!("how far: {leaves} leave, {by_words} files by words too, {outside} replays end outside");
+            println!("disagreements: {}", of_far.disagreements.len());
             let of_order = selftest_order(seed, count);
             println!("row 9: {} in order, {} out of order", of_order.in_order, of_order.out_of_order);
             println!("disagreements: {}", of_order.disagreements.len());
@@ -151,7 +157,7 @@ fn run(arguments: &[String]) -> Result<(), String> {
             println!("texts: {} pools, {} refused", of_texts.pools, of_texts.refused);
             println!("pools by words: {by_words}, {all_reached} of them with all states reached");
             println!("disagreements: {}", of_texts.disagreements.len());
-            let others = [of_writing.disagreements, of_texts.disagreements].concat();
+            let others = [of_far.disagreements, of_writing.disagreements, of_texts.disagreements].concat();
             fail_on(&[agreement.disagreements, of_order.disagreements, others].concat())
         }
         _ => Err(USAGE.to_string()),

@@ -1,15 +1,22 @@
-//! Whether given contents lie in the set of a control state.
+//! Whether given contents lie in the set of a control state, and how far they are followed.
 
-use crate::diagram::{accepts, root};
+use crate::diagram::{accepts, far, root};
 use crate::read::{read, Refusal, Tables};
 
-pub fn membership(file: &[u8], control_state: usize, contents: &[u8]) -> Result<bool, Refusal> {
+#[derive(Clone, Copy, Debug, PartialEq, Eq)]
+pub struct Member {
+    pub belongs: bool,
+    pub far: usize,
+}
+
+pub fn membership(file: &[u8], control_state: usize, contents: &[u8]) -> Result<Member, Refusal> {
     let tables = read(file)?;
     if control_state >= tables.control_state_count {
         return Err(Refusal { number: 11, place: 0 });
     }
     refuse_contents(&tables, contents)?;
-    Ok(accepts(&tables, root(&tables, control_state), contents))
+    let root = root(&tables, control_state);
+    Ok(Member { belongs: accepts(&tables, root, contents), far: far(&tables, root, contents) })
 }
 
 /// 12 before 13 at each message, whether or not the diagram still has somewhere to go.
@@ -28,10 +35,10 @@ fn refuse_contents(tables: &Tables, contents: &[u8]) -> Result<(), Refusal> {
     Ok(())
 }
 
-pub fn membership_line(reply: &Result<bool, Refusal>) -> String {
+pub fn membership_line(reply: &Result<Member, Refusal>) -> String {
     match reply {
-        Ok(true) => "yes".to_string(),
-        Ok(false) => "no".to_string(),
+        Ok(Member { belongs: true, far }) => format!("yes {far}"),
+        Ok(Member { belongs: false, far }) => format!("no {far}"),
         Err(refusal) => refusal.to_string(),
     }
 }

@@ -3,7 +3,7 @@
 
 use std::fmt;
 
-use crate::diagram::{accepts, root};
+use crate::diagram::{accepts, far, root};
 use crate::read::{read, Kind, Reader, Refusal, Tables, Transition, MACHINES, QUEUES};
 
 pub const LONGEST_TRACE: usize = 16_384;
@@ -37,9 +37,18 @@ pub enum Reply {
     FileRefused(Refusal),
     TraceRefused(Refusal),
     MemoryRefused(Refusal),
-    End { steps: usize },
-    Outside { steps: usize },
-    StepRefused { refusal: Refusal, steps: usize },
+    End {
+        steps: usize,
+    },
+    /// How far the contents of all queues are followed there.
+    Outside {
+        steps: usize,
+        far: usize,
+    },
+    StepRefused {
+        refusal: Refusal,
+        steps: usize,
+    },
 }
 
 impl fmt::Display for Reply {
@@ -49,7 +58,7 @@ impl fmt::Display for Reply {
             Reply::TraceRefused(refusal) => write!(f, "trace {refusal}"),
             Reply::MemoryRefused(refusal) => write!(f, "memory {refusal}"),
             Reply::End { steps } => write!(f, "end {steps}"),
-            Reply::Outside { steps } => write!(f, "outside {steps}"),
+            Reply::Outside { steps, far } => write!(f, "outside {steps} {far}"),
             Reply::StepRefused { refusal, steps } => write!(f, "{refusal} after {steps}"),
         }
     }
@@ -60,6 +69,17 @@ impl fmt::Display for Reply {
 pub struct Answer {
     pub reply: Reply,
     pub lent: Lent,
+}
+
+impl Answer {
+    /// The answer with 0 for how far the contents outside are followed, to compare all else.
+    pub fn without_far(&self) -> Answer {
+        let mut without = self.clone();
+        if let Reply::Outside { far, .. } = &mut without.reply {
+            *far = 0;
+        }
+        without
+    }
 }
 
 pub fn replay(file: &[u8], trace: &[u8], lent: &Lent) -> Answer {
@@ -91,7 +111,7 @@ fn run(tables: &Tables, trace: &[u8]) -> (Reply, Configuration) {
     let mut steps = 0;
     loop {
         if !configuration.is_inside(tables) {
-            return (Reply::Outside { steps }, configuration);
+            return (Reply::Outside { steps, far: configuration.far(tables) }, configuration);
         }
         if reader.place == trace.len() {
             return (Reply::End { steps }, configuration);
@@ -130,6 +150,11 @@ impl Configuration {
     /// Whether the contents of all queues, written as one word, belong to the control state.
     pub fn is_inside(&self, tables: &Tables) -> bool {
         accepts(tables, root(tables, self.control_state(tables)), &self.queues.concat())
+    }
+
+    /// How far these contents are followed from the control state's root.
+    pub fn far(&self, tables: &Tables) -> usize {
+        far(tables, root(tables, self.control_state(tables)), &self.queues.concat())
     }
 
     /// Reads the next number, and takes its transition. The place is that of the number's first byte, but for 3.

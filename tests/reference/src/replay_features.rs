@@ -3,6 +3,7 @@
 use std::collections::{BTreeMap, BTreeSet};
 
 use crate::diagram::{follow, root};
+use crate::far_features;
 use crate::generate::replay::SESSIONS;
 use crate::order_features::places_out_of_order;
 use crate::read::{
@@ -109,6 +110,7 @@ pub fn asked() -> BTreeMap<String, usize> {
             "trace refused where memory is short",
         ],
     );
+    asked.extend(far_features::asked_of_replays());
     asked.extend(ENDS_OF_DISORDERED.map(|end| (of_disordered(end), OF_OTHERS)));
     asked.insert("file refused 01".to_string(), 1);
     asked.extend((3..=10).map(|number| (file_refused(number), OF_RARE)));
@@ -179,7 +181,7 @@ pub fn features(asked: &Replay, answer: &Answer) -> BTreeSet<String> {
         Reply::TraceRefused(_) => add("trace refused 1"),
         Reply::MemoryRefused(_) => add("memory refused 2"),
         Reply::End { .. } => add("end"),
-        Reply::Outside { steps: 0 } => add("outside at step 0"),
+        Reply::Outside { steps: 0, .. } => add("outside at step 0"),
         Reply::Outside { .. } => add("outside later"),
         Reply::StepRefused { refusal: Refusal { number: 14, .. }, .. } => {}
         Reply::StepRefused { refusal: Refusal { number, .. }, .. } => add(&format!("refused {number}")),
@@ -187,14 +189,14 @@ pub fn features(asked: &Replay, answer: &Answer) -> BTreeSet<String> {
     if let Ok(tables) = read(&asked.file) {
         features.extend(of_memory(asked, &answer.reply, &tables).into_iter().map(String::from));
         let steps = match answer.reply {
-            Reply::End { steps } | Reply::Outside { steps } | Reply::StepRefused { steps, .. } => Some(steps),
+            Reply::End { steps } | Reply::Outside { steps, .. } | Reply::StepRefused { steps, .. } => Some(steps),
             _ => None,
         };
         if steps.is_some() && !places_out_of_order(&tables).is_empty() {
             let [end, at_once, later, refused] = ENDS_OF_DISORDERED;
             features.insert(of_disordered(match answer.reply {
                 Reply::End { .. } => end,
-                Reply::Outside { steps: 0 } => at_once,
+                Reply::Outside { steps: 0, .. } => at_once,
                 Reply::Outside { .. } => later,
                 _ => refused,
             }));
@@ -233,6 +235,32 @@ fn of_memory(asked: &Replay, reply: &Reply, tables: &Tables) -> Vec<&'static str
         }
     }
     features
+}
+
+/// Where a replay's steps lead, taken again.
+pub struct Retaken {
+    /// The configuration before the last step; none at the start.
+    pub before: Option<Configuration>,
+    pub last: Configuration,
+    /// Messages received from each queue.
+    pub received: Vec<usize>,
+}
+
+impl Retaken {
+    /// Every number of a transition has one byte.
+    pub fn new(tables: &Tables, steps: &[u8]) -> Self {
+        let received = vec![0; tables.queue_count];
+        let mut retaken = Retaken { before: None, last: Configuration::start(tables), received };
+        for &number in steps {
+            let transition = &tables.transitions[usize::from(number)];
+            let after = retaken.last.after(transition).expect("the step was taken");
+            if transition.kind == Kind::Receive {
+                retaken.received[usize::from(transition.queue)] += transition.word().len();
+            }
+            retaken.before = Some(std::mem::replace(&mut retaken.last, after));
+        }
+        retaken
+    }
 }
 
 /// A replay's steps, taken again, with what they did to rooms that are used round and round.
@@ -343,6 +371,7 @@ impl<'t> Watched<'t> {
     }
 
     fn outside(&mut self) {
+        self.features.extend(far_features::of_replay(self.tables, self.steps, &self.configuration, &self.received));
         match self.trace[self.steps..] {
             [] => self.add("outside at the trace's end"),
             [number, ..] if usize::from(number) >= self.tables.transition_count => {

@@ -1,4 +1,5 @@
-//! Wrong replays on purpose. With no trap set, this is another way to replay, in place and message by message.
+//! Wrong replays on purpose. With no trap set, this is another way to replay, in place and message by message. Mistakes about
+//! how far contents outside are followed are in `far_traps`.
 
 use crate::read::{read, Kind, Reader, Refusal, Tables, Transition, MESSAGES, QUEUES, WORD_LENGTH};
 use crate::replay::{Answer, Lent, Record, Reply, LONGEST_TRACE, QUEUE_ROOM};
@@ -138,6 +139,11 @@ impl ReplayTrap {
     }
 }
 
+/// Whether a replay tells a mistake of these, by more than how far contents are followed.
+pub fn tells(file: &[u8], trace: &[u8], lent: &Lent, answer: &Answer, trap: ReplayTrap) -> bool {
+    replay_with(file, trace, lent, Some(trap)).without_far() != answer.without_far()
+}
+
 /// The replay with a mistake, or without one.
 pub fn replay_with(file: &[u8], trace: &[u8], lent: &Lent, trap: Option<ReplayTrap>) -> Answer {
     let tables = match admit(file, trace, lent.memory.len(), trap) {
@@ -149,7 +155,7 @@ pub fn replay_with(file: &[u8], trace: &[u8], lent: &Lent, trap: Option<ReplayTr
     };
     let mut run = Run::new(&tables, lent, trap);
     let reply = run.reply(trace);
-    if run.is(ReplayTrap::StartLeavesLent) && reply == (Reply::Outside { steps: 0 }) {
+    if run.is(ReplayTrap::StartLeavesLent) && matches!(reply, Reply::Outside { steps: 0, .. }) {
         return Answer { reply, lent: lent.clone() };
     }
     let is_refused = matches!(reply, Reply::StepRefused { .. });
@@ -226,8 +232,9 @@ impl<'t> Run<'t> {
                 Some(ReplayTrap::OutsideAskedAtTheEnd) => is_at_end,
                 _ => true,
             };
-            if is_asked && !self.is_inside() {
-                return Reply::Outside { steps };
+            let (is_inside, far) = self.followed();
+            if is_asked && !is_inside {
+                return Reply::Outside { steps, far };
             }
             if is_at_end && self.is(ReplayTrap::EndIsRefused) {
                 return Reply::StepRefused { refusal: Refusal { number: 3, place: trace.len() }, steps };
@@ -268,7 +275,8 @@ impl<'t> Run<'t> {
         }
     }
 
-    fn is_inside(&self) -> bool {
+    /// Whether the configuration is inside, and how many messages were taken until that was known.
+    fn followed(&self) -> (bool, usize) {
         let machines = self.tables.machine_count;
         let order: Vec<usize> =
             if self.is(ReplayTrap::LastMachineFirst) { (0..machines).rev().collect() } else { (0..machines).collect() };
@@ -277,17 +285,19 @@ impl<'t> Run<'t> {
             control_state = control_state * usize::from(self.tables.states[machine]) + self.states[machine];
         }
         let mut state = self.tables.roots[control_state];
+        let mut far = 0;
         for (queue, &received) in self.queues.iter().zip(&self.received) {
             let up_to_end =
                 if self.is(ReplayTrap::AcrossUnasked) { QUEUE_ROOM - received % QUEUE_ROOM } else { queue.len() };
             for &message in queue.iter().take(up_to_end) {
                 if state == 0 {
-                    return false;
+                    return (false, far);
                 }
                 state = self.tables.arcs[(usize::from(state) - 1) * MESSAGES + usize::from(message)];
+                far += usize::from(state > 0);
             }
         }
-        state > 0 && self.tables.finals[usize::from(state) - 1]
+        (state > 0 && self.tables.finals[usize::from(state) - 1], far)
     }
 
     /// The messages of a word that are sent or received.

@@ -38,7 +38,7 @@ fn run(tables: &Tables, trace: &[u8], record: &mut Record, rings: &mut [Ring]) -
     let mut steps = 0;
     loop {
         if !is_inside(tables, record, rings) {
-            return Reply::Outside { steps };
+            return Reply::Outside { steps, far: far(tables, record, rings) };
         }
         let place = reader.place;
         if place == trace.len() {
@@ -75,6 +75,20 @@ fn is_inside(tables: &Tables, record: &Record, rings: &[Ring]) -> bool {
         row = last;
     }
     tables.finals[row / MESSAGES]
+}
+
+/// How far they are followed: asked once, where the configuration is outside, message by message round each ring.
+fn far(tables: &Tables, record: &Record, rings: &[Ring]) -> usize {
+    let mut state = tables.roots[control_state(tables, record)];
+    let mut taken = 0;
+    for ((ring, &head), &length) in rings.iter().zip(&record.heads).zip(&record.lengths) {
+        for place in head..head + length {
+            let Some(known) = state.checked_sub(1) else { break };
+            state = tables.arcs[usize::from(known) * MESSAGES + usize::from(ring[place % QUEUE_ROOM])];
+            taken += usize::from(state > 0);
+        }
+    }
+    taken
 }
 
 #[inline]

@@ -1,5 +1,5 @@
-//! The ways to a verdict, those to row 9, and those to a file from tables, against each other on random small files; and those
-//! from a text to a pool, on random texts.
+//! The ways to a verdict, those to row 9, those to how far contents are followed, and those to a file from tables, against each
+//! other on random small files; and those from a text to a pool, on random texts.
 
 use std::collections::BTreeMap;
 
@@ -7,18 +7,25 @@ use crate::decide::{confirm, decide};
 use crate::endings::{count as count_occurrences, reached_by_words};
 use crate::expression::{expression, parse, Pool};
 use crate::expression_traps::expression_with;
+use crate::far_traps::far_of_step;
 use crate::flat::Flat;
 use crate::generate::expression::random_texts;
 use crate::generate::reading::Generator;
-use crate::generate::verdicts::Plans;
+use crate::generate::replay::random_runs;
+use crate::generate::verdicts::{contents_after, Plans};
 use crate::generate::writing::random_writings;
 use crate::long_words::has_long_word;
+use crate::membership::{membership, Member};
 use crate::order::{in_queue_order, in_queue_order_by_words};
 use crate::order_traps::read_with;
 use crate::positions::{pool_at_once, pool_of};
-use crate::read::{read, read_asking, Refusal};
+use crate::read::{read, read_asking, Refusal, Tables, QUEUES};
+use crate::replay::{replay, Answer, Lent, Record, Reply, QUEUE_ROOM};
+use crate::replay_traps::replay_with;
+use crate::rings::replay_in_rings;
 use crate::traps::verdict_with;
 use crate::verdict::{line, Verdict};
+use crate::walk::control_state_after;
 use crate::write::{write, NO_FILE};
 use crate::writing_traps::write_with;
 
@@ -48,26 +55,13 @@ pub fn selftest(seed: u64, count: usize) -> Agreement {
         };
         let bytes = plan.bytes();
         let (tables, walked) = plans.judge(&plan);
-        let mut disagree = |with: &str, other: String| {
-            let hex: String = bytes.iter().map(|byte| format!("{byte:02x} ")).collect();
-            agreement.disagreements.push(format!("walk: {walked}; {with}: {other}; file {hex}"));
-        };
-
-        match decide(&bytes) {
-            Ok(reply) if reply.as_ref() == Ok(&walked) => {}
-            Ok(reply) => disagree("words", line(&reply)),
-            Err(_) => {
+        match compare_verdicts(&bytes, &tables, &walked) {
+            Ok(true) => {}
+            Ok(false) => {
                 agreement.too_large_for_words += 1;
                 agreement.too_large_with_long_words += usize::from(has_long_word(&tables));
             }
-        }
-        let plain = verdict_with(&tables, None);
-        if plain != walked {
-            disagree("plain search", plain.to_string());
-        }
-        let longest = (1..6).take_while(|&length| tables.message_sum.pow(length) <= PLAIN_WORDS).last().unwrap_or(1);
-        if !confirm(&tables, &walked, longest as usize) {
-            disagree("definition", "not confirmed".to_string());
+            Err(other) => agreement.disagreements.push(other),
         }
         *agreement.verdicts.entry(first_word(&walked)).or_default() += 1;
         if has_long_word(&tables) {
@@ -77,8 +71,90 @@ pub fn selftest(seed: u64, count: usize) -> Agreement {
     agreement
 }
 
+/// The other ways to a verdict beside that by walking. False where there are too many words to decide by them.
+fn compare_verdicts(bytes: &[u8], tables: &Tables, walked: &Verdict) -> Result<bool, String> {
+    let disagree = |with: &str, other: String| {
+        let hex: String = bytes.iter().map(|byte| format!("{byte:02x} ")).collect();
+        Err(format!("walk: {walked}; {with}: {other}; file {hex}"))
+    };
+    let by_words = decide(bytes);
+    if let Ok(reply) = &by_words {
+        if reply.as_ref() != Ok(walked) {
+            return disagree("words", line(reply));
+        }
+    }
+    let plain = verdict_with(tables, None);
+    if plain != *walked {
+        return disagree("plain search", plain.to_string());
+    }
+    let longest = (1..6).take_while(|&length| tables.message_sum.pow(length) <= PLAIN_WORDS).last().unwrap_or(1);
+    if !confirm(tables, walked, longest as usize) {
+        return disagree("definition", "not confirmed".to_string());
+    }
+    Ok(by_words.is_ok())
+}
+
 fn first_word(verdict: &Verdict) -> String {
     verdict.to_string().split(' ').next().unwrap_or_default().to_string()
+}
+
+#[derive(Default)]
+pub struct FarAgreement {
+    /// Files with a step that leaves, and those of them that were decided by words, too.
+    pub leaves: usize,
+    pub by_words: usize,
+    /// Replays that end outside.
+    pub outside: usize,
+    pub disagreements: Vec<String>,
+}
+
+/// How far contents are followed. Of a step that leaves by all ways to a verdict, by arcs, and by asking membership of the
+/// contents after it; the files are made for where these are lost. Of replays that end outside by all ways to replay, and by
+/// asking membership of what waits at the end.
+pub fn selftest_far(seed: u64, count: usize) -> FarAgreement {
+    let mut plans = Plans::new(seed);
+    let mut agreement = FarAgreement::default();
+    for round in 0..count {
+        let plan = if round % 20 == 0 { plans.losing_many() } else { plans.losing() };
+        let bytes = plan.bytes();
+        let (tables, walked) = plans.judge(&plan);
+        match compare_verdicts(&bytes, &tables, &walked) {
+            Ok(is_by_words) => agreement.by_words += usize::from(is_by_words),
+            Err(other) => agreement.disagreements.push(other),
+        }
+        if let Verdict::Leaves { control_state, transition, contents, far } = &walked {
+            agreement.leaves += 1;
+            let step = &tables.transitions[*transition];
+            let by_arcs = far_of_step(&tables, *control_state, step, contents, None);
+            let led_to = control_state_after(&tables, *control_state, step).expect("the step is possible");
+            let before = membership(&bytes, *control_state, contents);
+            let after = membership(&bytes, led_to, &contents_after(&plan, *transition, contents));
+            let as_members = [(true, contents.len()), (false, *far)].map(|(belongs, far)| Ok(Member { belongs, far }));
+            if by_arcs != *far || [before, after] != as_members {
+                agreement.disagreements.push(format!("{walked}: by arcs {by_arcs}, asked {before:?} and {after:?}"));
+            }
+        }
+    }
+    for (file, trace) in random_runs(seed, count) {
+        let lent = Lent { record: Record::default(), memory: vec![0; QUEUES * QUEUE_ROOM] };
+        let answer = replay(&file, &trace, &lent);
+        let mut rings = lent.clone();
+        let reply = replay_in_rings(&mut rings.record, &file, &trace, &mut rings.memory);
+        let others = [Answer { reply, lent: rings }, replay_with(&file, &trace, &lent, None)];
+        let Reply::Outside { far, .. } = answer.reply else { continue };
+        agreement.outside += 1;
+        let tables = read(&file).expect("files of random runs are read");
+        let waiting = answer.lent.memory.chunks(QUEUE_ROOM).zip(answer.lent.record.lengths);
+        let contents: Vec<u8> = waiting.flat_map(|(room, length)| room[..length].to_vec()).collect();
+        let states = answer.lent.record.states[..tables.machine_count].iter().zip(tables.states);
+        let control_state =
+            states.fold(0, |number, (&state, states)| number * usize::from(states) + usize::from(state));
+        let asked = membership(&file, control_state, &contents);
+        if others != [answer.clone(), answer.clone()] || asked != Ok(Member { belongs: false, far }) {
+            agreement.disagreements.push(format!("{}, others {others:?}, asked {asked:?}; {file:?}", answer.reply));
+        }
+    }
+    agreement
 }
 
 #[derive(Default)]

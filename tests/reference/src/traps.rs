@@ -1,7 +1,8 @@
 //! Wrong verdicts on purpose: the mistakes that the document warns of, and others of their kind.
 //!
 //! A set of files is worth something only if each mistake changes the line of some of them. With no trap set, this is
-//! a third way to the verdict, slow and plain.
+//! a third way to the verdict, slow and plain; how far the target follows the contents after the step is counted on the way.
+//! Mistakes about that number alone are in `far_traps`.
 
 use std::collections::{BTreeSet, HashSet};
 use std::ops::Range;
@@ -138,6 +139,14 @@ struct Node {
     queue: usize,
 }
 
+/// A node, the contents shown if it fails, and how many messages the target has taken by then.
+#[derive(Clone)]
+struct Found {
+    node: Node,
+    contents: Vec<u8>,
+    far: usize,
+}
+
 /// Messages of a word that the mistakes about long words take rightly.
 const FOUR: usize = 4;
 
@@ -167,6 +176,11 @@ pub struct Judge<'t> {
 /// The verdict with a mistake, or without one.
 pub fn verdict_with(tables: &Tables, trap: Option<Trap>) -> Verdict {
     Judge::new(tables, trap).verdict()
+}
+
+/// Whether a file tells a mistake of these, by more than how far contents are followed.
+pub fn tells(tables: &Tables, verdict: &Verdict, trap: Trap) -> bool {
+    verdict_with(tables, Some(trap)).without_far() != verdict.without_far()
 }
 
 /// The pairs of the items before the one that fails, or of all.
@@ -237,12 +251,12 @@ impl<'t> Judge<'t> {
         for item in self.items() {
             match item {
                 Item::Step { control_state, number, transition } => {
-                    if let Some(contents) = self.leaving(control_state, transition) {
-                        return Verdict::Leaves { control_state, transition: number, contents };
+                    if let Some(Found { contents, far, .. }) = self.leaving(control_state, transition) {
+                        return Verdict::Leaves { control_state, transition: number, contents, far };
                     }
                 }
                 Item::Bad { entry } => {
-                    if let Some(contents) = self.bad(entry) {
+                    if let Some(Found { contents, .. }) = self.bad(entry) {
                         return Verdict::Bad { entry, contents };
                     }
                 }
@@ -251,7 +265,7 @@ impl<'t> Judge<'t> {
         Verdict::Closed { pairs: self.pairs as u64 }
     }
 
-    fn leaving(&mut self, control_state: usize, transition: &'t Transition) -> Option<Vec<u8>> {
+    fn leaving(&mut self, control_state: usize, transition: &'t Transition) -> Option<Found> {
         let source = self.root(control_state)?;
         let weight = self.weight(usize::from(transition.machine));
         let next = control_state + usize::from(transition.to) * weight - usize::from(transition.from) * weight;
@@ -276,7 +290,7 @@ impl<'t> Judge<'t> {
         self.search(&search, Node { after: kind == Kind::Local, source, target, queue: 0 })
     }
 
-    fn bad(&mut self, entry: usize) -> Option<Vec<u8>> {
+    fn bad(&mut self, entry: usize) -> Option<Found> {
         let entry = self.tables.bad[entry];
         let source = self.root(usize::from(entry.control_state))?;
         let root = usize::from(entry.root);
@@ -286,31 +300,32 @@ impl<'t> Judge<'t> {
         self.search(&search, Node { after: true, source, target, queue: 0 })
     }
 
-    /// Breadth first, each node with the word that found it. The first failing node's contents, or none.
-    fn search(&mut self, search: &Search, root: Node) -> Option<Vec<u8>> {
+    /// Breadth first, each node with the word that found it. The first failing node, or none.
+    fn search(&mut self, search: &Search, root: Node) -> Option<Found> {
         let mut known: HashSet<Node> = HashSet::from([self.key(root)]);
-        let mut found: Vec<(Node, Vec<u8>)> = vec![(root, vec![])];
+        let mut found = vec![Found { node: root, contents: vec![], far: 0 }];
         let mut next = 0;
         while next < found.len() {
-            let (node, word) = found[next].clone();
+            let Found { node, contents, far } = found[next].clone();
             if node.after && self.fails(search, node) {
-                return Some(word);
+                return Some(Found { node, contents, far });
             }
-            for (child, more) in self.children(search, node) {
-                if known.insert(self.key(child)) {
-                    found.push((child, [&word[..], &more[..]].concat()));
+            for child in self.children(search, node) {
+                if known.insert(self.key(child.node)) {
+                    let contents = [&contents[..], &child.contents].concat();
+                    found.push(Found { node: child.node, contents, far: far + child.far });
                 }
             }
             next += 1;
         }
-        let pairs: HashSet<Node> = found.iter().map(|&(node, _)| Node { queue: 0, ..node }).collect();
+        let pairs: HashSet<Node> = found.iter().map(|found| Node { queue: 0, ..found.node }).collect();
         self.pairs += pairs.len();
         if self.is(Trap::RootsUncounted) && !search.is_bad {
             self.pairs -= 1;
         }
         if self.is(Trap::CountedOnceInAll) {
-            self.pairs -= found.iter().filter(|(node, _)| self.counted.contains(node)).count();
-            self.counted.extend(found.iter().map(|&(node, _)| node));
+            self.pairs -= found.iter().filter(|found| self.counted.contains(&found.node)).count();
+            self.counted.extend(found.iter().map(|found| found.node));
         }
         None
     }
@@ -327,22 +342,24 @@ impl<'t> Judge<'t> {
         self.tables.finals[node.source] && accepted == search.is_bad
     }
 
-    /// The nodes one letter further, with what the letter adds to the contents shown.
-    fn children(&self, search: &Search, node: Node) -> Vec<(Node, Vec<u8>)> {
+    /// The nodes one letter further, with what the letter adds to the contents shown and to what the target takes.
+    fn children(&self, search: &Search, node: Node) -> Vec<Found> {
         let messages = if node.after { search.after.clone() } else { search.before.clone() };
-        let mut children: Vec<(Node, Vec<u8>)> = messages
+        let mut children: Vec<Found> = messages
             .filter_map(|message| {
                 let letter = vec![message as u8];
                 let source = follow(self.tables, Some(node.source), &letter)?;
                 let target = follow(self.tables, node.target, &letter);
                 let queue = if self.is(Trap::WordsInOrderOnly) { self.tables.queue_of(letter[0]) } else { 0 };
-                (queue >= node.queue).then_some((Node { source, target, queue, ..node }, letter))
+                let far = usize::from(target.is_some());
+                let child = Found { node: Node { source, target, queue, ..node }, contents: letter, far };
+                (queue >= node.queue).then_some(child)
             })
             .collect();
         if !node.after {
             children.extend(self.across(search, node));
         }
-        children.retain(|(child, _)| {
+        children.retain(|Found { node: child, .. }| {
             let dropped = if search.is_bad { !self.is(Trap::BadCountsLost) } else { self.is(Trap::DropLostTarget) };
             let is_dead = self.is(Trap::DeadEndsUncounted) && !self.alive.contains(&child.source);
             (child.target.is_some() || !dropped) && !is_dead
@@ -351,20 +368,21 @@ impl<'t> Judge<'t> {
             children.reverse();
         }
         if self.is(Trap::StepFirst) {
-            children.sort_by_key(|(child, _)| child.after == node.after);
+            children.sort_by_key(|child| child.node.after == node.after);
         }
         children
     }
 
-    fn across(&self, search: &Search, node: Node) -> Option<(Node, Vec<u8>)> {
+    fn across(&self, search: &Search, node: Node) -> Option<Found> {
         let sent_by_source = search.kind == Kind::Send || self.is(Trap::ReceivePutsWord);
         if sent_by_source {
-            let target = self.read_word(Kind::Send, node.target, search.word);
+            let (target, far) = self.read_word(Kind::Send, node.target, search.word);
             let shown = if self.is(Trap::SendShownWithWord) { search.word } else { &[] };
-            return Some((Node { after: true, target, ..node }, shown.to_vec()));
+            return Some(Found { node: Node { after: true, target, ..node }, contents: shown.to_vec(), far });
         }
-        let source = self.read_word(Kind::Receive, Some(node.source), search.word)?;
-        Some((Node { after: true, source, ..node }, self.shown(search.word)))
+        let (source, _) = self.read_word(Kind::Receive, Some(node.source), search.word);
+        let node = Node { after: true, source: source?, ..node };
+        Some(Found { node, contents: self.shown(search.word), far: 0 })
     }
 
     fn word_of(&self, transition: &'t Transition) -> &'t [u8] {
@@ -376,9 +394,10 @@ impl<'t> Judge<'t> {
         }
     }
 
-    /// Where a word leads: the target if it is sent, the source if it is received.
-    fn read_word(&self, kind: Kind, from: Option<usize>, word: &[u8]) -> Option<usize> {
-        let mut state = from?;
+    /// Where a word leads, the target if it is sent, the source if it is received; and how many messages are taken.
+    fn read_word(&self, kind: Kind, from: Option<usize>, word: &[u8]) -> (Option<usize>, usize) {
+        let Some(mut state) = from else { return (None, 0) };
+        let mut far = 0;
         for (place, &message) in word.iter().enumerate() {
             if place >= FOUR && self.is(Trap::FourFollowed) {
                 break;
@@ -387,15 +406,16 @@ impl<'t> Judge<'t> {
                 let trap = self.trap.filter(|_| place >= FOUR);
                 match (trap, kind) {
                     (Some(Trap::LostMessagePassedOver), _) => continue,
-                    (Some(Trap::LostTargetStays), Kind::Send) => return from,
-                    (Some(Trap::LostTargetStops), Kind::Send) => return Some(state),
-                    (Some(Trap::LostSourceStops), Kind::Receive) => return Some(state),
-                    _ => return None,
+                    (Some(Trap::LostTargetStays), Kind::Send) => return (from, far),
+                    (Some(Trap::LostTargetStops), Kind::Send) => return (Some(state), far),
+                    (Some(Trap::LostSourceStops), Kind::Receive) => return (Some(state), far),
+                    _ => return (None, far),
                 }
             };
             state = next;
+            far += 1;
         }
-        Some(state)
+        (Some(state), far)
     }
 
     /// What the contents shown have of a received word, where it is crossed.

@@ -51,7 +51,10 @@ pub fn check_tables(tables: &Tables, scratch: &mut Scratch) -> Verdict {
             let Some(item) = Item::step(tables, control_state, step) else { continue };
             match item.walk(scratch) {
                 Outcome::Holds { pairs: visited } => pairs += visited as u64,
-                Outcome::Fails { contents } => return Verdict::Leaves { control_state, transition, contents },
+                Outcome::Fails { contents } => {
+                    let far = item.far_after(&contents);
+                    return Verdict::Leaves { control_state, transition, contents, far };
+                }
             }
         }
     }
@@ -252,6 +255,29 @@ impl<'t> Item<'t> {
         }
         backwards.reverse();
         backwards
+    }
+
+    /// How far the target follows the contents after the step, which are u w v for a send and u v for a receive.
+    fn far_after(&self, contents: &[u8]) -> usize {
+        let mut state = self.root % STRIDE;
+        if state == NOWHERE {
+            return 0;
+        }
+        let u = contents.iter().take_while(|&&message| usize::from(message) < self.before.end).count();
+        let (sent, received): (&[u8], _) = match self.kind {
+            Kind::Local => (&[], 0),
+            Kind::Send => (self.word, 0),
+            Kind::Receive => (&[], self.word.len()),
+        };
+        let mut taken = 0;
+        for part in [&contents[..u], sent, &contents[u + received..]] {
+            for &message in part {
+                let Some(next) = self.arc(state, usize::from(message)) else { return taken };
+                state = next;
+                taken += 1;
+            }
+        }
+        taken
     }
 
     /// The lowest message that leads from a node to another, or none where the step does.

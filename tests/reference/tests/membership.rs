@@ -12,9 +12,9 @@ fn answer(file: &str, control_state: usize, contents: &[u8]) -> String {
 
 #[test]
 fn in_s() {
-    assert_eq!(answer(S, 0, &[]), "yes");
-    assert_eq!(answer(S, 0, &[0, 1]), "yes");
-    assert_eq!(answer(S, 0, &[0, 0, 1, 1]), "yes");
+    assert_eq!(answer(S, 0, &[]), "yes 0");
+    assert_eq!(answer(S, 0, &[0, 1]), "yes 2");
+    assert_eq!(answer(S, 0, &[0, 0, 1, 1]), "yes 4");
     assert_eq!(answer(S, 0, &[1, 0]), "refused 13 at 1");
     assert_eq!(answer(S, 0, &[0, 2]), "refused 12 at 1");
     assert_eq!(answer(S, 1, &[1, 0]), "refused 11 at 0");
@@ -24,11 +24,11 @@ fn in_s() {
 fn refusals_do_not_end_with_the_walk() {
     // Two queues of one message; the only state has no arcs, and control state 1 no root.
     let file = "01 02 00  02 01 01  00  01 01 00  01 00  00";
-    assert_eq!(answer(file, 0, &[]), "yes");
-    assert_eq!(answer(file, 0, &[0]), "no");
+    assert_eq!(answer(file, 0, &[]), "yes 0");
+    assert_eq!(answer(file, 0, &[0]), "no 0");
     assert_eq!(answer(file, 0, &[0, 0, 0, 2]), "refused 12 at 3");
     assert_eq!(answer(file, 0, &[1, 1, 0]), "refused 13 at 2");
-    assert_eq!(answer(file, 1, &[]), "no");
+    assert_eq!(answer(file, 1, &[]), "no 0");
     assert_eq!(answer(file, 1, &[2]), "refused 12 at 0");
     assert_eq!(answer(file, 1, &[1, 0, 2]), "refused 13 at 1");
     assert_eq!(answer(file, 2, &[2]), "refused 11 at 0");
@@ -37,15 +37,42 @@ fn refusals_do_not_end_with_the_walk() {
 #[test]
 fn the_file_comes_first() {
     assert_eq!(answer(&R[..R.len() - 3], 9, &[9]), "refused 3 at 28");
-    assert_eq!(answer(R, 0, &[0, 0]), "yes");
+    assert_eq!(answer(R, 0, &[0, 0]), "yes 2");
     assert_eq!(answer(R, 0, &[1]), "refused 12 at 0");
+}
+
+#[test]
+fn how_far_contents_are_followed() {
+    // Two queues of the messages 0 1 and 2. Control state 0 holds 0 0 2, control state 1 has no root, and what begins with 0 in
+    // control state 2 is read and never belongs.
+    let file =
+        "01 03 00  02 02 01  00  06 00 01 00 01 00 01 00 02 00 01 02 03 01 00 00 01 00 05 00 01 00 05  01 00 05  00";
+    assert_eq!(answer(file, 0, &[0, 0, 2]), "yes 3");
+    // Read to their end.
+    assert_eq!(answer(file, 0, &[]), "no 0");
+    assert_eq!(answer(file, 0, &[0]), "no 1");
+    assert_eq!(answer(file, 0, &[0, 0]), "no 2");
+    assert_eq!(answer(file, 2, &[0, 0, 0]), "no 3");
+    // Lost at the first message, on the way, at the last message, and behind all that is read.
+    assert_eq!(answer(file, 0, &[1, 0, 2]), "no 0");
+    assert_eq!(answer(file, 0, &[0, 1, 2]), "no 1");
+    assert_eq!(answer(file, 0, &[0, 2, 2]), "no 1");
+    assert_eq!(answer(file, 0, &[0, 0, 1]), "no 2");
+    assert_eq!(answer(file, 0, &[0, 0, 2, 2]), "no 3");
+    assert_eq!(answer(file, 2, &[0, 0, 2]), "no 2");
+    // No root.
+    assert_eq!(answer(file, 1, &[]), "no 0");
+    assert_eq!(answer(file, 1, &[0, 0, 2]), "no 0");
+    let many = |lost: &[u8]| answer(file, 2, &[&[0; 40_000][..], lost].concat());
+    assert_eq!(many(&[]), "no 40000");
+    assert_eq!(many(&[1, 0]), "no 40000");
 }
 
 #[test]
 fn contents_are_in_order_whatever_the_arcs() {
     // Root 0 accepts nothing and 1; behind it 0 leads to a dead end.
     let file = |is_final: &str| format!("01 01 00  02 01 01  00  03 01 01 01 01 01 01 00 02 {is_final} 00  01  00");
-    assert_eq!(answer(&file("00"), 0, &[1]), "yes");
+    assert_eq!(answer(&file("00"), 0, &[1]), "yes 1");
     assert_eq!(answer(&file("00"), 0, &[1, 0]), "refused 13 at 1");
     assert_eq!(answer(&file("00"), 1, &[1, 0]), "refused 11 at 0");
     assert_eq!(answer(&file("01"), 1, &[1, 0]), "refused 9 at 20");

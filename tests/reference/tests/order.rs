@@ -68,9 +68,9 @@ fn harmless_parts_are_where_they_were_made() {
 }
 
 #[test]
-fn harmless_parts_change_no_verdict_but_pairs() {
+fn harmless_parts_change_no_verdict_but_pairs_and_how_far() {
     let mut plans = Plans::new(22);
-    let mut more_pairs = 0;
+    let (mut more_pairs, mut farther) = (0, 0);
     for _ in 0..3_000 {
         let mut plan = plans.small();
         let (_, before) = plans.judge(&plan);
@@ -81,10 +81,16 @@ fn harmless_parts_change_no_verdict_but_pairs() {
                 assert!(fewer <= pairs);
                 more_pairs += usize::from(fewer < pairs);
             }
+            // Into a dead end contents are followed farther.
+            (Verdict::Leaves { far: less, .. }, Verdict::Leaves { far, .. }) => {
+                assert_eq!(before.without_far(), after.without_far());
+                assert!(less <= far);
+                farther += usize::from(less < far);
+            }
             _ => assert_eq!(before, after),
         }
     }
-    assert!(more_pairs > 100, "{more_pairs}");
+    assert!(more_pairs > 100 && farther > 10, "{more_pairs}, {farther}");
 }
 
 #[test]

@@ -110,12 +110,12 @@ fn empty_words_move_machines() {
 
 #[test]
 fn outside_the_map() {
-    assert_replay(AT_MOST_TWO, &[0, 0, 0, 1], "outside 3", &[0], &[&[0, 0, 0]]);
-    assert_replay(AT_MOST_TWO, &[0, 0, 1, 0, 0, 0], "outside 5", &[0], &[&[0, 0, 0]]);
+    assert_replay(AT_MOST_TWO, &[0, 0, 0, 1], "outside 3 2", &[0], &[&[0, 0, 0]]);
+    assert_replay(AT_MOST_TWO, &[0, 0, 1, 0, 0, 0], "outside 5 2", &[0], &[&[0, 0, 0]]);
     // Before the end, and before the next number is read.
-    assert_replay(AT_MOST_TWO, &[0, 0, 0], "outside 3", &[0], &[&[0, 0, 0]]);
+    assert_replay(AT_MOST_TWO, &[0, 0, 0], "outside 3 2", &[0], &[&[0, 0, 0]]);
     for next in [&[128][..], &[128, 0], &[255, 255], &[2], &[0]] {
-        assert_replay(AT_MOST_TWO, &[&[0, 0, 0], next].concat(), "outside 3", &[0], &[&[0, 0, 0]]);
+        assert_replay(AT_MOST_TWO, &[&[0, 0, 0], next].concat(), "outside 3 2", &[0], &[&[0, 0, 0]]);
     }
 }
 
@@ -126,7 +126,7 @@ fn outside_at_the_start() {
     let rootless = "02 01 01 00 00 01 01 02 00 00 00 01 00 01 00 01 00 00 02 00 01 00 01 01 01 00 00 00 00";
     for file in [not_final, rootless] {
         for trace in [&[][..], &[0], &[9], &[128], &[128, 0]] {
-            assert_replay(file, trace, "outside 0", &[0, 0], &[&[]]);
+            assert_replay(file, trace, "outside 0 0", &[0, 0], &[&[]]);
         }
     }
 }
@@ -136,10 +136,10 @@ fn the_control_state_is_asked() {
     // Machines of two and three states. Only control state 5, which is (1, 2), and the start have a root.
     let file = "02 02 03 00 00  01 01  03  00 00 01 00  01 00 01 00  01 01 02 00  01 01 00";
     let reply_with = |roots: &str, trace: &[u8]| reply(&format!("{file}  {roots}  00"), trace);
-    assert_eq!(reply_with("01 00 00 00 00 01", &[0]), "outside 1");
+    assert_eq!(reply_with("01 00 00 00 00 01", &[0]), "outside 1 0");
     assert_eq!(reply_with("01 01 01 00 00 01", &[1, 2, 0]), "end 3");
-    assert_eq!(reply_with("01 01 01 00 01 00", &[1, 2, 0]), "outside 3");
-    assert_eq!(reply_with("01 01 00 01 00 01", &[1, 2, 0]), "outside 2");
+    assert_eq!(reply_with("01 01 01 00 01 00", &[1, 2, 0]), "outside 3 0");
+    assert_eq!(reply_with("01 01 00 01 00 01", &[1, 2, 0]), "outside 2 0");
 }
 
 #[test]
@@ -148,11 +148,40 @@ fn queues_are_followed_in_their_order() {
     let file = "01 01 00  02 01 01  02  00 00 00 01 00 01 00  00 00 00 01 01 01 01";
     let with_pool = |pool: &str, trace: &[u8]| reply(&format!("{file}  {pool}  01  00"), trace);
     let both_or_none = "03 01 01 00 01  00 01 01 02  01 00";
-    assert_eq!(with_pool(both_or_none, &[0]), "outside 1");
+    assert_eq!(with_pool(both_or_none, &[0]), "outside 1 1");
     let all_final = "03 01 02 00 01 01 02  01 01 01 02  01 00";
     assert_eq!(with_pool(all_final, &[1, 0]), "end 2");
     assert_eq!(with_pool(all_final, &[0, 1]), "end 2");
-    assert_eq!(with_pool(all_final, &[0, 1, 1]), "outside 3");
+    assert_eq!(with_pool(all_final, &[0, 1, 1]), "outside 3 2");
+}
+
+#[test]
+fn how_far_the_contents_outside_are_followed() {
+    // Two queues of the messages 0 and 1. 0 sends sixteen 0s, 1 sends 1, 2 receives 0, 3 leads to control state 1, 4 to control
+    // state 2, 5 to control state 3, 6 to control state 4.
+    let file = "01 05 00  02 01 01  07
+        00 00 00 01 00 10 00 00 00 00 00 00 00 00 00 00 00 00 00 00 00 00  00 00 00 01 01 01 01  00 00 00 02 00 01 00
+        00 00 01 00  00 00 02 00  00 00 03 00  00 00 04 00";
+    // Control state 0 holds everything, 1 has no root, 2 reads everything and accepts nothing, 3 reads the 0s alone and
+    // accepts them, 4 reads nothing.
+    let map = "06 01 02 00 00 01 01 01 01 01 01 00 02 00 02 01 03 00 01 01 03 01 01 00 04 01 00  01 00 03 05 06  00";
+    let outside = |trace: &[u8]| reply(&format!("{file}  {map}"), trace);
+    assert_eq!(outside(&[0, 1, 3]), "outside 3 0");
+    assert_eq!(outside(&[4]), "outside 1 0");
+    assert_eq!(outside(&[0, 1, 1, 4]), "outside 4 18");
+    assert_eq!(outside(&[0, 2, 1, 1, 4]), "outside 5 17");
+    assert_eq!(outside(&[0, 1, 5, 9]), "outside 3 16");
+    assert_eq!(outside(&[1, 1, 5]), "outside 3 0");
+    assert_eq!(outside(&[0, 1, 6]), "outside 3 0");
+    assert_eq!(outside(&[6]), "end 1");
+    // Full queues, and one that lies across the end of its room.
+    let full = [&[0; 64][..], &[1; 1_024]].concat();
+    assert_eq!(outside(&[&full[..], &[4]].concat()), "outside 1089 2048");
+    assert_eq!(outside(&[&full[..], &[5]].concat()), "outside 1089 1024");
+    assert_eq!(outside(&[&full[..], &[3]].concat()), "outside 1089 0");
+    let across = [&[0; 64][..], &[2; 20], &[0, 1]].concat();
+    assert_eq!(outside(&[&across[..], &[4]].concat()), "outside 87 1021");
+    assert_eq!(outside(&[&across[..], &[5]].concat()), "outside 87 1020");
 }
 
 #[test]

@@ -77,7 +77,7 @@ fn pairs_go_by_words_in_any_order() {
     assert_line("send of nothing to queue 0", &to("00 00 00 01 00 00"), "closed 3");
     assert_line("receive of nothing from queue 0", &to("00 00 00 02 00 00"), "closed 4");
     assert_line("receive from queue 1", &to("00 00 00 02 01 01 01"), "closed 2");
-    assert_line("send to queue 1", &to("00 00 00 01 01 01 01"), "leaves 0 0 1: 1");
+    assert_line("send to queue 1", &to("00 00 00 01 01 01 01"), "leaves 0 0 1 1: 1");
 }
 
 #[test]
@@ -95,19 +95,19 @@ fn bad_entries() {
 fn lowest_contents_are_shown() {
     // Control state 1 holds 0 (queue 0) or 1 (queue 1); control state 2 has no root.
     let competing = "01 03 00  02 01 01  01 00 01 02 01 00 00  02 00 02 00 01 01 01 01 00  02 01 00  00";
-    assert_line("send of nothing", &hex(competing), "leaves 1 0 1: 0");
+    assert_line("send of nothing", &hex(competing), "leaves 1 0 1 0: 0");
 }
 
 #[test]
 fn contents_of_a_receive_have_its_word() {
-    assert_line("receive", &hex(RECEIVE_BEHIND_ANOTHER_QUEUE), "leaves 1 0 2: 0 1");
+    assert_line("receive", &hex(RECEIVE_BEHIND_ANOTHER_QUEUE), "leaves 1 0 2 0: 0 1");
 }
 
 #[test]
 fn machine_0_is_most_significant() {
     // Machines of 2 and 3 states; only control states 0 and 5 have a root.
     let file = "02 02 03 00 00  01 01  01 00 01 00 00  01 01 00  01 00 00 00 00 01  00";
-    assert_line("control state 5", &hex(file), "leaves 5 0 0:");
+    assert_line("control state 5", &hex(file), "leaves 5 0 0 0:");
 }
 
 #[test]
@@ -115,7 +115,7 @@ fn words_that_lead_alike_may_fare_differently() {
     // 0 3 and 1 0 lead from each state to the same one, but what is sent to queue 0 goes before the 3 and behind the 0.
     let file = "02 02 01 00 00  03 02 01 01  02 00 00 01 01 00 01 00 00 01 00 01 01 01 02 \
                 03 01 01 03 00 01 03 00 00 01 01 03 00 01 04 00 02 01 01 02 00 03 00  03 03  03 01 00 01 01 00 02";
-    assert_line("alike", &hex(file), "leaves 0 0 2: 1 0");
+    assert_line("alike", &hex(file), "leaves 0 0 2 2: 1 0");
 }
 
 /// A word of queue 1, whose messages are 1 and 2. It begins with 1.
@@ -163,11 +163,11 @@ fn with_word(before: &[u8], after: &[u8]) -> Vec<u8> {
 fn a_received_word_of_sixteen_is_shown_inside_contents() {
     let before = with_word(&[0, 0], &[2, 3]);
     // Control state 2 holds 0 2 3, but the step leaves 0 0 2 3.
-    let shown = "leaves 1 0 20: 0 0 1 2 2 1 1 1 2 1 2 2 2 1 1 2 1 2 2 3";
-    assert_line("lost behind the word", &step_between(2, &before, &[0, 2, 3], None), shown);
+    let shown = |far: usize| format!("leaves 1 0 20 {far}: 0 0 1 2 2 1 1 1 2 1 2 2 2 1 1 2 1 2 2 3");
+    assert_line("lost before the word", &step_between(2, &before, &[0, 2, 3], None), &shown(1));
     // The end of the queue is not final.
-    assert_line("not final", &step_between(2, &before, &[0, 0, 2, 3, 3], None), shown);
-    let alone = "leaves 1 0 16: 1 2 2 1 1 1 2 1 2 2 2 1 1 2 1 2";
+    assert_line("not final", &step_between(2, &before, &[0, 0, 2, 3, 3], None), &shown(4));
+    let alone = "leaves 1 0 16 0: 1 2 2 1 1 1 2 1 2 2 2 1 1 2 1 2";
     assert_line("the word alone", &step_between(2, &WORD, &[3], None), alone);
 }
 
@@ -184,7 +184,7 @@ fn steps_of_sixteen_messages_count_pairs() {
 fn a_word_is_lost_at_any_place() {
     for place in 0..16 {
         let lost = step_between(1, &[0, 2, 3], &with_word(&[0, 2], &[3]), Some(2 + place));
-        assert_line(&format!("target lost at {place}"), &lost, "leaves 1 0 3: 0 2 3");
+        assert_line(&format!("target lost at {place}"), &lost, &format!("leaves 1 0 3 {}: 0 2 3", 2 + place));
         // The pairs are at the roots and after 0; nothing can be received.
         let stuck = step_between(2, &with_word(&[0], &[2, 3]), &[0, 2, 3], Some(1 + place));
         assert_line(&format!("source lost at {place}"), &stuck, "closed 2");
@@ -207,11 +207,13 @@ fn seventeen_messages_are_refused_at_their_length() {
 
 #[test]
 fn long_contents() {
-    let lengths = [(large::long_local_leaves(), 4_031), (large::long_send_leaves(), 1_983)];
-    for (plan, expected) in lengths {
+    let lengths = [(large::long_local_leaves(), 4_031, 4_031), (large::long_send_leaves(), 1_983, 1_984)];
+    for (plan, expected, expected_far) in lengths {
         let reply = check(&plan.bytes(), &mut Scratch::default());
-        let Ok(Verdict::Leaves { control_state: 1, transition: 0, contents }) = &reply else { panic!("{reply:?}") };
-        assert_eq!(contents.len(), expected);
+        let Ok(Verdict::Leaves { control_state: 1, transition: 0, contents, far }) = &reply else {
+            panic!("{reply:?}")
+        };
+        assert_eq!((contents.len(), *far), (expected, expected_far));
         let tables = read(&plan.bytes()).expect("the plan is valid");
         assert!(confirm(&tables, reply.as_ref().expect("it leaves"), 3));
     }
@@ -241,7 +243,7 @@ fn words_are_followed_from_many_pairs() {
 
 #[test]
 fn the_last_items_of_all() {
-    assert_line("last step", &large::last_step_leaves().bytes(), "leaves 255 127 0:");
+    assert_line("last step", &large::last_step_leaves().bytes(), "leaves 255 127 0 0:");
     assert_line("last entry", &large::last_entry_is_bad().bytes(), "bad 63 2: 0 0");
 }
 
@@ -274,10 +276,16 @@ fn all_ways_agree_on_random_files() {
 fn confirming_can_fail() {
     let case = |name: &str| cases().into_iter().find(|case| case.name == name).expect("a lettered case");
     let tables = read(&case("c").bytes).expect("case c is read");
-    let leaves = |contents: &[u8]| Verdict::Leaves { control_state: 0, transition: 0, contents: contents.to_vec() };
-    assert!(confirm(&tables, &leaves(&[0]), 3));
-    assert!(!confirm(&tables, &leaves(&[]), 3));
-    assert!(!confirm(&tables, &leaves(&[0, 0, 0, 0]), 3));
+    let leaves =
+        |contents: &[u8], far| Verdict::Leaves { control_state: 0, transition: 0, contents: contents.to_vec(), far };
+    assert!(confirm(&tables, &leaves(&[0], 1), 3));
+    assert!(!confirm(&tables, &leaves(&[0], 0), 3));
+    assert!(!confirm(&tables, &leaves(&[0], 2), 3));
+    assert!(!confirm(&tables, &leaves(&[], 0), 3));
+    assert!(!confirm(&tables, &leaves(&[0, 0, 0, 0], 1), 3));
+    // Contents that are longer than the words looked at.
+    assert!(confirm(&tables, &leaves(&[0], 1), 0));
+    assert!(!confirm(&tables, &leaves(&[0], 2), 0));
     assert!(!confirm(&tables, &Verdict::Closed { pairs: 4 }, 3));
     assert!(!confirm(&tables, &Verdict::Outside, 3));
 }
@@ -319,7 +327,7 @@ fn traps_of_long_words_change_lines() {
         let pool = "07 01 00 01 01 00 02 01 01 00 03 01 01 00 04 01 01 00 05 01 01 00 06 01 00";
         hex(&format!("01 03 00  01 02  01 00 01 02 01 00 06 {word}  {pool}  01 01 02  00"))
     };
-    assert_line("lost at the fifth message", &lost("00 00 00 00 01 00"), "leaves 1 0 0:");
+    assert_line("lost at the fifth message", &lost("00 00 00 00 01 00"), "leaves 1 0 0 4:");
     for trap in [Trap::LostTargetStays, Trap::LostTargetStops, Trap::LostMessagePassedOver] {
         assert!(changes(&lost("00 00 00 00 01 00"), trap), "{trap:?}");
         assert!(!changes(&lost("00 00 00 01 00 00"), trap), "{trap:?} of a short beginning");
@@ -334,7 +342,12 @@ fn generated_files_hit_everything() {
     // Without the files made for long words and those out of order their features are missed.
     cases.retain(|case| case.kind != "long words" && case.kind != "out of order");
     let complaints = verdict_coverage(&cases).complaints.join("\n");
+    cases.retain(|case| !case.kind.starts_with("lost"));
+    let complaints = complaints + &verdict_coverage(&cases).complaints.join("\n");
     for missed in [
+        "leaves, lost after 1,000 or more",
+        "leaves, send, lost inside the sent word, after 100 or more",
+        "FifteenSent",
         "bad, receive of 11",
         "leaves, send of a full word that is lost at 09",
         "FifteenTaken",

@@ -33,8 +33,8 @@ pub fn cases() -> Vec<Worked> {
     let worked = |name, bytes, line| Worked { name, bytes, line };
     vec![
         worked("a", r.clone(), "closed 4"),
-        worked("b", r_with_pool("01 01 00"), "leaves 0 0 0:"),
-        worked("c", r_with_pool("02 01 01 00 01 01 00"), "leaves 0 0 1: 0"),
+        worked("b", r_with_pool("01 01 00"), "leaves 0 0 0 0:"),
+        worked("c", r_with_pool("02 01 01 00 01 01 00"), "leaves 0 0 1 1: 0"),
         worked("d", r_with_pool("01 00 01 00 00"), "outside"),
         worked("e", [r_before_last, &[1, 0, 0]].concat(), "bad 0 0:"),
         worked("f", s_with(S_TRANSITION, S_POOL), "closed 3"),
@@ -62,7 +62,7 @@ pub fn samples() -> Vec<Worked> {
         worked(
             "logon-burst-leaves",
             include_str!("../../samples/logon-burst-leaves.hex"),
-            "leaves 3 1 11: 0 1 2 3 4 5 6 7 8 9 10",
+            "leaves 3 1 11 11: 0 1 2 3 4 5 6 7 8 9 10",
         ),
     ]
 }

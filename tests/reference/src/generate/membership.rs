@@ -1,13 +1,19 @@
 //! Questions of membership: every refusal, yes and no, and no for every reason.
 
+use std::ops::Range;
+
 use super::disorder::{add_some_harmless, alive, Harmless};
 use super::document;
 use super::plan::{random_plan, Plan, Shape};
 use super::reading::{reading_cases, Expected, Generator};
 use super::row_9::refused_about_order;
+use super::verdicts::{contents_after, Plans};
+use crate::membership::Member;
 use crate::random::Random;
 use crate::read::Refusal;
 use crate::stream::Question;
+use crate::verdict::Verdict;
+use crate::walk::control_state_after;
 
 /// What a question was made for.
 #[derive(Clone, Copy, Debug, PartialEq, Eq)]
@@ -33,7 +39,10 @@ pub enum Purpose {
     /// Refused by 9, or by what comes before it in a file that is out of order, whatever is asked.
     WordOutOfOrder(Refusal),
     RefusedFile,
+    /// Contents that belong and are long.
     Long,
+    /// Contents that are followed so far.
+    Far(usize),
 }
 
 /// What questions about files that are out of order can be.
@@ -48,11 +57,11 @@ pub const ABOUT_ORDER: [&str; 6] = [
 
 impl Purpose {
     /// Which of these a question is, by its reply.
-    pub fn about_order(self, reply: &Result<bool, Refusal>) -> Option<&'static str> {
+    pub fn about_order(self, reply: &Result<Member, Refusal>) -> Option<&'static str> {
         let [yes, no, dead_end, along_arcs, refused, refused_before] = ABOUT_ORDER;
         match (self, reply) {
-            (Purpose::Harmless, Ok(true)) => Some(yes),
-            (Purpose::Harmless, Ok(false)) => Some(no),
+            (Purpose::Harmless, Ok(Member { belongs: true, .. })) => Some(yes),
+            (Purpose::Harmless, Ok(_)) => Some(no),
             (Purpose::IntoDeadEnd, _) => Some(dead_end),
             (Purpose::OutOfOrderAlongArcs(_), _) => Some(along_arcs),
             (Purpose::WordOutOfOrder(Refusal { number: 9, .. }), _) => Some(refused),
@@ -76,6 +85,7 @@ pub fn questions(seed: u64) -> Vec<(Purpose, Question)> {
     }
     questions.extend(about_order(seed));
     questions.extend(refused_files(&mut random, seed));
+    questions.extend(about_far(seed));
     questions
 }
 
@@ -96,6 +106,115 @@ fn about_order(seed: u64) -> Vec<(Purpose, Question)> {
         questions.push((Purpose::WordOutOfOrder(refusal), Question { file, control_state: random.below(4), contents }));
     }
     questions
+}
+
+/// Contents that are lost at every place, and those of hundreds and thousands of messages.
+fn about_far(seed: u64) -> Vec<(Purpose, Question)> {
+    let mut random = Random::new(seed + 11);
+    let mut plans = Plans::new(seed + 11);
+    let mut questions = vec![];
+    for round in 0..240 {
+        let plan = random_plan(&mut random, &Shape::SMALL);
+        // Half of them have all the queues that such plans can have.
+        if round % 2 == 0 || plan.queues.len() == Shape::SMALL.queues {
+            questions.extend(lost_on_the_way(&mut random, &plan));
+        }
+        if round % 3 == 0 {
+            questions.extend(first_message(&mut random, &plan));
+        }
+    }
+    for _ in 0..50 {
+        let plan = plans.losing();
+        questions.extend(as_questions(&plan, &mut plans));
+    }
+    let lengths = [(0..30, 10..50), (0..12, 100..140), (0..7, 256..330), (0..4, 1_000..1_200)];
+    for (rounds, messages) in lengths {
+        for _ in rounds {
+            questions.extend(of_loops(&mut random, messages.clone()));
+        }
+    }
+    questions.extend((0..6).map(|_| lost_soon(&mut random)));
+    questions
+}
+
+/// One message that a root has an arc for, to a state that is not final if there is one.
+fn first_message(random: &mut Random, plan: &Plan) -> Option<(Purpose, Question)> {
+    let control_state = random.below(plan.roots.len());
+    let arcs = &plan.pool[plan.roots[control_state]?].arcs;
+    let to_final = |is_final| {
+        let led = arcs.iter().filter(move |(_, &target)| plan.pool[target].is_final == is_final);
+        led.map(|(&message, _)| message).collect::<Vec<usize>>()
+    };
+    let message = random.pick(&to_final(false)).copied().or_else(|| random.pick(&to_final(true)).copied())?;
+    Some((Purpose::Far(1), about(plan, control_state, &[message])))
+}
+
+/// Contents along arcs in order, then a message without an arc, then any.
+fn lost_on_the_way(random: &mut Random, plan: &Plan) -> Option<(Purpose, Question)> {
+    let mut question = along(random, plan, |last, queue| last <= queue)?;
+    let taken = question.contents.len();
+    let step = |state: usize, &message: &u8| plan.pool[state].arcs[&usize::from(message)];
+    let state = question.contents.iter().fold(plan.roots[question.control_state]?, step);
+    let queue = question.contents.last().map_or(0, |&message| plan.queue_of(message.into()));
+    let without_arc: Vec<usize> = (plan.messages_of(queue).start..plan.message_sum())
+        .filter(|message| !plan.pool[state].arcs.contains_key(message))
+        .collect();
+    let of_later: Vec<usize> = without_arc.iter().copied().filter(|&message| plan.queue_of(message) > queue).collect();
+    let lost = *random.pick(&of_later).filter(|_| random.chance(50)).or_else(|| random.pick(&without_arc))?;
+    let least = plan.messages_of(plan.queue_of(lost)).start;
+    let mut rest: Vec<usize> = (0..random.below(4)).map(|_| random.between(least, plan.message_sum() - 1)).collect();
+    rest.sort_by_key(|&message| plan.queue_of(message));
+    question.contents.extend([lost].iter().chain(&rest).map(|&message| message as u8));
+    Some((Purpose::Far(taken), question))
+}
+
+/// What a *leaves* shows, asked: the contents before the step belong, those after it do not.
+fn as_questions(plan: &Plan, plans: &mut Plans) -> Vec<(Purpose, Question)> {
+    let (tables, verdict) = plans.judge(plan);
+    let Verdict::Leaves { control_state, transition, contents, far } = verdict else { return vec![] };
+    let led_to = control_state_after(&tables, control_state, &tables.transitions[transition]);
+    let after = contents_after(plan, transition, &contents);
+    let question = |control_state, contents| Question { file: plan.bytes(), control_state, contents };
+    let before = (Purpose::Long, question(control_state, contents));
+    let outside = led_to.map(|led_to| (Purpose::Far(far), question(led_to, after)));
+    [Some(before), outside].into_iter().flatten().collect()
+}
+
+/// Three queues of the messages 0 1, 2 3 and 4. Any 0s belong, and so they do with some 4s behind them or with some 2s and
+/// then some 4s. The messages 1 and 3 are read nowhere.
+const LOOPS: &str = "01 01 00  03 02 02 01  00  03 01 03 00 00 02 01 04 02 00 02 02 01 04 02 01 01 04 02  01  00";
+
+/// So many of the same message, one after the other.
+fn about_loops(runs: &[(u8, usize)]) -> Question {
+    let contents = runs.iter().flat_map(|&(message, count)| vec![message; count]).collect();
+    Question { file: document::hex(LOOPS), control_state: 0, contents }
+}
+
+/// Contents that belong, that are read to their end and do not belong, and that are lost: so many of them are taken.
+fn of_loops(random: &mut Random, messages: Range<usize>) -> [(Purpose, Question); 3] {
+    let mut parts = || {
+        let all = random.between(messages.start, messages.end - 1);
+        let zeros = random.below(all - 1);
+        let twos = random.between(1, all - zeros - 1);
+        (all, zeros, twos)
+    };
+    let (all, zeros, twos) = parts();
+    let belongs = about_loops(&[(0, zeros), (2, twos), (4, all - zeros - twos)]);
+    let (to_its_end, zeros, _) = parts();
+    let does_not_belong = about_loops(&[(0, zeros), (2, to_its_end - zeros)]);
+    let (taken, zeros, _) = parts();
+    let more = random.below(3);
+    let lost = match random.below(2) {
+        0 => about_loops(&[(0, taken), (1, 1), (0, more), (4, more)]),
+        _ => about_loops(&[(0, zeros), (2, taken - zeros), (3, 1), (2, more), (4, more)]),
+    };
+    [(Purpose::Long, belongs), (Purpose::Far(to_its_end), does_not_belong), (Purpose::Far(taken), lost)]
+}
+
+/// Many messages, of which less than ten are taken.
+fn lost_soon(random: &mut Random) -> (Purpose, Question) {
+    let (taken, many) = (random.below(10), random.between(100, 120));
+    (Purpose::Far(taken), about_loops(&[(0, taken), (1, 1), (2, many)]))
 }
 
 /// Contents that the arcs lead along in any order: refused where they are out of it, else asked if they end in a dead end.

@@ -61,7 +61,17 @@ pub fn replay_cases(seed: u64) -> Vec<Case> {
     generator.files_out_of_order(seed);
     generator.refused_traces();
     generator.refused_memory();
+    generator.left_far();
     generator.cases
+}
+
+/// Files with traces that mostly end outside.
+pub fn random_runs(seed: u64, count: usize) -> impl Iterator<Item = (Vec<u8>, Vec<u8>)> {
+    let mut generator = Generator { random: Random::new(seed), cases: vec![] };
+    for _ in 0..count {
+        generator.left_with_few();
+    }
+    generator.cases.into_iter().map(|case| (case.replay.file, case.replay.trace))
 }
 
 pub(super) struct Generator {
@@ -97,7 +107,7 @@ impl Generator {
     }
 
     /// A walk that is ended in some way, if it can be.
-    fn add_walk(&mut self, kind: &str, file: &[u8], walk: Walk, ending: Ending) {
+    pub(super) fn add_walk(&mut self, kind: &str, file: &[u8], walk: Walk, ending: Ending) {
         let queues = walk.configuration.queues.len();
         if let Some((trace, reply)) = walk.end(&mut self.random, ending) {
             self.add_run(&format!("{kind}, {ending:?}"), file, queues, trace, Some(reply));
@@ -164,7 +174,7 @@ impl Generator {
             1 => vec![255],
             _ => (0..self.random.between(1, 8)).map(|_| self.random.byte()).collect(),
         };
-        self.add_run(kind, file, tables.queue_count, trace, Some(Reply::Outside { steps: 0 }));
+        self.add_run(kind, file, tables.queue_count, trace, Some(Reply::Outside { steps: 0, far: 0 }));
     }
 
     pub(super) fn plan_of(&mut self, style: Style) -> (Plan, Vec<u8>, Tables) {

@@ -169,6 +169,18 @@ impl<'t> Walk<'t> {
         }
     }
 
+    /// So many steps with words of two messages at most, or fewer where none of them stays inside.
+    pub fn creep(&mut self, random: &mut Random, steps: usize) {
+        for _ in 0..steps {
+            let mut numbers = self.possible();
+            numbers.retain(|&number| self.tables.transitions[number].word().len() <= 2);
+            random.shuffle(&mut numbers);
+            if !numbers.into_iter().any(|number| self.take(number)) {
+                return;
+            }
+        }
+    }
+
     /// So many steps that go up and down with a queue, or fewer where no step stays inside.
     pub fn ride(&mut self, random: &mut Random, steps: usize, waves: &mut Waves) {
         for _ in 0..steps {
@@ -212,6 +224,22 @@ impl<'t> Walk<'t> {
                 return;
             }
         }
+    }
+
+    /// Goes on until some step leads outside, so many steps at most.
+    pub fn wander_to_the_border(&mut self, random: &mut Random, steps: usize) {
+        for _ in 0..steps {
+            if !self.leaving().is_empty() || self.step(random, Wish::Anything).is_none() {
+                return;
+            }
+        }
+    }
+
+    /// The steps that lead outside.
+    fn leaving(&self) -> Vec<usize> {
+        let mut numbers = self.possible();
+        numbers.retain(|&number| self.after(number).is_ok_and(|after| !after.is_inside(self.tables)));
+        numbers
     }
 
     fn possible(&self) -> Vec<usize> {
@@ -290,9 +318,9 @@ impl<'t> Walk<'t> {
                 (encode(*random.pick(&numbers)?), refused(15, steps))
             }
             Ending::Leaves => {
-                let mut numbers = self.possible();
-                numbers.retain(|&number| self.after(number).is_ok_and(|after| !after.is_inside(self.tables)));
-                (encode(*random.pick(&numbers)?), Reply::Outside { steps: steps + 1 })
+                let number = *random.pick(&self.leaving())?;
+                let far = self.after(number).map_or(0, |after| after.far(self.tables));
+                (encode(number), Reply::Outside { steps: steps + 1, far })
             }
         };
         self.trace.extend(bytes);

@@ -4,17 +4,20 @@ use std::collections::{BTreeMap, BTreeSet};
 
 use super::disorder::add_some_harmless;
 use super::document;
+use super::far;
 use super::large;
 use super::long;
 use super::plan::{random_plan, random_transition, Direction, Plan, Shape};
 use super::reading::{reading_cases, Expected};
 use crate::decide::competitors;
 use crate::diagram::follow;
+use crate::far_features;
+use crate::far_traps::FarTrap;
 use crate::long_words;
 use crate::order_features;
 use crate::random::Random;
 use crate::read::{read, Tables, WORD_LENGTH};
-use crate::traps::{verdict_with, Trap};
+use crate::traps::{tells, Trap};
 use crate::verdict::Verdict;
 use crate::walk::{check_tables, Scratch};
 
@@ -81,6 +84,21 @@ impl Plans {
         }
     }
 
+    /// A small plan with a step that leaves, made for where the target loses the contents.
+    pub fn losing(&mut self) -> Plan {
+        far::lost(&mut self.random)
+    }
+
+    /// The same with many messages.
+    pub fn losing_many(&mut self) -> Plan {
+        match self.random.below(10) {
+            0 => far::lost_soon(&mut self.random),
+            1..=6 => far::lost_late(&mut self.random, 100..140),
+            7 | 8 => far::lost_late(&mut self.random, 256..340),
+            _ => far::lost_late(&mut self.random, 1_000..1_200),
+        }
+    }
+
     /// A plan of a shape with something to check, mended for no, some or many rounds.
     pub fn mended(&mut self, shape: &Shape) -> Plan {
         let mut plan = random_plan(&mut self.random, shape);
@@ -122,7 +140,7 @@ impl Plans {
                 let root = *plan.roots[start].get_or_insert(self.random.below(plan.pool.len()));
                 plan.pool[root].is_final = true;
             }
-            Verdict::Leaves { control_state, transition, contents } => {
+            Verdict::Leaves { control_state, transition, contents, .. } => {
                 // Growing the set may go on for ever, so after some rounds the step goes.
                 let grows = round < 30 && self.random.chance(70);
                 if !(grows && self.grow(plan, tables, *control_state, *transition, contents)) {
@@ -177,7 +195,7 @@ impl Plans {
     }
 }
 
-fn contents_after(plan: &Plan, transition: usize, contents: &[u8]) -> Vec<u8> {
+pub(crate) fn contents_after(plan: &Plan, transition: usize, contents: &[u8]) -> Vec<u8> {
     let Some(action) = &plan.transitions[transition].action else { return contents.to_vec() };
     let own = plan.messages_of(action.queue);
     let begins = contents.iter().take_while(|&&message| usize::from(message) < own.start).count();
@@ -194,6 +212,8 @@ const REFUSED_OF_EACH_ROW: usize = 130;
 const PLANS: usize = 60_000;
 const LONG_WORDED_PLANS: usize = 40_000;
 const DISORDERED_PLANS: usize = 10_000;
+const LOSING_PLANS: usize = 20_000;
+const PLANS_LOSING_MANY: usize = 10_000;
 
 /// How many files of each kind are kept.
 fn quota(kind: &str) -> usize {
@@ -233,6 +253,8 @@ pub fn verdict_cases(seed: u64) -> Vec<Case> {
             cases.push(Case { kind, bytes: plan.bytes() });
         }
     }
+    let about_far = far_cases(seed, &cases);
+    cases.extend(about_far);
     cases
 }
 
@@ -240,7 +262,7 @@ pub fn verdict_cases(seed: u64) -> Vec<Case> {
 fn kind_of(tables: &Tables, verdict: &Verdict, wanted: impl Fn(&str) -> bool) -> Option<String> {
     for trap in Trap::OF_ALL_WORDS {
         let kind = format!("tells from {trap:?}");
-        if wanted(&kind) && verdict_with(tables, Some(trap)) != *verdict {
+        if wanted(&kind) && tells(tables, verdict, trap) {
             return Some(kind);
         }
     }
@@ -280,7 +302,7 @@ impl<'t> Wanted<'t> {
         let mut good_for = (self.features)(tables, verdict);
         for &trap in self.traps {
             let name = format!("{trap:?}");
-            if self.missing.contains_key(&name) && verdict_with(tables, Some(trap)) != *verdict {
+            if self.missing.contains_key(&name) && tells(tables, verdict, trap) {
                 good_for.insert(name);
             }
         }
@@ -318,10 +340,34 @@ fn disordered_cases(seed: u64) -> Vec<Case> {
     wanted.cases("out of order", || plans.judged(Plans::disordered), DISORDERED_PLANS)
 }
 
+/// Files with a step that leaves, as long as what they show of how far contents are followed is too seldom among all.
+fn far_cases(seed: u64, others: &[Case]) -> Vec<Case> {
+    let mut plans = Plans::new(seed + 10);
+    let mut of_many = Wanted::new(far_features::asked_of_many(), far_features::of_verdict, &[]);
+    let mut asked = far_features::asked_of_verdicts();
+    asked.extend(FarTrap::of_verdicts().map(|trap| (format!("{trap:?}"), trap.asked())));
+    let mut of_all = Wanted::new(asked, far_features::of_verdict_with_told, &[]);
+    let judged = |bytes: &[u8], plans: &mut Plans| {
+        let tables = read(bytes).ok()?;
+        let verdict = check_tables(&tables, &mut plans.scratch);
+        Some((tables, verdict))
+    };
+    for (tables, verdict) in others.iter().filter_map(|case| judged(&case.bytes, &mut plans)) {
+        of_many.takes(&tables, &verdict);
+        of_all.takes(&tables, &verdict);
+    }
+    let mut cases = of_many.cases("lost late", || plans.judged(Plans::losing_many), PLANS_LOSING_MANY);
+    for (tables, verdict) in cases.iter().filter_map(|case| judged(&case.bytes, &mut plans)) {
+        of_all.takes(&tables, &verdict);
+    }
+    cases.extend(of_all.cases("lost", || plans.judged(Plans::losing), LOSING_PLANS));
+    cases
+}
+
 /// Whether other contents of the same length fail too, so that the lowest must be chosen.
 fn competes(tables: &Tables, verdict: &Verdict) -> bool {
     match verdict {
-        Verdict::Leaves { control_state, transition, contents } => {
+        Verdict::Leaves { control_state, transition, contents, .. } => {
             contents.len() <= 5 && competitors(tables, *control_state, *transition, contents.len()) > 1
         }
         _ => false,
