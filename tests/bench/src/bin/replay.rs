@@ -82,7 +82,7 @@ const MEMORY_REFUSED: usize = 13;
 impl Subject for Product {
     fn replays(&mut self, file: &[u8], trace: &[u8]) -> Reply {
         let (file, trace) = (black_box(file), black_box(trace));
-        let mut reply = [0; 3];
+        let mut reply = [0; 4];
         // SAFETY: each pointer and length are of one slice; those that are written to are borrowed by this call alone.
         let kind = unsafe {
             swarmbanner_replay(
@@ -101,7 +101,7 @@ impl Subject for Product {
         let refusal = Refusal { number: reply[0] as u8, place: reply[1] };
         match kind {
             END => Reply::End { steps: reply[0] },
-            LEFT => Reply::Outside { steps: reply[0] },
+            LEFT => Reply::Outside { steps: reply[0], far: reply[1] },
             STEP_REFUSED => Reply::StepRefused { refusal, steps: reply[2] },
             FILE_REFUSED => Reply::FileRefused(refusal),
             TRACE_REFUSED => Reply::TraceRefused(refusal),
