@@ -1,6 +1,7 @@
 -- How far messages are followed: one after the other, and word after word.
 use Prim.Native.Nat.{ℕ, suc, _+_, _<_}
 use mathlib.Core.Path.{_≡_, refl, sym, ap, _∙_}
+use mathlib.Core.Bool.{false}
 use mathlib.Core.Option.{Option, none, some}
 use mathlib.Core.List.{List, [], _∷_, _++_}
 use native.Mathlib.Omega.{arith}
@@ -11,10 +12,9 @@ use Rattle.tables.specs.Pool.{arcAt}
 use Rattle.tables.specs.Lookup.{alongArc}
 use Rattle.tables.specs.Laws.Lookup.{reached-nowhere, reached-small}
 use Rattle.model.specs.Model.{Between, message}
-use Rattle.model.specs.Diagram.{Pool, oneMore, howFar}
-use Rattle.model.specs.Laws.Basics.{none-not-some}
+use Rattle.model.specs.Diagram.{Pool, along, follow, oneMore, howFar}
+use Rattle.model.specs.Laws.Far.{far-whole, far-append, far-before}
 use Rattle.following.specs.Follow.{followArcs, farArcs, FollowsTo}
-use Rattle.following.specs.Laws.Follow.{follow-none}
 
 pub far-nothing : (arcs : List ℕ) (x : Option ℕ) → farArcs arcs x [] ≡ 0
 unfolding farArcs
@@ -35,47 +35,35 @@ module _ (arcs : List ℕ) where
   unfolding farArcs
   far-stops-arcs x m u e = ap (λ y. oneMore y (farArcs arcs y u)) e
 
-  lost-on : (x : Option ℕ) (m : ℕ) (u : List ℕ) → alongArc arcs x m ≡ none → followArcs arcs x (m ∷ u) ≡ none
-  unfolding followArcs
-  lost-on x m u e = ap (λ y. followArcs arcs y u) e ∙ follow-none arcs u
+  -- what is said of diagrams holds of the table: it is one of a pool's
+  abbrev table : Pool
+  table = record { states = 0; final = λ s. false; arc = arcAt arcs }
 
-  goes-on : (x : Option ℕ) (m : ℕ) (u : List ℕ) {s : ℕ} → alongArc arcs x m ≡ some s → followArcs arcs x (m ∷ u) ≡ followArcs arcs (some s) u
+  along-table : (x : Option ℕ) (m : ℕ) → alongArc arcs x m ≡ along table x m
+  along-table none m = refl
+  along-table (some s) m = refl
+
+  far-table : (x : Option ℕ) (u : List ℕ) → farArcs arcs x u ≡ howFar table x u
+  unfolding farArcs
+  far-table x [] = refl
+  far-table x (m ∷ u) = ap (λ y. oneMore y (farArcs arcs y u)) (along-table x m) ∙ ap (oneMore (along table x m)) (far-table (along table x m) u)
+
+  follow-table : (x : Option ℕ) (u : List ℕ) → followArcs arcs x u ≡ follow table x u
   unfolding followArcs
-  goes-on x m u e = ap (λ y. followArcs arcs y u) e
+  follow-table x [] = refl
+  follow-table x (m ∷ u) = ap (λ y. followArcs arcs y u) (along-table x m) ∙ follow-table (along table x m) u
 
   -- WORD AFTER WORD: where the first leads somewhere, the other goes on from there; else the first decides
   pub far-append-arcs : (x : Option ℕ) (u v : List ℕ) {s : ℕ} → followArcs arcs x u ≡ some s → farArcs arcs x (u ++ v) ≡ length u + farArcs arcs (some s) v
-  unfolding followArcs
-  far-append-arcs x [] v e = ap (λ y. farArcs arcs y v) e ∙ omega arith
-  far-append-arcs x (m ∷ u) v {s} e = byNext (alongArc arcs x m) refl (λ t. far-append-arcs (some t) u v)
-    where
-      byNext : (y : Option ℕ) → alongArc arcs x m ≡ y
-          → ((t : ℕ) → followArcs arcs (some t) u ≡ some s → farArcs arcs (some t) (u ++ v) ≡ length u + farArcs arcs (some s) v)
-          → farArcs arcs x (m ∷ (u ++ v)) ≡ suc (length u) + farArcs arcs (some s) v
-      byNext none f next = none-not-some (lost-on x m u f) e
-      byNext (some t) f next = far-on-arcs x m (u ++ v) f ∙ ap suc (next t (sym (goes-on x m u f) ∙ e)) ∙ omega arith
+  far-append-arcs x u v {s} e =
+      far-table x (u ++ v) ∙ far-append table x u v (sym (follow-table x u) ∙ e) ∙ ap (λ n. length u + n) (sym (far-table (some s) v))
 
   pub far-before-arcs : (x : Option ℕ) (u v : List ℕ) → followArcs arcs x u ≡ none → farArcs arcs x (u ++ v) ≡ farArcs arcs x u
-  unfolding followArcs
-  far-before-arcs x [] v e = ap (λ y. farArcs arcs y v) e ∙ far-none-arcs arcs v ∙ sym (far-nothing arcs x)
-  far-before-arcs x (m ∷ u) v e = byNext (alongArc arcs x m) refl (λ t. far-before-arcs (some t) u v)
-    where
-      byNext : (y : Option ℕ) → alongArc arcs x m ≡ y
-          → ((t : ℕ) → followArcs arcs (some t) u ≡ none → farArcs arcs (some t) (u ++ v) ≡ farArcs arcs (some t) u)
-          → farArcs arcs x (m ∷ (u ++ v)) ≡ farArcs arcs x (m ∷ u)
-      byNext none f next = far-stops-arcs x m (u ++ v) f ∙ sym (far-stops-arcs x m u f)
-      byNext (some t) f next = far-on-arcs x m (u ++ v) f ∙ ap suc (next t (sym (goes-on x m u f) ∙ e)) ∙ sym (far-on-arcs x m u f)
+  far-before-arcs x u v e = far-table x (u ++ v) ∙ far-before table x u v (sym (follow-table x u) ∙ e) ∙ sym (far-table x u)
 
   -- a word that leads somewhere is followed whole
   pub far-whole-arcs : (x : Option ℕ) (u : List ℕ) {s : ℕ} → followArcs arcs x u ≡ some s → farArcs arcs x u ≡ length u
-  unfolding followArcs
-  far-whole-arcs x [] e = far-nothing arcs x
-  far-whole-arcs x (m ∷ u) {s} e = byNext (alongArc arcs x m) refl (λ t. far-whole-arcs (some t) u)
-    where
-      byNext : (y : Option ℕ) → alongArc arcs x m ≡ y → ((t : ℕ) → followArcs arcs (some t) u ≡ some s → farArcs arcs (some t) u ≡ length u)
-          → farArcs arcs x (m ∷ u) ≡ suc (length u)
-      byNext none f next = none-not-some (lost-on x m u f) e
-      byNext (some t) f next = far-on-arcs x m u f ∙ ap suc (next t (sym (goes-on x m u f) ∙ e))
+  far-whole-arcs x u e = far-table x u ∙ far-whole table x u (sym (follow-table x u) ∙ e)
 
 -- a diagram with the table's arcs is followed as far as the table is
 pub far-is-arcs : (P : Pool) (arcs : List ℕ) → ((s m : ℕ) → m < mostMessages → P .arc s m ≡ arcAt arcs s m) → (x : Option ℕ) (u : List ℕ)
