@@ -3,22 +3,37 @@
  * expressions.
  *
  * Each of the six takes any bytes as the file, the tables or the text, also broken ones, and any lengths. It returns the kind
- * of its reply, and three numbers that go with it fill the front of `reply`; entries after these keep their values.
+ * of its reply, and four numbers that go with it fill the front of `reply`; entries after these keep their values.
  *
- *   kind                          reply[0]        reply[1]        reply[2]
- *   SWARMBANNER_CLOSED            pairs visited   0               0
- *   SWARMBANNER_OUTSIDE           0               0               0
- *   SWARMBANNER_LEAVES            control state   transition      messages shown
- *   SWARMBANNER_BAD               bad entry       messages shown  0
- *   SWARMBANNER_REFUSED           number          place           0
- *   SWARMBANNER_READ, _YES, _NO   0               0               0
- *   SWARMBANNER_END, _LEFT        steps taken     0               0
- *   SWARMBANNER_STEP_REFUSED      number          place           steps taken
- *   SWARMBANNER_TRACE_REFUSED     1               16384           0
- *   SWARMBANNER_MEMORY_REFUSED    2               0               0
- *   SWARMBANNER_WRITTEN           bytes written   0               0
- *   SWARMBANNER_DRAWN             root, always 0  states          0
+ *   kind                          reply[0]           reply[1]           reply[2]        reply[3]
+ *   SWARMBANNER_CLOSED            pairs visited      0                  0               0
+ *   SWARMBANNER_OUTSIDE           0                  0                  0               0
+ *   SWARMBANNER_LEAVES            control state      transition         messages shown  messages followed
+ *   SWARMBANNER_BAD               bad entry          messages shown     0               0
+ *   SWARMBANNER_REFUSED           number             place              0               0
+ *   SWARMBANNER_READ              0                  0                  0               0
+ *   SWARMBANNER_YES, _NO          messages followed  0                  0               0
+ *   SWARMBANNER_END               steps taken        0                  0               0
+ *   SWARMBANNER_LEFT              steps taken        messages followed  0               0
+ *   SWARMBANNER_STEP_REFUSED      number             place              steps taken     0
+ *   SWARMBANNER_TRACE_REFUSED     1                  16384              0               0
+ *   SWARMBANNER_MEMORY_REFUSED    2                  0                  0               0
+ *   SWARMBANNER_WRITTEN           bytes written      0                  0               0
+ *   SWARMBANNER_DRAWN             root, always 0     states             0               0
  *   SWARMBANNER_NO_ROOM           nothing is written, here or elsewhere
+ *
+ * The messages followed say how far a diagram takes contents: how many messages it has an arc for, one after the other from
+ * its root, before it has none for the next one; all of them where it has one for each; 0 where there is no root.
+ *
+ *   after   of which contents                   in the diagram of
+ *   YES     those asked about, so their length  the control state asked about
+ *   NO      those asked about                   the control state asked about
+ *   LEAVES  those after the step; the ones      the control state that the step leads to
+ *           shown are those before it
+ *   LEFT    what waits in the queues then       the control state then
+ *
+ * Where there is a root, contents that are followed to their end and are not inside end in a state that is not final; else the
+ * message at that place, counted from 0, has no arc.
  *
  * A program asks swarmbanner_fits() before its first other call: is the library of the layout that it was built for?
  *
@@ -79,7 +94,7 @@ extern "C" {
 #define SWARMBANNER_REFUSED_STATES 22u       /* expression: more than 127 states; the place is 0 */
 
 /* The least that a call needs, in entries of the type that is lent. */
-#define SWARMBANNER_REPLY_LEAST 3u
+#define SWARMBANNER_REPLY_LEAST 4u
 #define SWARMBANNER_SPACE_LEAST (SWARMBANNER_AT_BAD + SWARMBANNER_BAD_ENTRIES_MOST * SWARMBANNER_BAD_ROW)
 #define SWARMBANNER_TABLE_LEAST 32512u
 #define SWARMBANNER_CONTENTS_LEAST 32768u
@@ -102,8 +117,11 @@ extern "C" {
 #define SWARMBANNER_POOL_STATES_MOST 127u
 #define SWARMBANNER_BAD_ENTRIES_MOST 64u
 
-/* The number of this layout of the tables and of the replies; another one has another number. */
-#define SWARMBANNER_LAYOUT 2u
+/*
+ * The number of this layout of the tables and of the replies; another one has another number. Layout 1 had words of up to four
+ * messages, layout 2 had three numbers in a reply.
+ */
+#define SWARMBANNER_LAYOUT 3u
 
 /*
  * Where the tables lie in the space of `swarmbanner_read`, one byte an entry; entries beyond the counts are 0. Each begins
@@ -201,7 +219,7 @@ size_t swarmbanner_write(const uint8_t *tables, size_t tables_len,
 /*
  * Do these contents, one byte for each message and queue after queue, belong to the set of this control state?
  *
- * YES or NO. REFUSED, 1 and 3 to 13: the file or the question is turned away.
+ * YES or NO, with how many of them its diagram followed. REFUSED, 1 and 3 to 13: the file or the question is turned away.
  * NO_ROOM: `reply` has under SWARMBANNER_REPLY_LEAST entries.
  */
 size_t swarmbanner_member(const uint8_t *file, size_t file_len,
@@ -215,6 +233,7 @@ size_t swarmbanner_member(const uint8_t *file, size_t file_len,
  *
  * CLOSED, OUTSIDE, LEAVES, BAD: `seen` and `queue` are 0 over their whole length. The contents shown after LEAVES and BAD
  *   fill the front of `contents`, one byte for each message; the rest of it keeps its bytes, after CLOSED and OUTSIDE all.
+ *   Those of LEAVES are the contents before the step; how many messages were followed is said of those after it.
  * REFUSED, 1 to 10: `seen`, `queue` and `contents` are as they were.
  * NO_ROOM: `reply` has under SWARMBANNER_REPLY_LEAST entries.
  */
@@ -230,7 +249,8 @@ size_t swarmbanner_check(const uint8_t *file, size_t file_len,
  * reads a number, and before the end, it asks whether the configuration is inside the map. `memory` is to have
  * SWARMBANNER_QUEUE_LEAST bytes for each queue of the file or more, `record` SWARMBANNER_RECORD_LEAST entries or more.
  *
- * END: the trace is at its end. LEFT: the configuration is outside the map; after 0 steps it is the start.
+ * END: the trace is at its end. LEFT: the configuration is outside the map; after 0 steps it is the start. With it goes how
+ *   many of the messages that wait, queue after queue, the diagram of its control state followed.
  * STEP_REFUSED, 3 (inside a number only), 4, 5, 14 and 15: the next step is not taken and not counted; the place is in the
  *   trace, for 14 and 15 the first byte of the step's number.
  *   After these three `record` has the last configuration, and queue q has SWARMBANNER_QUEUE_LEAST bytes from byte

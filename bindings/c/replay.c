@@ -49,7 +49,7 @@ static int replay(size_t file_length, size_t trace_length)
         show(file_length);
         return 0;
     case SWARMBANNER_LEFT:
-        printf("outside %zu\n", reply[0]);
+        printf("outside %zu %zu\n", reply[0], reply[1]);
         show(file_length);
         return 1;
     case SWARMBANNER_STEP_REFUSED:

@@ -20,7 +20,7 @@ static void show(size_t length)
 {
     size_t i;
 
-    printf(" %zu:", length);
+    printf(":");
     for (i = 0; i < length; i++)
         printf(" %u", (unsigned)contents[i]);
     printf("\n");
@@ -39,11 +39,11 @@ static int verdict(size_t length)
         printf("outside\n");
         return 1;
     case SWARMBANNER_LEAVES:
-        printf("leaves %zu %zu", reply[0], reply[1]);
+        printf("leaves %zu %zu %zu %zu", reply[0], reply[1], reply[2], reply[3]);
         show(reply[2]);
         return 1;
     case SWARMBANNER_BAD:
-        printf("bad %zu", reply[0]);
+        printf("bad %zu %zu", reply[0], reply[1]);
         show(reply[1]);
         return 1;
     default:
