@@ -102,12 +102,19 @@ static size_t call_expression(const uint8_t *text, size_t length, struct lengths
     return swarmbanner_expression(lent, length, lend_or_null(&pool_lend, n.pool), n.pool, lend_reply(n), n.reply);
 }
 
-static int replied(size_t first, size_t second, size_t third)
+static int replied_four(size_t first, size_t second, size_t third, size_t fourth)
 {
     size_t reply[SWARMBANNER_REPLY_LEAST];
 
     memcpy(reply, lend_at(&reply_lend), sizeof reply);
-    return reply[0] == first && reply[1] == second && reply[2] == third && lend_kept_from(&reply_lend, sizeof reply);
+    return reply[0] == first && reply[1] == second && reply[2] == third && reply[3] == fourth &&
+           lend_kept_from(&reply_lend, sizeof reply);
+}
+
+/* The fourth number goes with one kind alone, and is 0 with all others. */
+static int replied(size_t first, size_t second, size_t third)
+{
+    return replied_four(first, second, third, 0);
 }
 
 static int memory_kept(void)

@@ -14,9 +14,9 @@
  * and sends 0 1, 1 from 1 to 2 and sends 3 2, 2 from 2 to 0 and receives 0, 3 from 0 to 0 and receives 1, 4 from 0 to 0 and
  * receives 3 2, 5 from 0 to 2, 6 from 0 to 0 and receives nothing from queue 1.
  */
-#define M_BODY "01 03 00 02 02 02 07 000001 01 00 02 0001 000102 01 01 02 0302 000200 02 00 01 00" \
-    "000000 02 00 01 01 000000 02 01 02 0302 000002 00 000000 02 01 00" \
-    "02 01 04 00 00 01 00 02 01 03 01 01 02 02 01 03 01 01 01 01"
+#define M_HEAD "01 03 00 02 02 02 07 000001 01 00 02 0001 000102 01 01 02 0302 000200 02 00 01 00" \
+    "000000 02 00 01 01 000000 02 01 02 0302 000002 00 000000 02 01 00"
+#define M_BODY M_HEAD "02 01 04 00 00 01 00 02 01 03 01 01 02 02 01 03 01 01 01 01"
 #define M M_BODY "00"
 
 /* M with bad entries, so that every table has something in it and something beyond the counts. */

@@ -18,7 +18,9 @@
 #define TEXT_ROOM (2 * SWARMBANNER_TEXT_MOST + MORE)
 #define MEMORY_ROOM (SWARMBANNER_QUEUES_MOST * SWARMBANNER_QUEUE_LEAST + MORE)
 
-static struct lend file_lend, asked_lend, trace_lend, space_lend, seen_lend, queue_lend, contents_lend, memory_lend,
+#define AFTER_ROOM (SWARMBANNER_CONTENTS_LEAST + MORE + SWARMBANNER_WORD_MOST)
+
+static struct lend file_lend, asked_lend, after_lend, trace_lend, space_lend, seen_lend, queue_lend, contents_lend, memory_lend,
     record_lend, tables_lend, buffer_lend, text_lend, pool_lend, reply_lend;
 
 #ifdef SWARMBANNER_LIBFUZZER
@@ -80,6 +82,10 @@ static unsigned long met[SWARMBANNER_DRAWN + 1];
 /* Of files with a word of sixteen: how often they were closed, and left by sending or receiving one (1 and 2). */
 static unsigned long long_closed, long_left[3];
 
+/* How a diagram loses contents, and how often it was so: after a step that leaves, where a trace leads outside, and asked about. */
+enum { LOST_NO_ROOT, LOST_NO_ARC, LOST_NOT_FINAL, LOST_WAYS };
+static unsigned long left_lost[LOST_WAYS], run_lost[LOST_WAYS], asked_lost[LOST_WAYS];
+
 /* How often a step was refused by each number, and how often a queue went round its bytes. */
 static unsigned long step_refused[SWARMBANNER_REFUSED_FULL + 1], went_round;
 
@@ -96,11 +102,19 @@ static int has_met(unsigned long times, const char *what)
     return times > 0;
 }
 
+static int has_met_losses(const unsigned long *lost, const char *what)
+{
+    int all = lost[LOST_NO_ROOT] > 0 && lost[LOST_NO_ARC] > 0 && lost[LOST_NOT_FINAL] > 0;
+
+    return has_met((unsigned long)all, what);
+}
+
 int fuzz_met_enough(void)
 {
     return has_met(long_closed, "closed with a word of sixteen") & has_met(long_left[1], "left by sending sixteen") &
-           has_met(long_left[2], "left by receiving sixteen") & has_met(met[SWARMBANNER_END], "a trace that ends") &
-           has_met(met[SWARMBANNER_LEFT], "a trace that leads outside") &
+           has_met(long_left[2], "left by receiving sixteen") & has_met_losses(left_lost, "each loss by a step") &
+           has_met_losses(run_lost, "each loss by a trace") & has_met_losses(asked_lost, "each loss of contents asked about") &
+           has_met(met[SWARMBANNER_END], "a trace that ends") &
            has_met(met[SWARMBANNER_TRACE_REFUSED], "a trace too long") &
            has_met(met[SWARMBANNER_MEMORY_REFUSED], "queue memory too short") & has_met(step_refused[3], "step refused by 3") &
            has_met(step_refused[4], "step refused by 4") & has_met(step_refused[5], "step refused by 5") &
@@ -125,6 +139,9 @@ static void report(void)
         printf("%s %lu%s", names[kind], met[kind], kind < SWARMBANNER_DRAWN ? ", " : "\n");
     printf("words of %u: closed %lu, left by sending %lu, by receiving %lu\n", SWARMBANNER_WORD_MOST, long_closed,
            long_left[1], long_left[2]);
+    printf("lost without a root, an arc, a final state: by steps that leave %lu %lu %lu, by traces %lu %lu %lu, asked %lu %lu %lu\n",
+           left_lost[0], left_lost[1], left_lost[2], run_lost[0], run_lost[1], run_lost[2], asked_lost[0], asked_lost[1],
+           asked_lost[2]);
     printf("steps refused: by 3 %lu, 4 %lu, 5 %lu, 14 %lu, 15 %lu; queues that went round %lu\n", step_refused[3],
            step_refused[4], step_refused[5], step_refused[14], step_refused[15], went_round);
     printf("tables changed and written %lu; writing refused: by 16 %lu, 17 %lu\n", written_changed, write_refused[16],
@@ -152,7 +169,8 @@ static int same(const struct told *one, const struct told *other)
 
 static int is(const struct told *told, size_t kind, size_t first, size_t second)
 {
-    return told->kind == kind && told->number[0] == first && told->number[1] == second && told->number[2] == 0;
+    return told->kind == kind && told->number[0] == first && told->number[1] == second && told->number[2] == 0 &&
+           told->number[3] == 0;
 }
 
 /* How much is lent of what. Mostly enough; else one of them is one short, or much shorter. */
@@ -204,7 +222,7 @@ static int has_room(const struct lengths *n)
 /* The numbers of a reply, once it is seen that there was room for them and that nothing else has changed. */
 static struct told told_of(size_t kind, const struct lengths *n)
 {
-    struct told told = {kind, {0, 0, 0}};
+    struct told told = {kind, {0, 0, 0, 0}};
 
     must(kind <= SWARMBANNER_DRAWN, "no kind of reply");
     met[kind]++;
@@ -329,14 +347,27 @@ static int has_long_word(void)
     return 0;
 }
 
-/* Does the word lead from this state, or from nowhere for 0, to a final one? States are counted from 1 here. */
+/*
+ * How many messages lead on from this state, one after the other, or from nowhere for 0; the state is then where they lead to.
+ * States are counted from 1 here.
+ */
+static size_t follow(size_t *state, const uint8_t *word, size_t length)
+{
+    size_t i, next;
+
+    for (i = 0; i < length && *state > 0; i++) {
+        next = tables[SWARMBANNER_AT_ARCS + (*state - 1) * SWARMBANNER_ARC_ROW + word[i]];
+        if (next == 0)
+            break;
+        *state = next;
+    }
+    return i;
+}
+
+/* Does the word lead from this state, or from nowhere for 0, to a final one? */
 static int accepts(size_t state, const uint8_t *word, size_t length)
 {
-    size_t i;
-
-    for (i = 0; i < length && state > 0; i++)
-        state = tables[SWARMBANNER_AT_ARCS + (state - 1) * SWARMBANNER_ARC_ROW + word[i]];
-    return state > 0 && tables[SWARMBANNER_AT_FINALS + state - 1] == 1;
+    return follow(&state, word, length) == length && state > 0 && tables[SWARMBANNER_AT_FINALS + state - 1] == 1;
 }
 
 static int inside(size_t control, const uint8_t *word, size_t length)
@@ -344,10 +375,26 @@ static int inside(size_t control, const uint8_t *word, size_t length)
     return accepts(tables[SWARMBANNER_AT_ROOTS + control], word, length);
 }
 
+/* How far the diagram of a control state takes a word. */
+static size_t followed(size_t control, const uint8_t *word, size_t length)
+{
+    size_t state = tables[SWARMBANNER_AT_ROOTS + control];
+
+    return follow(&state, word, length);
+}
+
+/* How a control state loses a word of this length that it does not have inside. */
+static size_t loss(size_t control, size_t far, size_t length)
+{
+    if (tables[SWARMBANNER_AT_ROOTS + control] == 0)
+        return LOST_NO_ROOT;
+    return far < length ? LOST_NO_ARC : LOST_NOT_FINAL;
+}
+
 /* What membership must say of contents. */
 static struct told expected_member(size_t control, const uint8_t *contents, size_t count)
 {
-    struct told told = {SWARMBANNER_REFUSED, {0, 0, 0}};
+    struct told told = {SWARMBANNER_REFUSED, {0, 0, 0, 0}};
     size_t i;
 
     if (control >= control_states()) {
@@ -363,7 +410,8 @@ static struct told expected_member(size_t control, const uint8_t *contents, size
         if (i > 0 && queue_of(contents[i]) < queue_of(contents[i - 1]))
             return told;
     }
-    told.number[0] = told.number[1] = 0;
+    told.number[0] = followed(control, contents, count);
+    told.number[1] = 0;
     told.kind = inside(control, contents, count) ? SWARMBANNER_YES : SWARMBANNER_NO;
     return told;
 }
@@ -406,16 +454,37 @@ static int contents_after(const uint8_t *row, const uint8_t *word, size_t length
     return 1;
 }
 
-/* 1 where the step can be taken and leads outside, 0 where it leads inside, -1 where it cannot be taken. */
-static int leads_outside(size_t control, size_t transition, const uint8_t *word, size_t length)
-{
-    static uint8_t after[SWARMBANNER_CONTENTS_LEAST + MORE + SWARMBANNER_WORD_MOST];
-    const uint8_t *row = row_of(transition);
-    size_t target = control_after(control, row), after_length;
+/* A configuration that a step leads to. */
+struct reached {
+    size_t control, length;
+    uint8_t contents[AFTER_ROOM];
+};
 
-    if (target == control_states() || !contents_after(row, word, length, after, &after_length))
+/* 1 where the step can be taken and leads outside, 0 where it leads inside, -1 where it cannot be taken. */
+static int leads_outside(size_t control, size_t transition, const uint8_t *word, size_t length, struct reached *after)
+{
+    const uint8_t *row = row_of(transition);
+
+    after->control = control_after(control, row);
+    if (after->control == control_states() || !contents_after(row, word, length, after->contents, &after->length))
         return -1;
-    return !inside(target, after, after_length);
+    return !inside(after->control, after->contents, after->length);
+}
+
+/*
+ * A configuration that is outside is followed so far: as far as the tables say and as membership does, and no further than there
+ * are messages.
+ */
+static void is_followed(size_t far, const struct reached *outside, unsigned long *lost)
+{
+    const uint8_t *asked = lend_copy(&after_lend, outside->contents, outside->length);
+    size_t reply[SWARMBANNER_REPLY_LEAST], kind;
+
+    must(far <= outside->length, "more messages are followed than there are");
+    must(far == followed(outside->control, outside->contents, outside->length), "another number of messages is followed");
+    kind = swarmbanner_member(file, file_len, outside->control, asked, outside->length, reply, SWARMBANNER_REPLY_LEAST);
+    must(kind == SWARMBANNER_NO && reply[0] == far, "membership follows the contents otherwise");
+    lost[loss(outside->control, far, outside->length)]++;
 }
 
 static int is_bad(size_t entry, const uint8_t *word, size_t length)
@@ -438,18 +507,32 @@ static void begin(struct run *run)
         run->states[i] = tables[SWARMBANNER_AT_STARTS + i];
 }
 
-static int is_inside(const struct run *run)
+static size_t control_of(const struct run *run)
 {
-    static uint8_t word[MEMORY_ROOM];
-    size_t i, control = 0, length = 0;
+    size_t i, control = 0;
 
     for (i = 0; i < tables[SWARMBANNER_AT_COUNTS]; i++)
         control = control * tables[SWARMBANNER_AT_STATES + i] + run->states[i];
+    return control;
+}
+
+/* What waits, queue after queue; returns how many messages it is. */
+static size_t word_of(const struct run *run, uint8_t *word)
+{
+    size_t i, length = 0;
+
     for (i = 0; i < tables[SWARMBANNER_AT_COUNTS + 1]; i++) {
         memcpy(word + length, run->queues[i], run->lengths[i]);
         length += run->lengths[i];
     }
-    return inside(control, word, length);
+    return length;
+}
+
+static int is_inside(const struct run *run)
+{
+    static uint8_t word[MEMORY_ROOM];
+
+    return inside(control_of(run), word, word_of(run, word));
 }
 
 /* 0 where a transition can be taken, else the number that it is refused by. */
@@ -492,7 +575,8 @@ static size_t trace_len;
 /* What a replay must say, and the run where it ends. */
 static struct told expected_replay(struct run *run)
 {
-    struct told told = {SWARMBANNER_STEP_REFUSED, {0, 0, 0}};
+    static uint8_t word[MEMORY_ROOM];
+    struct told told = {SWARMBANNER_STEP_REFUSED, {0, 0, 0, 0}};
     size_t at = 0, steps, number;
 
     begin(run);
@@ -525,6 +609,8 @@ static struct told expected_replay(struct run *run)
     told.kind = is_inside(run) ? SWARMBANNER_END : SWARMBANNER_LEFT;
     told.number[0] = steps;
     told.number[1] = told.number[2] = 0;
+    if (told.kind == SWARMBANNER_LEFT)
+        told.number[1] = followed(control_of(run), word, word_of(run, word));
     return told;
 }
 
@@ -573,12 +659,13 @@ static void make_trace(const uint8_t *pattern, size_t count, uint8_t how, int is
 static void call_replay(const struct lengths *n, const struct told *read)
 {
     static struct run run;
+    static struct reached outside;
     size_t queues = read->kind == SWARMBANNER_READ ? tables[SWARMBANNER_AT_COUNTS + 1] : 1;
     size_t wanted = queues * SWARMBANNER_QUEUE_LEAST, length = wanted + n->more - n->memory_less;
     uint8_t *memory = lend_bytes(&memory_lend, length);
     size_t *record = lend_bytes(&record_lend, n->record * sizeof(size_t));
     size_t expected_record[SWARMBANNER_RECORD_LEAST] = {0};
-    struct told told = {0, {0, 0, 0}}, expected = *read;
+    struct told told = {0, {0, 0, 0, 0}}, expected = *read;
     size_t i, kind;
 
     kind = swarmbanner_replay(file, file_len, trace, trace_len, memory, length, record, n->record, lend_reply(n), n->reply);
@@ -610,6 +697,11 @@ static void call_replay(const struct lengths *n, const struct told *read)
     }
     if (told.kind == SWARMBANNER_STEP_REFUSED)
         step_refused[told.number[0]]++;
+    if (told.kind == SWARMBANNER_LEFT) {
+        outside.control = control_of(&run);
+        outside.length = word_of(&run, outside.contents);
+        is_followed(told.number[1], &outside, run_lost);
+    }
     memcpy(expected_record + SWARMBANNER_RECORD_STATES, run.states, sizeof run.states);
     memcpy(expected_record + SWARMBANNER_RECORD_LENGTHS, run.lengths, sizeof run.lengths);
     must(memcmp(record, expected_record, sizeof expected_record) == 0, "another record");
@@ -649,7 +741,7 @@ static struct told call_write(const struct lengths *n, const uint8_t *wanted)
     size_t room = (length > 0 ? length : SWARMBANNER_SPACE_LEAST) + n->more - n->buffer_less;
     const uint8_t *lent = lend_tables(wanted, tables_len);
     uint8_t *buffer = lend_bytes(&buffer_lend, room);
-    struct told expected = {SWARMBANNER_REFUSED, {0, 0, 0}};
+    struct told expected = {SWARMBANNER_REFUSED, {0, 0, 0, 0}};
     struct told told = told_of(swarmbanner_write(lent, tables_len, buffer, room, lend_reply(n), n->reply), n);
 
     if (!has_room(n)) {
@@ -723,7 +815,7 @@ static void calls_of_writing(const struct lengths *n, int is_read, const uint8_t
 static void drawn_is_taken(const uint8_t *pool, size_t states, const uint8_t *word, size_t length)
 {
     static uint8_t drawn[SWARMBANNER_SPACE_LEAST], bytes[SWARMBANNER_FILE_MOST];
-    size_t reply[SWARMBANNER_REPLY_LEAST], state = 1, kind, i;
+    size_t reply[SWARMBANNER_REPLY_LEAST], state = 1, far = 0, kind, i;
 
     memset(drawn, 0, sizeof drawn);
     drawn[SWARMBANNER_AT_COUNTS] = drawn[SWARMBANNER_AT_COUNTS + 1] = drawn[SWARMBANNER_AT_STATES] = 1;
@@ -733,10 +825,13 @@ static void drawn_is_taken(const uint8_t *pool, size_t states, const uint8_t *wo
     drawn[SWARMBANNER_AT_ROOTS] = 1;
     kind = swarmbanner_write(drawn, sizeof drawn, bytes, sizeof bytes, reply, SWARMBANNER_REPLY_LEAST);
     must(kind == SWARMBANNER_WRITTEN, "what was drawn is not written");
-    for (i = 0; i < length && word[i] < SWARMBANNER_MESSAGES_MOST; i++)
+    for (i = 0; i < length && word[i] < SWARMBANNER_MESSAGES_MOST; i++) {
         state = state > 0 ? pool[SWARMBANNER_POOL_STATES_MOST + (state - 1) * SWARMBANNER_ARC_ROW + word[i]] : 0;
+        far += state > 0;
+    }
     kind = swarmbanner_member(bytes, reply[0], 0, word, i, reply, SWARMBANNER_REPLY_LEAST);
     must(kind == (state > 0 && pool[state - 1] == 1 ? SWARMBANNER_YES : SWARMBANNER_NO), "a word is inside otherwise than drawn");
+    must(reply[0] == far, "a word is followed otherwise than drawn");
 }
 
 /* Drawing a text says what it must, and leaves the pool as it must. */
@@ -769,14 +864,17 @@ static void call_expression(const struct lengths *n, const uint8_t *text, size_t
 /* A verdict means what it says, as far as it can be seen from here. */
 static void verdict_holds(const struct told *told, size_t control, const uint8_t *asked, size_t count)
 {
+    static struct reached after;
     const uint8_t *shown = lend_at(&contents_lend);
     size_t i, entry = told->number[0];
 
     must(inside(starting_control(), NULL, 0) == (told->kind != SWARMBANNER_OUTSIDE), "outside, or not");
+    must(told->kind == SWARMBANNER_LEAVES || told->number[3] == 0, "a fourth number where there are fewer");
     switch (told->kind) {
     case SWARMBANNER_LEAVES:
         must(inside(told->number[0], shown, told->number[2]), "contents shown are not inside");
-        must(leads_outside(told->number[0], told->number[1], shown, told->number[2]) == 1, "the step does not leave");
+        must(leads_outside(told->number[0], told->number[1], shown, told->number[2], &after) == 1, "the step does not leave");
+        is_followed(told->number[3], &after, left_lost);
         long_left[row_of(told->number[1])[3]] += (unsigned)is_long(told->number[1]);
         break;
     case SWARMBANNER_BAD:
@@ -790,7 +888,7 @@ static void verdict_holds(const struct told *told, size_t control, const uint8_t
         if (expected_member(control, asked, count).kind != SWARMBANNER_YES)
             break;
         for (i = 0; i < tables[SWARMBANNER_AT_COUNTS + 3]; i++)
-            must(leads_outside(control, i, asked, count) != 1, "closed, and a step leaves");
+            must(leads_outside(control, i, asked, count, &after) != 1, "closed, and a step leaves");
         for (i = 0; i < tables[SWARMBANNER_AT_COUNTS + 5]; i++)
             if (tables[SWARMBANNER_AT_BAD + i * SWARMBANNER_BAD_ROW] == control)
                 must(!is_bad(i, asked, count), "closed, and contents inside are bad");
@@ -830,11 +928,14 @@ static void calls_agree(const struct lengths *n, const uint8_t *head, const uint
     expected = read.kind == SWARMBANNER_REFUSED ? read : expected_member(control, asked, count);
     must(!has_room(n) || same(&member, &expected), "membership says something else");
     reach(member.kind, member.number[0], count);
+    if (member.kind == SWARMBANNER_NO)
+        asked_lost[loss(control, member.number[0], count)]++;
 
     check = call_check(n);
     if (!has_room(n))
         return;
     reach(check.kind, check.number[0], check.number[1]);
+    reach(check.kind, check.number[2], check.number[3]);
     reach(check.kind, tables[SWARMBANNER_AT_COUNTS + 4], shown_of(&check));
     if (read.kind == SWARMBANNER_REFUSED && (read.number[0] == SWARMBANNER_REFUSED_LONG || !memory_is_short(n)))
         must(same(&check, &read), "checking refuses otherwise than reading");
@@ -850,6 +951,7 @@ static void make_room(void)
     must(swarmbanner_fits(), "the library has another layout");
     lend_make(&file_lend, SWARMBANNER_FILE_MOST + MORE);
     lend_make(&asked_lend, CONTENTS_MOST);
+    lend_make(&after_lend, AFTER_ROOM);
     lend_make(&trace_lend, TRACE_ROOM);
     lend_make(&space_lend, SWARMBANNER_SPACE_LEAST + MORE);
     lend_make(&seen_lend, (SWARMBANNER_TABLE_LEAST + MORE) * sizeof(uint16_t));

@@ -246,7 +246,7 @@ static size_t sketch_expression(const uint8_t *text, size_t length, uint8_t *poo
             s.place = s.at;
         }
     }
-    reply[0] = reply[1] = reply[2] = 0;
+    memset(reply, 0, SWARMBANNER_REPLY_LEAST * sizeof *reply);
     if (s.number == 0)
         reply[1] = sketch_pool(&s, pool);
     if (reply[1] > 0)

@@ -21,38 +21,50 @@
     "00010002 00010103 00010204 00010305 00010406 00010507 00010608 00010709 0001080a" \
     "0001090b 00010a0c 00010b0d 00010c0e 00010d0f 00010e10 00010f11 00011012 0100" "01 02 00"
 
+/* One state, and 0 1 2 is sent. Three states, of which 0 goes to 1 with 0 0 in the queue and 2 is the start. */
+#define F_SEND "01 01 00 01 03 01 000000 01 00 03 000102"
+#define F_LOCAL "01 03 02 01 01 01 000001 00" "03 00 01 00 01 00 01 00 02 01 00"
+
 struct worked {
     const char *name, *file;
-    size_t kind, first, second, third;
+    size_t kind, first, second, third, fourth;
     const char *shown;
 };
 
 static const struct worked cases[] = {
-    {"a", R, SWARMBANNER_CLOSED, 4, 0, 0, ""},
-    {"b", R_HEAD "01 01 00 01 00", SWARMBANNER_LEAVES, 0, 0, 0, ""},
-    {"c", R_HEAD "02 01 01 00 01 01 00 01 00", SWARMBANNER_LEAVES, 0, 0, 1, "\0"},
-    {"d", R_HEAD "01 00 01 00 00 01 00", SWARMBANNER_OUTSIDE, 0, 0, 0, ""},
-    {"e", R_HEAD "01 01 01 00 00 01 01 00 00", SWARMBANNER_BAD, 0, 0, 0, ""},
-    {"f", S, SWARMBANNER_CLOSED, 3, 0, 0, ""},
-    {"g", S_HEAD "00000002010101" S_POOL "01 00", SWARMBANNER_CLOSED, 3, 0, 0, ""},
-    {"h", "", SWARMBANNER_REFUSED, 3, 0, 0, ""},
-    {"i", "8200 01010000010102000000010001000100000200010001010100000100", SWARMBANNER_REFUSED, 4, 0, 0, ""},
-    {"j", "05 01010000010102000000010001000100000200010001010100000100", SWARMBANNER_REFUSED, 5, 0, 0, ""},
-    {"k", R "00", SWARMBANNER_REFUSED, 10, 29, 0, ""},
-    {"l", R_HEAD "01 01 01 00 00 01", SWARMBANNER_REFUSED, 3, 28, 0, ""},
-    {"m", S_HEAD S_SEND "01 01 02 00 00 01 00 01 00", SWARMBANNER_REFUSED, 9, 23, 0, ""},
-    {"n", "03 10 10 02", SWARMBANNER_REFUSED, 6, 3, 0, ""},
+    {"a", R, SWARMBANNER_CLOSED, 4, 0, 0, 0, ""},
+    {"b", R_HEAD "01 01 00 01 00", SWARMBANNER_LEAVES, 0, 0, 0, 0, ""},
+    {"c", R_HEAD "02 01 01 00 01 01 00 01 00", SWARMBANNER_LEAVES, 0, 0, 1, 1, "\0"},
+    {"d", R_HEAD "01 00 01 00 00 01 00", SWARMBANNER_OUTSIDE, 0, 0, 0, 0, ""},
+    {"e", R_HEAD "01 01 01 00 00 01 01 00 00", SWARMBANNER_BAD, 0, 0, 0, 0, ""},
+    {"f", S, SWARMBANNER_CLOSED, 3, 0, 0, 0, ""},
+    {"g", S_HEAD "00000002010101" S_POOL "01 00", SWARMBANNER_CLOSED, 3, 0, 0, 0, ""},
+    {"h", "", SWARMBANNER_REFUSED, 3, 0, 0, 0, ""},
+    {"i", "8200 01010000010102000000010001000100000200010001010100000100", SWARMBANNER_REFUSED, 4, 0, 0, 0, ""},
+    {"j", "05 01010000010102000000010001000100000200010001010100000100", SWARMBANNER_REFUSED, 5, 0, 0, 0, ""},
+    {"k", R "00", SWARMBANNER_REFUSED, 10, 29, 0, 0, ""},
+    {"l", R_HEAD "01 01 01 00 00 01", SWARMBANNER_REFUSED, 3, 28, 0, 0, ""},
+    {"m", S_HEAD S_SEND "01 01 02 00 00 01 00 01 00", SWARMBANNER_REFUSED, 9, 23, 0, 0, ""},
+    {"n", "03 10 10 02", SWARMBANNER_REFUSED, 6, 3, 0, 0, ""},
     /* contents of two messages, and a bad entry that is not the first */
-    {"leaves", S_HEAD S_SEND "04 01 01 00 01 01 02 00 02 01 03 01 01 00 02 01 00" "01 00", SWARMBANNER_LEAVES, 0, 0, 2,
+    {"leaves", S_HEAD S_SEND "04 01 01 00 01 01 02 00 02 01 03 01 01 00 02 01 00" "01 00", SWARMBANNER_LEAVES, 0, 0, 2, 2,
      "\0\1"},
     {"bad", "010100020101 00" "06 01 02 00 00 01 01 01 01 01 01 00 00 00 01 00 04 00 01 01 05 01 00" "01 02 00 02 00 03",
-     SWARMBANNER_BAD, 1, 2, 0, "\0\1"},
+     SWARMBANNER_BAD, 1, 2, 0, 0, "\0\1"},
+    /*
+     * followed into the word that was sent, and to its end, which is not final; where there is no root, and a part of the way
+     * where the step is local
+     */
+    {"a part of the word", F_SEND "03 01 01 00 01 00 01 01 02 00 00" "01 00", SWARMBANNER_LEAVES, 0, 0, 0, 2, ""},
+    {"the whole word", F_SEND "04 01 01 00 01 00 01 01 02 00 01 02 03 00 00" "01 00", SWARMBANNER_LEAVES, 0, 0, 0, 3, ""},
+    {"no root", F_LOCAL "01 00 03 00", SWARMBANNER_LEAVES, 0, 0, 2, 0, "\0\0"},
+    {"a part of what waits", F_LOCAL "01 02 03 00", SWARMBANNER_LEAVES, 0, 0, 2, 1, "\0\0"},
     /* words of sixteen are taken, the next length is refused where it stands */
-    {"sixteen sent", W, SWARMBANNER_LEAVES, 0, 0, 0, ""},
-    {"sixteen received", RECEIVED, SWARMBANNER_LEAVES, 1, 0, 17,
+    {"sixteen sent", W, SWARMBANNER_LEAVES, 0, 0, 0, 0, ""},
+    {"sixteen received", RECEIVED, SWARMBANNER_LEAVES, 1, 0, 17, 1,
      "\0\1\2\3\4\5\6\7\10\11\12\13\14\15\16\17\20"},
-    {"seventeen sent", W_HEAD "02 000001 0101 11" UP "01 000100 0201 10" DOWN W_END, SWARMBANNER_REFUSED, 5, 12, 0, ""},
-    {"seventeen received", W_HEAD "02 000001 0101 10" UP "000100 0201 11" DOWN "01" W_END, SWARMBANNER_REFUSED, 5, 34, 0,
+    {"seventeen sent", W_HEAD "02 000001 0101 11" UP "01 000100 0201 10" DOWN W_END, SWARMBANNER_REFUSED, 5, 12, 0, 0, ""},
+    {"seventeen received", W_HEAD "02 000001 0101 10" UP "000100 0201 11" DOWN "01" W_END, SWARMBANNER_REFUSED, 5, 34, 0, 0,
      ""},
 };
 
@@ -70,7 +82,7 @@ static void check_case(const struct worked *c, struct lengths n)
     const uint8_t *file = hex(c->file, &length);
 
     expect(call_check(file, length, n) == c->kind, "kind of the reply", c->name);
-    expect(replied(c->first, c->second, c->third), "numbers of the reply, and its rest kept", c->name);
+    expect(replied_four(c->first, c->second, c->third, c->fourth), "numbers of the reply, and its rest kept", c->name);
     if (c->kind == SWARMBANNER_REFUSED) {
         expect(memory_kept(), "lent memory kept after a refusal", c->name);
         return;
@@ -95,10 +107,10 @@ static void read_case(const struct worked *c, struct lengths n)
     expect(lend_kept_from(&space_lend, SWARMBANNER_SPACE_LEAST), "rest of the space kept", c->name);
 }
 
-/* A call with a reply that has no room for three numbers writes nothing, whatever else it is given. */
+/* A call with a reply that has no room for four numbers writes nothing, whatever else it is given. */
 static void no_room(void)
 {
-    static const char *const names[] = {"no entry", "one entry", "two entries"};
+    static const char *const names[] = {"no entry", "one entry", "two entries", "three entries"};
     struct lengths n = plenty();
     size_t length;
     const uint8_t *file = hex(R, &length);
@@ -193,17 +205,48 @@ static size_t ask(const char *text, size_t control, const uint8_t *contents, siz
     return swarmbanner_member(file, length, control, asked, count, lend_reply(plenty()), plenty().reply);
 }
 
+/* What membership says of contents after the step that a file is left by: no, and as many are followed as checking says. */
+static void expect_lost(const struct worked *c, size_t control, const char *after, size_t count)
+{
+    expect(ask(c->file, control, (const uint8_t *)after, count) == SWARMBANNER_NO && replied(c->fourth, 0, 0),
+           "followed as far as checking says", c->name);
+}
+
+static const struct worked *case_named(const char *name)
+{
+    const struct worked *c = cases;
+
+    while (strcmp(c->name, name) != 0)
+        c++;
+    return c;
+}
+
 static void membership(void)
 {
-    static const uint8_t in_order[] = {0, 1}, out_of_order[] = {1, 0}, unknown[] = {0, 2};
+    static const uint8_t in_order[] = {0, 1}, out_of_order[] = {1, 0}, unknown[] = {0, 2}, many[] = {0, 0, 0, 0, 1, 1, 1, 1, 1};
 
-    expect(ask(S, 0, in_order, 2) == SWARMBANNER_YES && replied(0, 0, 0), "0 1 belong", "S");
+    expect(ask(S, 0, in_order, 2) == SWARMBANNER_YES && replied(2, 0, 0), "0 1 belong", "S");
+    expect(ask(S, 0, many, 9) == SWARMBANNER_YES && replied(9, 0, 0), "nine messages belong", "S");
     expect(ask(S, 0, NULL, 0) == SWARMBANNER_YES && replied(0, 0, 0), "no contents belong", "S");
     expect(ask(S, 0, out_of_order, 2) == SWARMBANNER_REFUSED && replied(13, 1, 0), "1 0 are refused", "S");
     expect(ask(S, 0, unknown, 2) == SWARMBANNER_REFUSED && replied(12, 1, 0), "0 2 are refused", "S");
     expect(ask(S, 1, unknown, 2) == SWARMBANNER_REFUSED && replied(11, 0, 0), "no such control state", "S");
     expect(ask(S, (size_t)-1, NULL, 0) == SWARMBANNER_REFUSED && replied(11, 0, 0), "highest control state", "S");
+    /* lost at once, at the end, where nothing is read, where there is no root, and with more behind the place */
     expect(ask(cases[1].file, 0, in_order, 1) == SWARMBANNER_NO && replied(0, 0, 0), "0 does not belong", "b");
+    expect(ask(cases[3].file, 0, many, 4) == SWARMBANNER_NO && replied(4, 0, 0), "0 0 0 0 do not belong", "d");
+    expect(ask(cases[3].file, 0, NULL, 0) == SWARMBANNER_NO && replied(0, 0, 0), "no contents do not belong", "d");
+    expect(ask(case_named("no root")->file, 1, many, 4) == SWARMBANNER_NO && replied(0, 0, 0), "nothing belongs", "no root");
+    expect(ask(cases[2].file, 0, many, 4) == SWARMBANNER_NO && replied(1, 0, 0), "0 0 0 0 do not belong", "c");
+    expect_lost(&cases[1], 0, "\0", 1);
+    expect_lost(&cases[2], 0, "\0\0", 2);
+    expect_lost(case_named("leaves"), 0, "\0\0\1", 3);
+    expect_lost(case_named("a part of the word"), 0, "\0\1\2", 3);
+    expect_lost(case_named("the whole word"), 0, "\0\1\2", 3);
+    expect_lost(case_named("no root"), 1, "\0\0", 2);
+    expect_lost(case_named("a part of what waits"), 1, "\0\0", 2);
+    expect_lost(case_named("sixteen sent"), 1, "\1\2\3\4\5\6\7\10\11\12\13\14\15\16\17\20", 16);
+    expect_lost(case_named("sixteen received"), 1, "\0", 1);
 }
 
 /* The tables of S, byte by byte. */
@@ -285,10 +328,16 @@ static const struct replayed replays[] = {
     {"longer form", R, "00 8000", SWARMBANNER_STEP_REFUSED, 4, 1, 1, 1, 0, {1, 0}, {"\0", ""}},
     {"three bytes", R, "808001", SWARMBANNER_STEP_REFUSED, 4, 0, 0, 1, 0, {0, 0}, {"", ""}},
     {"outside", R_HEAD "01 01 00 01 00", "00 80", SWARMBANNER_LEFT, 1, 0, 0, 1, 0, {1, 0}, {"\0", ""}},
-    {"outside later", R_HEAD "02 01 01 00 01 01 00 01 00", "00 01 00 00 01", SWARMBANNER_LEFT, 4, 0, 0, 1, 0, {2, 0},
+    {"outside later", R_HEAD "02 01 01 00 01 01 00 01 00", "00 01 00 00 01", SWARMBANNER_LEFT, 4, 1, 0, 1, 0, {2, 0},
      {"\0\0", ""}},
-    {"outside at the end", R_HEAD "02 01 01 00 01 01 00 01 00", "00 00", SWARMBANNER_LEFT, 2, 0, 0, 1, 0, {2, 0},
+    {"outside at the end", R_HEAD "02 01 01 00 01 01 00 01 00", "00 00", SWARMBANNER_LEFT, 2, 1, 0, 1, 0, {2, 0},
      {"\0\0", ""}},
+    {"outside in a word", F_SEND "03 01 01 00 01 00 01 01 02 00 00" "01 00", "00", SWARMBANNER_LEFT, 1, 2, 0, 1, 0, {3, 0},
+     {"\0\1\2", ""}},
+    {"outside after a word", F_SEND "04 01 01 00 01 00 01 01 02 00 01 02 03 00 00" "01 00", "00", SWARMBANNER_LEFT, 1, 3, 0, 1,
+     0, {3, 0}, {"\0\1\2", ""}},
+    {"outside in queue 1", M_HEAD "04 01 01 00 01 00 01 01 02 01 01 03 03 00 00" "01 01 01 00", "00 01", SWARMBANNER_LEFT, 2, 3,
+     0, 2, 2, {2, 2}, {"\0\1", "\3\2"}},
     {"start outside", R_HEAD "01 00 01 00 00 01 00", "00 01", SWARMBANNER_LEFT, 0, 0, 0, 1, 0, {0, 0}, {"", ""}},
     {"start outside, no steps", R_HEAD "01 00 01 00 00 01 00", "", SWARMBANNER_LEFT, 0, 0, 0, 1, 0, {0, 0}, {"", ""}},
     {"S", S, "00 00", SWARMBANNER_END, 2, 0, 0, 2, 0, {2, 0}, {"\0\0", ""}},

@@ -272,7 +272,8 @@ static void drawn_and_written(void)
     tables[SWARMBANNER_AT_COUNTS + 4] = 3;
     expect(call_write(tables, sizeof tables, plenty()) == SWARMBANNER_WRITTEN && replied(35, 0, 0), "written", text);
     memcpy(file, lend_at(&buffer_lend), 35);
-    expect(call_check(lend_copy(&file_lend, file, 35), 35, least) == SWARMBANNER_LEAVES && replied(0, 0, 2), "leaves", text);
+    expect(call_check(lend_copy(&file_lend, file, 35), 35, least) == SWARMBANNER_LEAVES && replied_four(0, 0, 2, 2), "leaves",
+           text);
 }
 
 static void expressions(void)
