@@ -2,47 +2,11 @@
  * The library with one fault, FAULT, to see that the tests notice it. Linked with `-Wl,--wrap` for each of the calls, so
  * that callers come here and `__real_` is the library.
  */
-#include "swarmbanner.h"
+#include "wrong.h"
 #include "wrong_expression.h"
+#include "wrong_followed.h"
 
 #include <string.h>
-
-#define SPACE_ARGUMENTS file, file_len, space, space_len, reply, reply_len
-#define MEMBER_ARGUMENTS file, file_len, control, contents, contents_len, reply, reply_len
-#define CHECK_ARGUMENTS file, file_len, seen, seen_len, queue, queue_len, contents, contents_len, reply, reply_len
-
-#define REPLAY_ARGUMENTS file, file_len, trace, trace_len, memory, memory_len, record, record_len, reply, reply_len
-
-#define READ(name) \
-    size_t name(const uint8_t *file, size_t file_len, uint8_t *space, size_t space_len, size_t *reply, size_t reply_len)
-#define MEMBER(name) \
-    size_t name(const uint8_t *file, size_t file_len, size_t control, const uint8_t *contents, size_t contents_len, \
-                size_t *reply, size_t reply_len)
-#define CHECK(name) \
-    size_t name(const uint8_t *file, size_t file_len, uint16_t *seen, size_t seen_len, uint16_t *queue, size_t queue_len, \
-                uint8_t *contents, size_t contents_len, size_t *reply, size_t reply_len)
-
-#define WRITE_ARGUMENTS tables, tables_len, buffer, buffer_len, reply, reply_len
-#define WRITE(name) \
-    size_t name(const uint8_t *tables, size_t tables_len, uint8_t *buffer, size_t buffer_len, size_t *reply, \
-                size_t reply_len)
-
-#define REPLAY(name) \
-    size_t name(const uint8_t *file, size_t file_len, const uint8_t *trace, size_t trace_len, uint8_t *memory, \
-                size_t memory_len, size_t *record, size_t record_len, size_t *reply, size_t reply_len)
-
-size_t __real_swarmbanner_layout(void);
-size_t __wrap_swarmbanner_layout(void);
-READ(__real_swarmbanner_read);
-READ(__wrap_swarmbanner_read);
-MEMBER(__real_swarmbanner_member);
-MEMBER(__wrap_swarmbanner_member);
-CHECK(__real_swarmbanner_check);
-CHECK(__wrap_swarmbanner_check);
-REPLAY(__real_swarmbanner_replay);
-REPLAY(__wrap_swarmbanner_replay);
-WRITE(__real_swarmbanner_write);
-WRITE(__wrap_swarmbanner_write);
 
 size_t __wrap_swarmbanner_layout(void)
 {
@@ -68,8 +32,10 @@ static void spoil_word(uint8_t *space)
 
 READ(__wrap_swarmbanner_read)
 {
-    size_t kind = __real_swarmbanner_read(SPACE_ARGUMENTS);
+    struct lent_reply lent = reply_of(reply, reply_len, FAULT == 129);
+    size_t kind = __real_swarmbanner_read(file, file_len, space, space_len, lent.at, lent.length);
 
+    reply_after(&lent, kind, reply, FAULT == 135);
     if (FAULT == 1 && kind == SWARMBANNER_REFUSED)
         space[0] = 0;
     if (FAULT == 2 && kind == SWARMBANNER_READ && space_len > SWARMBANNER_SPACE_LEAST)
@@ -91,8 +57,12 @@ READ(__wrap_swarmbanner_read)
 
 MEMBER(__wrap_swarmbanner_member)
 {
-    size_t kind = __real_swarmbanner_member(MEMBER_ARGUMENTS);
+    struct lent_reply lent = reply_of(reply, reply_len, FAULT == 130);
+    size_t kind = __real_swarmbanner_member(file, file_len, control, contents, contents_len, lent.at, lent.length);
 
+    reply_after(&lent, kind, reply, FAULT == 136);
+    if (kind == SWARMBANNER_YES || kind == SWARMBANNER_NO)
+        follow_asked_wrongly(kind, contents_len, reply);
     if (FAULT == 6 && kind == SWARMBANNER_NO && contents_len > 0)
         kind = SWARMBANNER_YES;
     if (FAULT == 7 && kind == SWARMBANNER_REFUSED && reply[0] == SWARMBANNER_REFUSED_EARLIER)
@@ -112,11 +82,16 @@ static int is_verdict(size_t kind)
 
 CHECK(__wrap_swarmbanner_check)
 {
+    struct lent_reply lent = reply_of(reply, reply_len, FAULT == 128);
     size_t kind;
 
     if (FAULT == 8 && seen_len == SWARMBANNER_TABLE_LEAST - 1)
         seen_len++;
-    kind = __real_swarmbanner_check(CHECK_ARGUMENTS);
+    kind = __real_swarmbanner_check(file, file_len, seen, seen_len, queue, queue_len, contents, contents_len, lent.at,
+                                    lent.length);
+    reply_after(&lent, kind, reply, FAULT == 134);
+    if (kind == SWARMBANNER_LEAVES)
+        follow_step_wrongly(file, file_len, contents, reply);
     if (FAULT == 9 && is_verdict(kind))
         seen[seen_len - 1] = 1;
     if (FAULT == 10 && is_verdict(kind))
@@ -171,13 +146,18 @@ static void spoil_run(uint8_t *memory, size_t memory_len, size_t *record, size_t
 
 REPLAY(__wrap_swarmbanner_replay)
 {
+    struct lent_reply lent = reply_of(reply, reply_len, FAULT == 131);
     size_t kind;
 
     if (FAULT == 31 && trace_len == SWARMBANNER_TRACE_MOST + 1)
         trace_len--;
     if (FAULT == 32 && memory_len % SWARMBANNER_QUEUE_LEAST == SWARMBANNER_QUEUE_LEAST - 1)
         memory_len++;
-    kind = __real_swarmbanner_replay(REPLAY_ARGUMENTS);
+    kind = __real_swarmbanner_replay(file, file_len, trace, trace_len, memory, memory_len, record, record_len, lent.at,
+                                     lent.length);
+    reply_after(&lent, kind, reply, FAULT == 137);
+    if (kind == SWARMBANNER_LEFT)
+        follow_run_wrongly(file, file_len, trace, reply);
     if (has_run(kind))
         spoil_run(memory, memory_len, record, record_len);
     if (FAULT == 33 && kind == SWARMBANNER_REFUSED && memory_len > 0)
@@ -276,9 +256,12 @@ static void spoil_file(uint8_t *buffer, size_t buffer_len, size_t *reply)
 WRITE(__wrap_swarmbanner_write)
 {
     static uint8_t other[SWARMBANNER_SPACE_LEAST], room[SWARMBANNER_FILE_MOST];
-    size_t kind = __real_swarmbanner_write(WRITE_ARGUMENTS);
+    struct lent_reply lent = reply_of(reply, reply_len, FAULT == 132);
+    size_t kind = __real_swarmbanner_write(tables, tables_len, buffer, buffer_len, lent.at, lent.length);
 
-    if (kind == SWARMBANNER_REFUSED && tables_len >= sizeof other && reply[0] == SWARMBANNER_REFUSED_TABLES) {
+    reply_after(&lent, kind, reply, FAULT == 138);
+    if (FAULT >= 44 && FAULT <= 51 && kind == SWARMBANNER_REFUSED && tables_len >= sizeof other &&
+        reply[0] == SWARMBANNER_REFUSED_TABLES) {
         memcpy(other, tables, sizeof other);
         mend(other);
         kind = __real_swarmbanner_write(other, sizeof other, buffer, buffer_len, reply, reply_len);

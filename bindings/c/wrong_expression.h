@@ -2,9 +2,7 @@
 #ifndef WRONG_EXPRESSION_H
 #define WRONG_EXPRESSION_H
 
-#include "swarmbanner.h"
-
-#include <string.h>
+#include "wrong.h"
 
 #define EXPRESSION_ARGUMENTS text, text_len, pool, pool_len, reply, reply_len
 #define EXPRESSION_PARAMETERS \
@@ -346,10 +344,14 @@ static size_t draw(EXPRESSION_PARAMETERS)
 
 EXPRESSION(__wrap_swarmbanner_expression)
 {
+    struct lent_reply lent = reply_of(reply, reply_len, FAULT == 133);
     size_t kind;
 
-    if (FAULT < 73)
-        return __real_swarmbanner_expression(EXPRESSION_ARGUMENTS);
+    if (FAULT < 73 || FAULT > 121) {
+        kind = __real_swarmbanner_expression(text, text_len, pool, pool_len, lent.at, lent.length);
+        reply_after(&lent, kind, reply, FAULT == 139);
+        return kind;
+    }
     kind = draw(EXPRESSION_ARGUMENTS);
     if (kind == SWARMBANNER_DRAWN)
         spoil_pool(pool, pool_len, reply);
