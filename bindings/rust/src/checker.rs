@@ -1,5 +1,5 @@
 use crate::fits::must_fit;
-use crate::lent::{self, CONTENTS_LEAST, TABLE_LEAST};
+use crate::lent::{self, CONTENTS_LEAST, REPLY_LEAST, TABLE_LEAST};
 use crate::{Refusal, Reply};
 
 /// Checks files, one after the other, in memory of its own: two tables of 64 KB each and a buffer of 32 KB.
@@ -10,7 +10,7 @@ use crate::{Refusal, Reply};
 /// let mut checker = swarmbanner::Checker::new();
 /// // Only empty queues are inside, so the first send leads out.
 /// let b = [2, 1, 1, 0, 0, 1, 1, 2, 0, 0, 0, 1, 0, 1, 0, 1, 0, 0, 2, 0, 1, 0, 1, 1, 0, 1, 0];
-/// assert_eq!(checker.check(&b).to_string(), "leaves 0 0 0:");
+/// assert_eq!(checker.check(&b).to_string(), "leaves 0 0 0 0:");
 /// assert_eq!(checker.check(&[]).to_string(), "refused 3 at 0");
 /// ```
 #[derive(Clone)]
@@ -37,14 +37,17 @@ impl Checker {
 
     /// Checks a file.
     pub fn check(&mut self, file: &[u8]) -> Reply {
-        let mut reply = [0; 3];
+        let mut reply = [0; REPLY_LEAST];
         let kind = lent::check(file, &mut self.seen, &mut self.queue, &mut self.contents, &mut reply);
         match kind {
             lent::CLOSED => Reply::Closed { pairs: reply[0] },
             lent::OUTSIDE => Reply::Outside,
-            lent::LEAVES => {
-                Reply::Leaves { control: reply[0], transition: reply[1], contents: self.contents[..reply[2]].to_vec() }
-            }
+            lent::LEAVES => Reply::Leaves {
+                control: reply[0],
+                transition: reply[1],
+                contents: self.contents[..reply[2]].to_vec(),
+                followed: reply[3],
+            },
             lent::BAD => Reply::Bad { entry: reply[0], contents: self.contents[..reply[1]].to_vec() },
             lent::REFUSED => Reply::Refused(Refusal::told(&reply)),
             _ => unreachable!("checking with room for a reply answers no kind {kind}"),
@@ -76,33 +79,4 @@ impl std::fmt::Debug for Checker {
 /// ```
 pub fn check(file: &[u8]) -> Reply {
     Checker::new().check(file)
-}
-
-/// Says whether contents, one byte for each message and queue after queue, belong to the set of a control state.
-///
-/// # Errors
-///
-/// Fails where the file is not a session file, and where it has no such control state (11) or message (12), or the
-/// messages are not queue after queue (13).
-///
-/// # Panics
-///
-/// Panics where the library has another layout than this crate ([`lent::LAYOUT`]).
-///
-/// ```
-/// // Queue 0 has message 0, queue 1 has message 1; inside are any 0s, then any 1s.
-/// let s = [1, 1, 0, 2, 1, 1, 1, 0, 0, 0, 1, 0, 1, 0, 2, 1, 2, 0, 0, 1, 1, 1, 1, 1, 1, 1, 0];
-/// assert_eq!(swarmbanner::member(&s, 0, &[0, 1]), Ok(true));
-/// assert_eq!(swarmbanner::member(&s, 0, &[1, 0]).unwrap_err().to_string(), "refused 13 at 1");
-/// ```
-pub fn member(file: &[u8], control: usize, contents: &[u8]) -> Result<bool, Refusal> {
-    must_fit();
-    let mut reply = [0; 3];
-    let kind = lent::member(file, control, contents, &mut reply);
-    match kind {
-        lent::YES => Ok(true),
-        lent::NO => Ok(false),
-        lent::REFUSED => Err(Refusal::told(&reply)),
-        _ => unreachable!("membership with room for a reply answers no kind {kind}"),
-    }
 }

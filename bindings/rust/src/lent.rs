@@ -1,6 +1,6 @@
 //! The calls as they are, on memory that the caller lends; `include/swarmbanner.h` says what each promises.
 //!
-//! A call returns the kind of its reply and puts the three numbers that go with it into the front of `reply`. All of them
+//! A call returns the kind of its reply and puts the four numbers that go with it into the front of `reply`, 0 where there are fewer. All of them
 //! take slices of any length and with anything in them. They do not ask whether the library has the layout of this crate;
 //! who calls them compares [`layout`] with [`LAYOUT`] first, as the typed calls do.
 //!
@@ -8,9 +8,9 @@
 //! use swarmbanner::lent;
 //!
 //! assert_eq!(lent::layout(), lent::LAYOUT);
-//! let mut reply = [7; 3];
+//! let mut reply = [7; 4];
 //! assert_eq!(lent::check(&[], &mut [], &mut [], &mut [], &mut reply), lent::REFUSED);
-//! assert_eq!(reply, [2, 0, 0]); // lent memory too short
+//! assert_eq!(reply, [2, 0, 0, 0]); // lent memory too short
 //! ```
 
 pub mod at;
@@ -19,7 +19,8 @@ pub mod at;
 pub const CLOSED: usize = 0;
 /// Empty queues are not in the set of the starting control state.
 pub const OUTSIDE: usize = 1;
-/// A step leads outside. With it go the control state, the transition and the number of messages shown.
+/// A step leads outside. With it go the control state, the transition, the number of messages shown, and how many of the messages
+/// after the step the set that it leads to follows; 0 where that has no root.
 pub const LEAVES: usize = 2;
 /// Contents of a set are bad. With it go the bad entry and the number of messages shown.
 pub const BAD: usize = 3;
@@ -29,13 +30,15 @@ pub const REFUSED: usize = 4;
 pub const NO_ROOM: usize = 5;
 /// The file was read.
 pub const READ: usize = 6;
-/// The contents belong to the set.
+/// The contents belong to the set. With it goes how many messages were followed, which is all of them.
 pub const YES: usize = 7;
-/// The contents do not belong to the set.
+/// The contents do not belong to the set. With it goes how many messages were followed before there was no arc for the next one;
+/// all of them where the last state is not final, 0 where there is no root.
 pub const NO: usize = 8;
 /// A replay is at the end of its trace. With it go the steps taken.
 pub const END: usize = 9;
-/// A replay is at a configuration outside the map. With it go the steps taken.
+/// A replay is at a configuration outside the map. With it go the steps taken, and how many of the messages that wait its set
+/// follows.
 pub const LEFT: usize = 10;
 /// A step of a trace is turned away. With it go the number, the place in the trace and the steps taken.
 pub const STEP_REFUSED: usize = 11;
@@ -49,7 +52,7 @@ pub const WRITTEN: usize = 14;
 pub const DRAWN: usize = 15;
 
 /// The number of the layout that this crate is written for, SWARMBANNER_LAYOUT of the header. [`layout`] is the library's.
-pub const LAYOUT: usize = 2;
+pub const LAYOUT: usize = 3;
 
 /// Bytes that a file can have.
 pub const FILE_MOST: usize = 16_384;
@@ -79,7 +82,7 @@ pub const POOL_STATES_MOST: usize = 127;
 pub const BAD_ENTRIES_MOST: usize = 64;
 
 /// Entries that `reply` needs.
-pub const REPLY_LEAST: usize = 3;
+pub const REPLY_LEAST: usize = 4;
 /// Bytes that the tables of a file need.
 pub const SPACE_LEAST: usize = at::BAD + BAD_ENTRIES_MOST * at::BAD_ROW;
 /// Entries that each scratch table of a check needs.
@@ -188,7 +191,7 @@ pub fn read(file: &[u8], space: &mut [u8], reply: &mut [usize]) -> usize {
 ///
 /// // Only empty queues are inside; then nothing is, as the only diagram state is not final any more.
 /// let b = [2, 1, 1, 0, 0, 1, 1, 2, 0, 0, 0, 1, 0, 1, 0, 1, 0, 0, 2, 0, 1, 0, 1, 1, 0, 1, 0];
-/// let (mut tables, mut buffer, mut reply) = ([0; SPACE_LEAST], [0; FILE_MOST], [0; 3]);
+/// let (mut tables, mut buffer, mut reply) = ([0; SPACE_LEAST], [0; FILE_MOST], [0; 4]);
 /// assert_eq!(lent::read(&b, &mut tables, &mut reply), lent::READ);
 /// tables[at::FINALS] = 0;
 /// assert_eq!(lent::write(&tables, &mut buffer, &mut reply), lent::WRITTEN);
@@ -209,7 +212,18 @@ pub fn write(tables: &[u8], buffer: &mut [u8], reply: &mut [usize]) -> usize {
     }
 }
 
-/// Asks whether contents belong to a control state: [`YES`], [`NO`], [`REFUSED`] or [`NO_ROOM`].
+/// Asks whether contents belong to a control state, and how far its diagram follows them: [`YES`], [`NO`], [`REFUSED`] or
+/// [`NO_ROOM`].
+///
+/// ```
+/// use swarmbanner::lent;
+///
+/// // One message 0 may wait.
+/// let c = [2, 1, 1, 0, 0, 1, 1, 2, 0, 0, 0, 1, 0, 1, 0, 1, 0, 0, 2, 0, 1, 0, 2, 1, 1, 0, 1, 1, 0, 1, 0];
+/// let mut reply = [7; 4];
+/// assert_eq!(lent::member(&c, 0, &[0, 0, 0], &mut reply), lent::NO);
+/// assert_eq!(reply, [1, 0, 0, 0]); // the second has no arc
+/// ```
 pub fn member(file: &[u8], control: usize, contents: &[u8], reply: &mut [usize]) -> usize {
     // SAFETY: each pointer and length are of one slice. Only `reply` is written to, and it is borrowed exclusively; the
     // other two may be the same, as both are only read.
@@ -283,16 +297,16 @@ pub fn replay(file: &[u8], trace: &[u8], memory: &mut [u8], record: &mut [usize]
 ///
 /// // Message 0 is sent and received; as it is, any number of them may wait.
 /// let r = [2, 1, 1, 0, 0, 1, 1, 2, 0, 0, 0, 1, 0, 1, 0, 1, 0, 0, 2, 0, 1, 0, 1, 1, 1, 0, 0, 1, 0];
-/// let (mut tables, mut pool, mut buffer, mut reply) = ([0; SPACE_LEAST], [0; POOL_LEAST], [0; FILE_MOST], [0; 3]);
+/// let (mut tables, mut pool, mut buffer, mut reply) = ([0; SPACE_LEAST], [0; POOL_LEAST], [0; FILE_MOST], [0; 4]);
 /// assert_eq!(lent::read(&r, &mut tables, &mut reply), lent::READ);
 ///
 /// // Now none or one.
 /// assert_eq!(lent::expression(b"|0", &mut pool, &mut reply), lent::DRAWN);
-/// assert_eq!(reply, [0, 2, 0]);
+/// assert_eq!(reply, [0, 2, 0, 0]);
 /// tables[at::COUNTS + 4] = reply[1] as u8;
 /// tables[at::FINALS..at::ROOTS].copy_from_slice(&pool);
 /// assert_eq!(lent::write(&tables, &mut buffer, &mut reply), lent::WRITTEN);
-/// assert_eq!(swarmbanner::check(&buffer[..reply[0]]).to_string(), "leaves 0 0 1: 0");
+/// assert_eq!(swarmbanner::check(&buffer[..reply[0]]).to_string(), "leaves 0 0 1 1: 0");
 /// ```
 pub fn expression(text: &[u8], pool: &mut [u8], reply: &mut [usize]) -> usize {
     // SAFETY: each pointer and length are of one slice. Those written to are borrowed exclusively, so they overlap nothing.

@@ -21,7 +21,7 @@
 //! |---|---|
 //! | check one file | [`check`] |
 //! | check many files in the same memory | [`Checker`] |
-//! | ask whether contents lie in a set | [`member`] |
+//! | ask whether contents lie in a set | [`member`]; [`membership`] says how far they are followed, too |
 //! | see what a file has in it | [`read`] and [`Session`] |
 //! | make a session, or change one | [`Session::new`] and the methods after it |
 //! | make a file of a session | [`Session::write`] |
@@ -33,7 +33,7 @@
 //! | lend memory of one's own | [`lent`] |
 //!
 //! The library must have the layout that this crate is written for, [`lent::LAYOUT`]; with any other, [`check`], [`Checker::new`],
-//! [`member`], [`read`], [`Session::write`], [`Session::write_into`], [`replay`], [`Replayer::new`] and [`expression`] panic.
+//! [`member`], [`membership`], [`read`], [`Session::write`], [`Session::write_into`], [`replay`], [`Replayer::new`] and [`expression`] panic.
 //!
 //! Replies, contents shown, tables, files written, records, queues and diagrams come from the proved library. What this crate does with them,
 //! the methods of [`Session`] among it, is plain Rust that was tested and not proved.
@@ -45,13 +45,15 @@ mod checker;
 mod fits;
 #[allow(unsafe_code)]
 pub mod lent;
+mod membership;
 mod refusal;
 mod replay;
 mod reply;
 mod session;
 mod way;
 
-pub use checker::{check, member, Checker};
+pub use checker::{check, Checker};
+pub use membership::{member, membership, Membership};
 pub use refusal::Refusal;
 pub use replay::{replay, Configuration, Record, Replayed, Replayer};
 pub use reply::Reply;

@@ -1,6 +1,8 @@
 use std::error::Error;
 use std::fmt;
 
+use crate::lent::REPLY_LEAST;
+
 /// Why a file, a question, a step of a trace, tables to be written or an expression are turned away.
 ///
 /// ```
@@ -21,7 +23,7 @@ pub struct Refusal {
 
 impl Refusal {
     /// From the first two numbers of a reply.
-    pub(crate) fn told(reply: &[usize; 3]) -> Self {
+    pub(crate) fn told(reply: &[usize; REPLY_LEAST]) -> Self {
         let number = u8::try_from(reply[0]).expect("refusals are numbered 1 to 22");
         Refusal { number, place: reply[1] }
     }

@@ -1,7 +1,7 @@
 use std::fmt;
 
 use crate::fits::must_fit;
-use crate::lent::{self, at, MACHINES_MOST, QUEUES_MOST, QUEUE_LEAST, RECORD_LEAST, SPACE_LEAST};
+use crate::lent::{self, at, MACHINES_MOST, QUEUES_MOST, QUEUE_LEAST, RECORD_LEAST, REPLY_LEAST, SPACE_LEAST};
 use crate::Refusal;
 
 /// How a replay ended. Its `Display` is the first line that `bin/swarmbanner-replay` prints.
@@ -16,6 +16,9 @@ pub enum Replayed {
     Outside {
         /// How many steps were taken.
         steps: usize,
+        /// How far the set of the last control state follows what waits, queue after queue: how many messages it takes before it
+        /// has no arc for the next one; all of them where it ends in a state that is not final, 0 where it has no root.
+        followed: usize,
     },
     /// At a step that is turned away, by 3, 4, 5, 14 or 15 and with a place in the trace.
     Refused {
@@ -34,10 +37,10 @@ pub enum Replayed {
 
 impl Replayed {
     /// From a kind and the numbers that go with it.
-    fn told(kind: usize, reply: &[usize; 3]) -> Self {
+    fn told(kind: usize, reply: &[usize; REPLY_LEAST]) -> Self {
         match kind {
             lent::END => Replayed::End { steps: reply[0] },
-            lent::LEFT => Replayed::Outside { steps: reply[0] },
+            lent::LEFT => Replayed::Outside { steps: reply[0], followed: reply[1] },
             lent::STEP_REFUSED => Replayed::Refused { refusal: Refusal::told(reply), steps: reply[2] },
             lent::REFUSED => Replayed::FileRefused(Refusal::told(reply)),
             lent::TRACE_REFUSED => Replayed::TraceRefused(Refusal::told(reply)),
@@ -49,7 +52,7 @@ impl Replayed {
     /// How many steps were taken; none where nothing was replayed, so that record and memory are as they were.
     pub fn steps(&self) -> Option<usize> {
         match self {
-            Replayed::End { steps } | Replayed::Outside { steps } | Replayed::Refused { steps, .. } => Some(*steps),
+            Replayed::End { steps } | Replayed::Outside { steps, .. } | Replayed::Refused { steps, .. } => Some(*steps),
             _ => None,
         }
     }
@@ -58,7 +61,12 @@ impl Replayed {
     pub fn explain(&self) -> String {
         match self {
             Replayed::End { .. } => "the trace is at its end, and every configuration is inside the map".to_string(),
-            Replayed::Outside { .. } => "the last configuration is outside the map".to_string(),
+            Replayed::Outside { followed, .. } => {
+                let messages = if *followed == 1 { "message" } else { "messages" };
+                format!(
+                    "the last configuration is outside the map; its set follows {followed} {messages} of what waits"
+                )
+            }
             Replayed::Refused { refusal, .. } => {
                 let cause = match refusal.number {
                     3 => "the bytes end inside a number",
@@ -78,7 +86,7 @@ impl fmt::Display for Replayed {
     fn fmt(&self, f: &mut fmt::Formatter<'_>) -> fmt::Result {
         match self {
             Replayed::End { steps } => write!(f, "end {steps}"),
-            Replayed::Outside { steps } => write!(f, "outside {steps}"),
+            Replayed::Outside { steps, followed } => write!(f, "outside {steps} {followed}"),
             Replayed::Refused { refusal, steps } => write!(f, "{refusal} after {steps}"),
             Replayed::FileRefused(refusal) => write!(f, "file {refusal}"),
             Replayed::TraceRefused(refusal) => write!(f, "trace {refusal}"),
@@ -139,7 +147,7 @@ impl Record {
 /// ```
 pub fn replay(file: &[u8], trace: &[u8], memory: &mut [u8], record: &mut Record) -> Replayed {
     must_fit();
-    let (mut numbers, mut reply) = (record.numbers(), [0; 3]);
+    let (mut numbers, mut reply) = (record.numbers(), [0; REPLY_LEAST]);
     let kind = lent::replay(file, trace, memory, &mut numbers, &mut reply);
     *record = Record::of(&numbers);
     Replayed::told(kind, &reply)
@@ -223,7 +231,7 @@ impl Replayer {
 
 /// The numbers of machines and queues of a file that is read.
 fn counts_of(file: &[u8]) -> (usize, usize) {
-    let (mut space, mut reply) = ([0; SPACE_LEAST], [0; 3]);
+    let (mut space, mut reply) = ([0; SPACE_LEAST], [0; REPLY_LEAST]);
     match lent::read(file, &mut space, &mut reply) {
         lent::READ => (space[at::COUNTS].into(), space[at::COUNTS + 1].into()),
         kind => unreachable!("reading a file that was replayed answers no kind {kind}"),

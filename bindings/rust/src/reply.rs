@@ -25,6 +25,9 @@ pub enum Reply {
         transition: usize,
         /// The contents before the step.
         contents: Vec<u8>,
+        /// How far the set that the step leads to follows the contents **after** the step: how many messages it takes before it has
+        /// no arc for the next one; all of them where it ends in a state that is not final, 0 where it has no root.
+        followed: usize,
     },
     /// Contents inside are listed as bad.
     Bad {
@@ -49,12 +52,12 @@ impl fmt::Display for Reply {
         match self {
             Reply::Closed { pairs } => write!(f, "closed {pairs}"),
             Reply::Outside => write!(f, "outside"),
-            Reply::Leaves { control, transition, contents } => {
-                write!(f, "leaves {control} {transition} ")?;
+            Reply::Leaves { control, transition, contents, followed } => {
+                write!(f, "leaves {control} {transition} {} {followed}:", contents.len())?;
                 shown(f, contents)
             }
             Reply::Bad { entry, contents } => {
-                write!(f, "bad {entry} ")?;
+                write!(f, "bad {entry} {}:", contents.len())?;
                 shown(f, contents)
             }
             Reply::Refused(refusal) => refusal.fmt(f),
@@ -63,6 +66,5 @@ impl fmt::Display for Reply {
 }
 
 fn shown(f: &mut fmt::Formatter<'_>, contents: &[u8]) -> fmt::Result {
-    write!(f, "{}:", contents.len())?;
     contents.iter().try_for_each(|message| write!(f, " {message}"))
 }

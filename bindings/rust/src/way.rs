@@ -23,20 +23,43 @@ pub struct Way {
 }
 
 impl Way {
-    /// Follows contents from a root.
-    pub fn follow(session: &Session, root: Option<DiagramState>, contents: &[u8]) -> Self {
+    /// The way of contents of which so many messages are followed from a root, as a reply says; of contents that are inside it is
+    /// all of them. None where the session has no such way, as the reply is on another one.
+    ///
+    /// ```
+    /// use swarmbanner::{End, Way};
+    ///
+    /// // One message 0 may wait.
+    /// let c = [2, 1, 1, 0, 0, 1, 1, 2, 0, 0, 0, 1, 0, 1, 0, 1, 0, 0, 2, 0, 1, 0, 2, 1, 1, 0, 1, 1, 0, 1, 0];
+    /// let (session, contents) = (swarmbanner::read(&c)?, [0, 0, 0]);
+    /// let followed = swarmbanner::membership(&c, 0, &contents)?.followed;
+    /// let way = Way::followed(&session, session.root(0), &contents, followed).expect("the reply is on this file");
+    /// assert_eq!((way.states.len(), way.end), (2, End::Nowhere));
+    /// assert_eq!(way.lost(), Some((session.state(1).unwrap(), 0)));
+    /// # Ok::<(), swarmbanner::Refusal>(())
+    /// ```
+    pub fn followed(session: &Session, root: Option<DiagramState>, contents: &[u8], followed: usize) -> Option<Self> {
         let mut states: Vec<DiagramState> = root.into_iter().collect();
-        for &message in contents {
-            let Some(next) = states.last().and_then(|&state| session.arc(state, message)) else { break };
-            states.push(next);
+        for &message in contents.get(..followed)? {
+            states.push(session.arc(*states.last()?, message)?);
         }
-        let is_whole = states.len() == contents.len() + 1;
         let end = match states.last() {
-            Some(&last) if is_whole && session.is_final(last) => End::Final,
-            Some(_) if is_whole => End::NotFinal,
+            Some(&last) if followed == contents.len() && session.is_final(last) => End::Final,
+            Some(_) if followed == contents.len() => End::NotFinal,
             _ => End::Nowhere,
         };
-        Way { states, contents: contents.to_vec(), end }
+        Some(Way { states, contents: contents.to_vec(), end })
+    }
+
+    /// Follows contents from a root, in plain Rust; where a reply says how far they are followed, [`Way::followed`] goes by that.
+    pub fn follow(session: &Session, root: Option<DiagramState>, contents: &[u8]) -> Self {
+        let mut reached = root;
+        let leads = |&&message: &&u8| {
+            reached = reached.and_then(|state| session.arc(state, message));
+            reached.is_some()
+        };
+        let followed = contents.iter().take_while(leads).count();
+        Way::followed(session, root, contents, followed).expect("so many messages lead somewhere")
     }
 
     /// The messages at which the way leaves a state by an arc, counted from 1.
@@ -77,22 +100,23 @@ pub enum Failure {
 }
 
 impl Failure {
-    /// What a reply shows; none where it shows no contents.
+    /// What a reply shows; none where it shows no contents, or is on another session. How far the contents after a step are followed
+    /// is what the reply says.
     pub fn shown(session: &Session, reply: &Reply) -> Option<Self> {
-        let inside = |control: usize, contents: &[u8]| {
-            let way = Way::follow(session, session.root(control), contents);
-            (control, way)
+        let way = |control: usize, contents: &[u8], followed: usize| {
+            let way = Way::followed(session, session.root(control), contents, followed)?;
+            Some((control, way))
         };
         match reply {
-            Reply::Leaves { control, transition, contents } => {
+            Reply::Leaves { control, transition, contents, followed } => {
                 let (target, after) = session.step(*control, *transition, contents)?;
-                let (before, after) = (inside(*control, contents), inside(target, &after));
-                Some(Failure::Leaves { before, transition: *transition, after })
+                let before = way(*control, contents, contents.len())?;
+                Some(Failure::Leaves { before, transition: *transition, after: way(target, &after, *followed)? })
             }
             Reply::Bad { entry, contents } => {
                 let listed = session.bad_entries().get(*entry)?;
-                let bad = Way::follow(session, Some(listed.root), contents);
-                Some(Failure::Bad { entry: *entry, inside: inside(listed.control, contents), bad })
+                let bad = Way::followed(session, Some(listed.root), contents, contents.len())?;
+                Some(Failure::Bad { entry: *entry, inside: way(listed.control, contents, contents.len())?, bad })
             }
             _ => None,
         }

@@ -2,15 +2,18 @@
 
 use std::path::Path;
 
-use swarmbanner::{check, lent, member, read, Checker, Kind, Refusal, Reply};
+use swarmbanner::{check, lent, member, membership, read, Checker, Kind, Membership, Refusal, Reply};
 
 const R: &str = "02 01 01 00 00 01 01 02 00 00 00 01 00 01 00 01 00 00 02 00 01 00 01 01 01 00 00 01 00";
 const S: &str = "01 01 00 02 01 01 01 00 00 00 01 00 01 00 02 01 02 00 00 01 01 01 01 01 01 01 00";
 
 const LETTERED: [(&str, &str); 14] = [
     (R, "closed 4"),
-    ("02 01 01 00 00 01 01 02 00 00 00 01 00 01 00 01 00 00 02 00 01 00 01 01 00 01 00", "leaves 0 0 0:"),
-    ("02 01 01 00 00 01 01 02 00 00 00 01 00 01 00 01 00 00 02 00 01 00 02 01 01 00 01 01 00 01 00", "leaves 0 0 1: 0"),
+    ("02 01 01 00 00 01 01 02 00 00 00 01 00 01 00 01 00 00 02 00 01 00 01 01 00 01 00", "leaves 0 0 0 0:"),
+    (
+        "02 01 01 00 00 01 01 02 00 00 00 01 00 01 00 01 00 00 02 00 01 00 02 01 01 00 01 01 00 01 00",
+        "leaves 0 0 1 1: 0",
+    ),
     ("02 01 01 00 00 01 01 02 00 00 00 01 00 01 00 01 00 00 02 00 01 00 01 00 01 00 00 01 00", "outside"),
     ("02 01 01 00 00 01 01 02 00 00 00 01 00 01 00 01 00 00 02 00 01 00 01 01 01 00 00 01 01 00 00", "bad 0 0:"),
     (S, "closed 3"),
@@ -56,7 +59,7 @@ fn lettered_cases_are_written_back() {
 }
 
 #[test]
-fn membership() {
+fn yes_or_no() {
     let refused = |number, place| Err(Refusal { number, place });
     assert_eq!(member(&hex(S), 0, &[0, 1]), Ok(true));
     assert_eq!(member(&hex(S), 0, &[]), Ok(true));
@@ -68,39 +71,85 @@ fn membership() {
     assert_eq!(member(&hex(LETTERED[1].0), 0, &[0]), Ok(false));
 }
 
+/// Of a yes all messages are followed; of a no those before the one that has no arc, all where the end is not final, none where there
+/// is no root.
+#[test]
+fn messages_followed() {
+    let followed =
+        |file: &str, control, contents: &[u8]| membership(&hex(file), control, contents).map(|said| said.to_string());
+    let said = |line: &str| Ok(line.to_string());
+    assert_eq!(followed(S, 0, &[]), said("yes 0"));
+    assert_eq!(followed(S, 0, &[0, 0, 0, 1, 1]), said("yes 5"));
+    assert_eq!(followed(S, 0, &[1, 0]), Err(Refusal { number: 13, place: 1 }));
+    assert_eq!(followed(LETTERED[1].0, 0, &[0]), said("no 0"));
+    assert_eq!(followed(LETTERED[2].0, 0, &[0, 0, 0]), said("no 1"));
+    assert_eq!(followed(LETTERED[3].0, 0, &[0, 0, 0]), said("no 3"));
+    assert_eq!(followed(LETTERED[3].0, 0, &[]), said("no 0"));
+    assert_eq!(followed(NO_ROOT, 1, &[0, 0]), said("no 0"));
+    assert_eq!(membership(&hex(R), 0, &[0]), Ok(Membership { is_inside: true, followed: 1 }));
+    assert_eq!(membership(&hex(LETTERED[2].0), 0, &[0, 0]), Ok(Membership { is_inside: false, followed: 1 }));
+}
+
+/// One state, and 0 1 2 is sent.
+const SENT: &str = "01 01 00 01 03 01 00 00 00 01 00 03 00 01 02";
+/// Of three states 0 goes to 1 with 0 0 in the queue, and 2 is the start.
+const LOCAL: &str = "01 03 02 01 01 01 00 00 01 00 03 00 01 00 01 00 01 00 02 01 00";
+const NO_ROOT: &str = "01 03 02 01 01 01 00 00 01 00 03 00 01 00 01 00 01 00 02 01 00 01 00 03 00";
+
+/// What is followed after a step is said of the contents after it, in the set that it leads to: membership says the same of them.
+#[test]
+fn messages_followed_after_a_step() {
+    let lines = [
+        (format!("{SENT} 03 01 01 00 01 00 01 01 02 00 00 01 00"), "leaves 0 0 0 2:"),
+        (format!("{SENT} 04 01 01 00 01 00 01 01 02 00 01 02 03 00 00 01 00"), "leaves 0 0 0 3:"),
+        (NO_ROOT.to_string(), "leaves 0 0 2 0: 0 0"),
+        (format!("{LOCAL} 01 02 03 00"), "leaves 0 0 2 1: 0 0"),
+        (LETTERED[1].0.to_string(), "leaves 0 0 0 0:"),
+        (LETTERED[2].0.to_string(), "leaves 0 0 1 1: 0"),
+    ];
+    for (file, line) in lines {
+        let (file, session) = (hex(&file), read(&hex(&file)).expect(line));
+        let reply = check(&file);
+        assert_eq!(reply.to_string(), line);
+        let Reply::Leaves { control, transition, contents, followed } = reply else { panic!("{line}") };
+        let (target, after) = session.step(control, transition, &contents).expect("the step can be taken");
+        assert_eq!(membership(&file, target, &after), Ok(Membership { is_inside: false, followed }), "{line}");
+    }
+}
+
 #[test]
 fn long_files_are_refused_before_short_memory() {
-    let mut reply = [0; 3];
+    let mut reply = [7; 4];
     assert_eq!(lent::check(&[1; 16_385], &mut [], &mut [], &mut [], &mut reply), lent::REFUSED);
-    assert_eq!(reply, [1, 16_384, 0]);
+    assert_eq!(reply, [1, 16_384, 0, 0]);
     assert_eq!(check(&[1; 16_385]).to_string(), "refused 1 at 16384");
 }
 
 #[test]
 fn memory_that_is_just_enough_and_one_short() {
     let lend = |seen: usize, queue: usize, contents: usize| {
-        let mut reply = [0; 3];
+        let mut reply = [7; 4];
         let (mut seen, mut queue, mut contents) = (vec![1; seen], vec![1; queue], vec![1; contents]);
         let kind = lent::check(&hex(R), &mut seen, &mut queue, &mut contents, &mut reply);
         (kind, reply, seen.iter().chain(&queue).all(|&entry| entry == 0))
     };
-    assert_eq!(lend(32_512, 32_512, 32_768), (lent::CLOSED, [4, 0, 0], true));
+    assert_eq!(lend(32_512, 32_512, 32_768), (lent::CLOSED, [4, 0, 0, 0], true));
     for (seen, queue, contents) in [(32_511, 32_512, 32_768), (32_512, 32_511, 32_768), (32_512, 32_512, 32_767)] {
-        assert_eq!(lend(seen, queue, contents), (lent::REFUSED, [2, 0, 0], false));
+        assert_eq!(lend(seen, queue, contents), (lent::REFUSED, [2, 0, 0, 0], false));
     }
 }
 
 #[test]
 fn no_room_touches_nothing() {
-    let mut reply = [9; 2];
+    let mut reply = [9; 3];
     assert_eq!(lent::read(&hex(R), &mut [5; 7409], &mut reply), lent::NO_ROOM);
     assert_eq!(lent::member(&hex(R), 0, &[], &mut reply), lent::NO_ROOM);
     assert_eq!(lent::check(&hex(R), &mut [], &mut [], &mut [], &mut reply), lent::NO_ROOM);
     assert_eq!(lent::write(&[], &mut [], &mut reply), lent::NO_ROOM);
-    assert_eq!(reply, [9; 2]);
-    let (mut space, mut reply) = ([5; 7408], [9; 3]);
+    assert_eq!(reply, [9; 3]);
+    let (mut space, mut reply) = ([5; 7408], [9; 4]);
     assert_eq!(lent::read(&hex(R), &mut space, &mut reply), lent::NO_ROOM);
-    assert_eq!((space, reply), ([5; 7408], [9; 3]));
+    assert_eq!((space, reply), ([5; 7408], [9; 4]));
 }
 
 /// Two states, messages 1 to 16 in queue 1.
@@ -120,7 +169,7 @@ fn with_words(sent: u8, received: u8) -> Vec<u8> {
 
 #[test]
 fn rows_of_words_of_sixteen() {
-    let (mut space, mut reply) = ([5; lent::SPACE_LEAST + 1], [9; 3]);
+    let (mut space, mut reply) = ([5; lent::SPACE_LEAST + 1], [9; 4]);
     assert_eq!(lent::read(&with_words(16, 16), &mut space, &mut reply), lent::READ);
     let sent = [0, 0, 1, 1, 1, 16, 1, 2, 3, 4, 5, 6, 7, 8, 9, 10, 11, 12, 13, 14, 15, 16];
     let received = [0, 1, 0, 2, 1, 16, 16, 15, 14, 13, 12, 11, 10, 9, 8, 7, 6, 5, 4, 3, 2, 1];
@@ -161,8 +210,8 @@ fn contents_that_hold_a_received_word_of_sixteen() {
     file.extend([1, 0, 1, 2, 0]);
     let contents: Vec<u8> = (0..=16).collect();
     let reply = check(&file);
-    assert_eq!(reply, Reply::Leaves { control: 1, transition: 0, contents: contents.clone() });
-    assert_eq!(reply.to_string(), "leaves 1 0 17: 0 1 2 3 4 5 6 7 8 9 10 11 12 13 14 15 16");
+    assert_eq!(reply, Reply::Leaves { control: 1, transition: 0, contents: contents.clone(), followed: 1 });
+    assert_eq!(reply.to_string(), "leaves 1 0 17 1: 0 1 2 3 4 5 6 7 8 9 10 11 12 13 14 15 16");
     let session = read(&file).expect("it is a session file");
     assert_eq!(session.step(1, 0, &contents), Some((1, vec![0])));
     assert_eq!((member(&file, 1, &contents), member(&file, 1, &[0])), (Ok(true), Ok(false)));
@@ -198,13 +247,13 @@ fn samples() {
         ("half-duplex", "closed 48"),
         ("alternating-bit", "closed 180"),
         ("producer-consumer", "closed 190"),
-        ("producer-consumer-leaves", "leaves 1 16 1: 0"),
+        ("producer-consumer-leaves", "leaves 1 16 1 2: 0"),
         ("producer-consumer-bad", "bad 0 1: 4"),
         ("takeover-two-feeds", "bad 0 4: 0 1 3 2"),
         ("takeover-sequenced", "closed 173"),
         ("sliding-window", "closed 1080"),
         ("logon-burst", "closed 97"),
-        ("logon-burst-leaves", "leaves 3 1 11: 0 1 2 3 4 5 6 7 8 9 10"),
+        ("logon-burst-leaves", "leaves 3 1 11 11: 0 1 2 3 4 5 6 7 8 9 10"),
     ];
     for (name, line) in lines {
         assert_eq!(check(&sample(&format!("{name}.session"))).to_string(), line, "{name}");

@@ -159,17 +159,17 @@ fn pools_of_any_length() {
     let mut expected = vec![0; POOL_LEAST];
     expected[1] = 1;
     expected[at::ARCS - at::FINALS + 3] = 2;
-    assert_eq!(call(b"3", POOL_LEAST, 3), (lent::DRAWN, expected.clone(), vec![0, 2, 0]));
+    assert_eq!(call(b"3", POOL_LEAST, 4), (lent::DRAWN, expected.clone(), vec![0, 2, 0, 0]));
     expected.extend([0xaa; 40]);
-    assert_eq!(call(b"3", POOL_LEAST + 40, 5), (lent::DRAWN, expected, vec![0, 2, 0, 7, 7]));
+    assert_eq!(call(b"3", POOL_LEAST + 40, 6), (lent::DRAWN, expected, vec![0, 2, 0, 0, 7, 7]));
     for text in [&b"3"[..], b"03", b"32", &[b' '; 257]] {
-        for (pool_length, reply_length) in [(0, 0), (POOL_LEAST - 1, 3), (POOL_LEAST, 2), (POOL_LEAST + 1, 0), (0, 9)] {
+        for (pool_length, reply_length) in [(0, 0), (POOL_LEAST - 1, 4), (POOL_LEAST, 3), (POOL_LEAST + 1, 0), (0, 9)] {
             let untouched = (lent::NO_ROOM, vec![0xaa; pool_length], vec![7; reply_length]);
             assert_eq!(call(text, pool_length, reply_length), untouched, "no room is told before a refusal");
         }
     }
-    assert_eq!(call(b"03", POOL_LEAST, 4), (lent::REFUSED, vec![0xaa; POOL_LEAST], vec![19, 1, 0, 7]));
-    assert_eq!(call(b"32", POOL_LEAST, 3), (lent::REFUSED, vec![0xaa; POOL_LEAST], vec![5, 0, 0]));
+    assert_eq!(call(b"03", POOL_LEAST, 5), (lent::REFUSED, vec![0xaa; POOL_LEAST], vec![19, 1, 0, 0, 7]));
+    assert_eq!(call(b"32", POOL_LEAST, 4), (lent::REFUSED, vec![0xaa; POOL_LEAST], vec![5, 0, 0, 0]));
 }
 
 /// splitmix64
@@ -304,7 +304,7 @@ fn a_diagram_behind_the_states_of_a_session() {
     let arcs = |number: usize| session.arc(state(number), 0).map(|target| target.index());
     assert_eq!([0, 1, 2, 3, 4, 5].map(arcs), [Some(0), Some(2), Some(3), None, Some(5), Some(5)]);
     assert_eq!(session.root(0).map(|root| root.index()), Some(0), "roots are as they were");
-    for (root, verdict) in [(first, "leaves 0 0 2: 0 0"), (second, "closed 7")] {
+    for (root, verdict) in [(first, "leaves 0 0 2 2: 0 0"), (second, "closed 7")] {
         session.set_root(0, Some(root)).expect("it is a state");
         let file = session.write().expect("words are in queue order");
         assert_eq!(swarmbanner::check(&file).to_string(), verdict);

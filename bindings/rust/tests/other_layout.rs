@@ -2,7 +2,9 @@
 
 use std::panic::{catch_unwind, UnwindSafe};
 
-use swarmbanner::{check, expression, lent, member, read, replay, Checker, Machine, Record, Replayer, Session};
+use swarmbanner::{
+    check, expression, lent, member, membership, read, replay, Checker, Machine, Record, Replayer, Session,
+};
 
 /// What a call panics with.
 fn said<T>(call: impl FnOnce() -> T + UnwindSafe) -> Option<String> {
@@ -18,6 +20,7 @@ fn typed_calls_panic() {
     assert_eq!(said(|| check(&[])), Some(why.clone()));
     assert_eq!(said(Checker::new), Some(why.clone()));
     assert_eq!(said(|| member(&[], 0, &[])), Some(why.clone()));
+    assert_eq!(said(|| membership(&[], 0, &[])), Some(why.clone()));
     assert_eq!(said(|| read(&[])), Some(why.clone()));
     assert_eq!(said(|| replay(&[], &[], &mut [], &mut Record::default())), Some(why.clone()));
     assert_eq!(said(Replayer::new), Some(why.clone()));

@@ -53,14 +53,14 @@ const WORKED: [(&str, &str, &str, &str); 38] = [
     (R, "82 80", "refused 4 at 0 after 0", "states: 0 0\nqueue 0 0:"),
     // outside is asked before the next number and before the end
     (B, "", "end 0", "states: 0 0\nqueue 0 0:"),
-    (B, "00", "outside 1", "states: 0 0\nqueue 0 1: 0"),
-    (B, "00 80", "outside 1", "states: 0 0\nqueue 0 1: 0"),
+    (B, "00", "outside 1 0", "states: 0 0\nqueue 0 1: 0"),
+    (B, "00 80", "outside 1 0", "states: 0 0\nqueue 0 1: 0"),
     (B, "01", "refused 14 at 0 after 0", "states: 0 0\nqueue 0 0:"),
     (C, "00 01 00 01 00", "end 5", "states: 0 0\nqueue 0 1: 0"),
-    (C, "00 01 00 00 01", "outside 4", "states: 0 0\nqueue 0 2: 0 0"),
-    (D, "", "outside 0", "states: 0 0\nqueue 0 0:"),
-    (D, "80", "outside 0", "states: 0 0\nqueue 0 0:"),
-    (D, "00 01", "outside 0", "states: 0 0\nqueue 0 0:"),
+    (C, "00 01 00 00 01", "outside 4 1", "states: 0 0\nqueue 0 2: 0 0"),
+    (D, "", "outside 0 0", "states: 0 0\nqueue 0 0:"),
+    (D, "80", "outside 0 0", "states: 0 0\nqueue 0 0:"),
+    (D, "00 01", "outside 0 0", "states: 0 0\nqueue 0 0:"),
     (S, "00 00", "end 2", "states: 0\nqueue 0 2: 0 0\nqueue 1 0:"),
     (G, "00", "refused 14 at 0 after 0", "states: 0\nqueue 0 0:\nqueue 1 0:"),
     // two queues, words of two, words that are empty, states that move
@@ -72,7 +72,7 @@ const WORKED: [(&str, &str, &str, &str); 38] = [
     (M, "05 02", "refused 14 at 1 after 1", "states: 2\nqueue 0 0:\nqueue 1 0:"),
     (M, "00 01 02 00 01 02", "refused 14 at 5 after 5", "states: 2\nqueue 0 3: 1 0 1\nqueue 1 4: 3 2 3 2"),
     (M, "05 05", "refused 14 at 1 after 1", "states: 2\nqueue 0 0:\nqueue 1 0:"),
-    (SIXTEEN, "00", "outside 1", "states: 1\nqueue 0 0:\nqueue 1 16: 1 2 3 4 5 6 7 8 9 10 11 12 13 14 15 16"),
+    (SIXTEEN, "00", "outside 1 0", "states: 1\nqueue 0 0:\nqueue 1 16: 1 2 3 4 5 6 7 8 9 10 11 12 13 14 15 16"),
     (TWO, "00 01 03", "refused 14 at 2 after 2", "states: 0\nqueue 0 2: 0 1"),
 ];
 
@@ -213,7 +213,7 @@ fn refusals_in_turn() {
 
 #[test]
 fn no_room_touches_nothing() {
-    for (record_length, reply_length) in (0..12).map(|length| (length, 3)).chain((0..3).map(|length| (12, length))) {
+    for (record_length, reply_length) in (0..12).map(|length| (length, 4)).chain((0..4).map(|length| (12, length))) {
         let (mut memory, mut record, mut reply) = ([7; 1024], vec![8; record_length], vec![9; reply_length]);
         let kind = lent::replay(&hex(R), &[0], &mut memory, &mut record, &mut reply);
         assert_eq!(kind, lent::NO_ROOM);
@@ -225,21 +225,23 @@ fn no_room_touches_nothing() {
 
 #[test]
 fn entries_after_the_least_are_kept() {
-    let (mut memory, mut record, mut reply) = ([7; 1030], [8; 15], [9; 5]);
+    let (mut memory, mut record, mut reply) = ([7; 1030], [8; 15], [9; 6]);
     assert_eq!(lent::replay(&hex(R), &[0, 0], &mut memory, &mut record, &mut reply), lent::END);
     assert_eq!(record, [0, 0, 0, 0, 0, 0, 0, 0, 2, 0, 0, 0, 8, 8, 8]);
-    assert_eq!(reply, [2, 0, 0, 9, 9]);
+    assert_eq!(reply, [2, 0, 0, 0, 9, 9]);
     assert_eq!((&memory[..1024], &memory[1024..]), (&[0; 1024][..], &[7; 6][..]));
-    for (trace, kind, front) in [(&[0, 1, 1][..], lent::STEP_REFUSED, [14, 2, 2]), (&[0; 16_385], 12, [1, 16_384, 0])] {
+    for (trace, kind, front) in
+        [(&[0, 1, 1][..], lent::STEP_REFUSED, [14, 2, 2, 0]), (&[0; 16_385], 12, [1, 16_384, 0, 0])]
+    {
         assert_eq!(lent::replay(&hex(R), trace, &mut memory, &mut record, &mut reply), kind);
-        assert_eq!((&reply[..3], &reply[3..]), (&front[..], &[9, 9][..]));
+        assert_eq!((&reply[..4], &reply[4..]), (&front[..], &[9, 9][..]));
     }
     assert_eq!(lent::replay(&hex(B), &[0], &mut memory, &mut record, &mut reply), lent::LEFT);
-    assert_eq!(reply, [1, 0, 0, 9, 9]);
+    assert_eq!(reply, [1, 0, 0, 0, 9, 9]);
     assert_eq!(lent::replay(&hex(B), &[0], &mut [], &mut record, &mut reply), lent::MEMORY_REFUSED);
-    assert_eq!(reply, [2, 0, 0, 9, 9]);
+    assert_eq!(reply, [2, 0, 0, 0, 9, 9]);
     assert_eq!(lent::replay(&[], &[0], &mut [], &mut record, &mut reply), lent::REFUSED);
-    assert_eq!(reply, [3, 0, 0, 9, 9]);
+    assert_eq!(reply, [3, 0, 0, 0, 9, 9]);
 }
 
 /// What was replayed is what the session's own steps give, on the traces kept beside the samples.
@@ -250,7 +252,7 @@ fn samples() {
     let lines = [
         ("takeover-two-feeds", "end 4", "states: 3 3 0 0\nqueue 0 2: 0 1\nqueue 1 2: 3 2"),
         ("takeover-sequenced", "end 8", "states: 4 0 0\nqueue 0 0:\nqueue 1 0:"),
-        ("producer-consumer-leaves", "outside 3", "states: 0 1\nqueue 0 2: 0 1\nqueue 1 0:\nqueue 2 0:"),
+        ("producer-consumer-leaves", "outside 3 2", "states: 0 1\nqueue 0 2: 0 1\nqueue 1 0:\nqueue 2 0:"),
     ];
     let mut replayer = Replayer::new();
     for (name, line, lines) in lines {
@@ -271,7 +273,8 @@ fn ends_in_words() {
     let mut replayer = Replayer::new();
     let mut told = |file: &str, trace: &[u8]| replayer.replay(&hex(file), trace).explain();
     assert_eq!(told(R, &[0]), "the trace is at its end, and every configuration is inside the map");
-    assert_eq!(told(B, &[0]), "the last configuration is outside the map");
+    assert_eq!(told(B, &[0]), "the last configuration is outside the map; its set follows 0 messages of what waits");
+    assert_eq!(told(C, &[0, 0]), "the last configuration is outside the map; its set follows 1 message of what waits");
     assert_eq!(told(R, &[0, 128]), "the bytes end inside a number (at byte 2 of the trace)");
     assert_eq!(told(R, &[2]), "a number is no transition of the file (at byte 0 of the trace)");
     assert_eq!(

@@ -16,7 +16,7 @@ const NO_BUFFER: Refusal = Refusal { number: 17, place: 0 };
 const LONGEST: usize = 11_664;
 
 fn tables_of(file: &[u8]) -> [u8; SPACE_LEAST] {
-    let (mut tables, mut reply) = ([0; SPACE_LEAST], [0; 3]);
+    let (mut tables, mut reply) = ([0; SPACE_LEAST], [0; 4]);
     assert_eq!(lent::read(file, &mut tables, &mut reply), lent::READ);
     tables
 }
@@ -61,21 +61,21 @@ fn buffers_of_the_length_and_others() {
 fn tables_of_any_length() {
     let tables = tables_of(&R);
     let write = |tables: &[u8], length: usize| {
-        let (mut buffer, mut reply) = (vec![0xaa; length], [7; 4]);
+        let (mut buffer, mut reply) = (vec![0xaa; length], [7; 5]);
         let kind = lent::write(tables, &mut buffer, &mut reply);
         (kind, reply, buffer)
     };
-    assert_eq!(write(&tables, 29), (lent::WRITTEN, [29, 0, 0, 7], R.to_vec()));
+    assert_eq!(write(&tables, 29), (lent::WRITTEN, [29, 0, 0, 0, 7], R.to_vec()));
     let longer = [&tables[..], &[9; 40]].concat();
-    assert_eq!(write(&longer, 29), (lent::WRITTEN, [29, 0, 0, 7], R.to_vec()), "what follows is of no account");
+    assert_eq!(write(&longer, 29), (lent::WRITTEN, [29, 0, 0, 0, 7], R.to_vec()), "what follows is of no account");
     for short in [0, 1, SPACE_LEAST - 1] {
         for length in [0, 29] {
-            assert_eq!(write(&tables[..short], length), (lent::REFUSED, [16, 0, 0, 7], vec![0xaa; length]));
+            assert_eq!(write(&tables[..short], length), (lent::REFUSED, [16, 0, 0, 0, 7], vec![0xaa; length]));
         }
     }
-    let (mut buffer, mut reply) = ([0xaa; 29], [7; 2]);
+    let (mut buffer, mut reply) = ([0xaa; 29], [7; 3]);
     assert_eq!(lent::write(&tables, &mut buffer, &mut reply), lent::NO_ROOM);
-    assert_eq!((buffer, reply), ([0xaa; 29], [7; 2]));
+    assert_eq!((buffer, reply), ([0xaa; 29], [7; 3]));
 }
 
 /// In each table: past a range, and beyond the counts. Queue order is damaged by an arc, and by a mark.
@@ -122,9 +122,9 @@ fn tables_that_no_file_has() {
         let mut damaged = tables;
         damaged[place] = entry;
         for length in [FILE_MOST, 0] {
-            let (mut buffer, mut reply) = (vec![0xaa; length], [7; 3]);
+            let (mut buffer, mut reply) = (vec![0xaa; length], [7; 4]);
             assert_eq!(lent::write(&damaged, &mut buffer, &mut reply), lent::REFUSED, "{entry} at {place}");
-            assert_eq!((reply, buffer), ([16, 0, 0], vec![0xaa; length]), "{entry} at {place}");
+            assert_eq!((reply, buffer), ([16, 0, 0, 0], vec![0xaa; length]), "{entry} at {place}");
         }
     }
 }

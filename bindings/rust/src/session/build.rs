@@ -231,7 +231,7 @@ impl Session {
     /// let one = session.add_state(true)?;
     /// assert_eq!(session.set_arc(none, 0, one)?, Some(none));
     /// // At most one message may wait now, so a second send leads out.
-    /// assert_eq!(swarmbanner::check(&session.write()?).to_string(), "leaves 0 0 1: 0");
+    /// assert_eq!(swarmbanner::check(&session.write()?).to_string(), "leaves 0 0 1 1: 0");
     /// # Ok::<(), Box<dyn std::error::Error>>(())
     /// ```
     pub fn set_arc(&mut self, state: DiagramState, message: u8, target: DiagramState) -> Changed<Option<DiagramState>> {
@@ -272,7 +272,7 @@ impl Session {
     /// let root = session.add_diagram(&swarmbanner::expression(b"| 0 | 0 0")?)?;
     /// session.set_root(0, Some(root))?;
     /// // At most two messages may wait now, so a third send leads out.
-    /// assert_eq!(swarmbanner::check(&session.write()?).to_string(), "leaves 0 0 2: 0 0");
+    /// assert_eq!(swarmbanner::check(&session.write()?).to_string(), "leaves 0 0 2 2: 0 0");
     /// # Ok::<(), Box<dyn std::error::Error>>(())
     /// ```
     pub fn add_diagram(&mut self, diagram: &Diagram) -> Changed<DiagramState> {
