@@ -37,18 +37,22 @@ fn failure(object: &mut Object, session: &Session, reply: &Reply) {
             object.raw("transition", &step(transition, &session.transitions()[transition]));
             let mut then = Object::default();
             configuration(&mut then, session, target, &after.contents);
-            object.raw("after", &then.finish()).raw("lost", &lost(&after));
+            object
+                .raw("after", &then.finish())
+                .number("followed", followed_of(&after))
+                .raw("lost", &lost(session, &after));
         }
         Some(Failure::Bad { entry, inside: (control, way), bad }) => {
             object.number("entry", entry);
             configuration(object, session, control, &way.contents);
             object.numbers("inside", states(&way)).numbers("bad", states(&bad));
         }
-        None => {
+        None if *reply == Reply::Outside => {
             let start = session.start();
             configuration(object, session, start, &[]);
-            object.raw("lost", &lost(&Way::follow(session, session.root(start), &[])));
+            object.raw("lost", &lost(session, &Way::follow(session, session.root(start), &[])));
         }
+        None => {}
     }
 }
 
@@ -81,8 +85,13 @@ fn states(way: &Way) -> impl Iterator<Item = usize> + '_ {
     way.states.iter().map(|state| state.index())
 }
 
+/// How many messages of its contents a way takes.
+fn followed_of(way: &Way) -> usize {
+    way.states.len().saturating_sub(1)
+}
+
 /// Where a diagram loses contents: how many messages it read, the states it was in, and what it lacked.
-fn lost(way: &Way) -> String {
+fn lost(session: &Session, way: &Way) -> String {
     let mut object = Object::default();
     let why = match way.end {
         End::Nowhere if way.states.is_empty() => "no root",
@@ -90,9 +99,12 @@ fn lost(way: &Way) -> String {
         End::NotFinal => "not final",
         End::Final => "not lost",
     };
-    object.text("why", why).number("read", way.states.len().saturating_sub(1)).numbers("states", states(way));
+    object.text("why", why).number("read", followed_of(way)).numbers("states", states(way));
     if let Some((_, message)) = way.lost() {
         object.number("message", message.into());
+        if let Some(queue) = session.queue_of(message) {
+            object.number("queue", queue);
+        }
     }
     object.finish()
 }

@@ -2,7 +2,8 @@
 //!
 //! The steps are taken here, in plain Rust and over the tables that the library read, since each has its own line and a library
 //! call for each beginning of the trace would replay it anew. What they lead to is held to what the proved library replied to
-//! the whole trace: how it ended, the state of each machine and every message. Where the two should differ nothing is said.
+//! the whole trace: how it ended, the state of each machine and every message. Where the two should differ nothing is said. How far
+//! the set follows what waits at the end is the library's number, and is not found here.
 
 use std::collections::VecDeque;
 
@@ -32,7 +33,7 @@ pub fn stepped(
     let (mut place, mut steps) = (0, 0);
     let ended = loop {
         if !run.is_inside() {
-            break Replayed::Outside { steps };
+            break Replayed::Outside { steps, followed: followed_in(replayed) };
         }
         if place == trace.bytes.len() {
             break Replayed::End { steps };
@@ -53,8 +54,19 @@ pub fn stepped(
     if !run.is_at(last) {
         return Err(format!("the library says \"{replayed}\" at other states or queues than its steps lead to"));
     }
-    lines.extend(run.ending(trace, place, &ended));
+    let Some(ending) = run.ending(trace, place, &ended) else {
+        return Err(format!("the library says \"{replayed}\", and the tables of the file have no such way"));
+    };
+    lines.extend(ending);
     Ok(lines)
+}
+
+/// How far what waits is followed, as the library says; 0 where it does not.
+fn followed_in(replayed: &Replayed) -> usize {
+    match replayed {
+        Replayed::Outside { followed, .. } => *followed,
+        _ => 0,
+    }
 }
 
 /// A run that goes on.
@@ -170,12 +182,15 @@ impl<'s> Run<'s> {
         ways.filter(|(_, way)| way.end == swarmbanner::End::Final).collect()
     }
 
-    /// What the last configuration is, and why it is the last.
-    fn ending(&self, trace: &Trace, place: usize, ended: &Replayed) -> Vec<String> {
-        let control = self.control();
-        let way = Way::follow(self.session, self.session.root(control), &self.contents());
+    /// What the last configuration is, and why it is the last; none where it is not followed as far as the end says.
+    fn ending(&self, trace: &Trace, place: usize, ended: &Replayed) -> Option<Vec<String>> {
+        let (control, contents) = (self.control(), self.contents());
+        let (is_inside, taken) = match ended {
+            Replayed::Outside { followed, .. } => (false, *followed),
+            _ => (true, contents.len()),
+        };
+        let way = Way::followed(self.session, self.session.root(control), &contents, taken)?;
         let judged = followed(self.session, &set_of(control), &way);
-        let is_inside = !matches!(ended, Replayed::Outside { .. });
         let mut lines: Vec<String> = is_inside.then(|| format!("inside: {judged}")).into_iter().collect();
         for (entry, way) in self.bad() {
             lines.push(format!("bad: {}", followed(self.session, &format!("the diagram of bad entry {entry}"), &way)));
@@ -185,7 +200,7 @@ impl<'s> Run<'s> {
             Replayed::Refused { refusal, steps } => self.refused(trace, place, *refusal, *steps),
             _ => "end: the trace has no more numbers".to_string(),
         });
-        lines
+        Some(lines)
     }
 
     fn refused(&self, trace: &Trace, place: usize, refusal: Refusal, steps: usize) -> String {

@@ -4,7 +4,7 @@ use swarmbanner::{End, Failure, Kind, Reply, Session, Transition, Way};
 
 use crate::refused::Refused;
 
-/// The lines that say what a reply on a file means.
+/// The lines that say what a reply on a file means. How far contents are followed is what the reply says.
 pub fn explained(file: &[u8], reply: &Reply) -> Vec<String> {
     if let Reply::Refused(refusal) = reply {
         return Refused::new(file, *refusal).lines();
@@ -17,7 +17,8 @@ pub fn explained(file: &[u8], reply: &Reply) -> Vec<String> {
         (Reply::Closed { pairs }, _) => closed(&session, *pairs),
         (_, Some(Failure::Leaves { before, transition, after })) => leaves(&session, &before, transition, &after),
         (_, Some(Failure::Bad { entry, inside, bad })) => is_bad(&session, entry, &inside, &bad),
-        _ => outside(&session),
+        (Reply::Outside, _) => outside(&session),
+        _ => vec!["the tables of the file have no such way".to_string()],
     }
 }
 
@@ -110,19 +111,41 @@ pub(crate) fn step(transition: &Transition) -> String {
     format!("machine {machine} goes from state {from} to state {to} and {does}")
 }
 
-/// How far a diagram follows contents.
+/// How far a diagram takes contents, and what it lacks where they are lost.
 pub(crate) fn followed(session: &Session, whose: &str, way: &Way) -> String {
     let (Some(root), Some(last)) = (way.states.first(), way.states.last()) else {
         return format!("{whose} has no root, so nothing is in it");
     };
-    let (read, all) = (way.states.len() - 1, several(way.contents.len(), "message"));
-    let far = format!("{whose} reads {read} of {all}, from diagram state {} to {}", root.index(), last.index());
-    match (way.end, way.lost()) {
-        (End::Final, _) => format!("{far}, which is final"),
-        (End::Nowhere, Some((_, message))) => {
-            let queue = session.queue_of(message).expect("contents shown have messages of queues");
-            format!("{far}, which has no arc for the next, message {message} of queue {queue}")
-        }
-        _ => format!("{far}, which is not final"),
+    let (root, last) = (root.index(), last.index());
+    let (taken, all) = (way.states.len() - 1, way.contents.len());
+    let mark = if way.end == End::Final { "is final" } else { "is not final" };
+    let Some((_, message)) = way.lost() else {
+        return match all {
+            0 => format!("{whose} begins in diagram state {root}, which {mark}"),
+            _ => format!("{whose} takes {}, from diagram state {root} to {last}, which {mark}", all_of(all)),
+        };
+    };
+    let next = next_of(session, way, taken, message);
+    match taken {
+        0 => format!("{whose} takes none of {}: its root, diagram state {root}, has no arc for {next}", several(all, "message")),
+        _ => format!(
+            "{whose} takes the first {}of {all} messages, from diagram state {root} to {last}, which has no arc for {next}",
+            if taken == 1 { String::new() } else { format!("{taken} ") },
+        ),
     }
+}
+
+fn all_of(count: usize) -> String {
+    match count {
+        1 => "the one message".to_string(),
+        _ => format!("all {count} messages"),
+    }
+}
+
+/// The message that a way has no arc for, with its place in its queue, counted from 1.
+fn next_of(session: &Session, way: &Way, taken: usize, message: u8) -> String {
+    let queue = session.queue_of(message).expect("contents have messages of queues");
+    let before = way.contents[..taken].iter().filter(|&&before| session.queue_of(before) == Some(queue)).count();
+    let which = if taken == 0 { "first" } else { "next" };
+    format!("the {which} one: message {message}, number {} in queue {queue}", before + 1)
 }

@@ -48,7 +48,7 @@ fn steps_to_the_end() {
              queue 1: -; listed as bad by entry 0",
             "step 2: transition 1: machine 0 goes from state 1 to state 2 and puts 3 2 at the end of queue 1; queue 0: 0 1; \
              queue 1: 3 2",
-            "inside: the set of control state 2 reads 4 of 4 messages, from diagram state 5 to 1, which is final",
+            "inside: the set of control state 2 takes all 4 messages, from diagram state 5 to 1, which is final",
             "end: the trace has no more numbers",
         ]
     );
@@ -61,8 +61,8 @@ fn an_end_that_is_bad() {
     assert_eq!(
         lines[2..],
         [
-            "inside: the set of control state 1 reads 2 of 2 messages, from diagram state 0 to 0, which is final",
-            "bad: the diagram of bad entry 0 reads 2 of 2 messages, from diagram state 2 to 4, which is final",
+            "inside: the set of control state 1 takes all 2 messages, from diagram state 0 to 0, which is final",
+            "bad: the diagram of bad entry 0 takes all 2 messages, from diagram state 2 to 4, which is final",
             "end: the trace has no more numbers",
         ]
     );
@@ -71,14 +71,28 @@ fn an_end_that_is_bad() {
 #[test]
 fn a_configuration_outside() {
     let (line, lines) = told(M, &Trace::of(vec![4, 0, 0]));
-    assert_eq!(line, "outside 1");
+    assert_eq!(line, "outside 1 0");
     assert_eq!(
         lines,
         [
             "start: machine 0 in state 0; queue 0: -; queue 1: -",
             "step 1: transition 4: machine 0 goes from state 0 to state 2 and touches no queue; queue 0: -; queue 1: -",
-            "outside: the set of control state 2 reads 0 of 0 messages, from diagram state 5 to 5, which is not final",
+            "outside: the set of control state 2 begins in diagram state 5, which is not final",
         ]
+    );
+}
+
+/// Transitions 0 and 1 of M send 0 1 and 3 2; in state 2 nothing may wait behind 0 1 3.
+#[test]
+fn a_configuration_that_is_lost_on_the_way() {
+    let (head, _) = M.split_once(" 06 01 04").expect("M has a pool of six states");
+    let file = format!("{head} 04 01 01 00 01 00 01 01 02 01 01 03 03 00 00 01 01 01 00");
+    let (line, lines) = told(&file, &Trace::of(vec![0, 1, 2]));
+    assert_eq!(line, "outside 2 3");
+    assert_eq!(
+        lines[3..],
+        ["outside: the set of control state 2 takes the first 3 of 4 messages, from diagram state 0 to 3, which has no arc for the \
+          next one: message 2, number 2 in queue 1"]
     );
 }
 
@@ -214,7 +228,7 @@ fn another_reply_is_noticed() {
     let end = Replayed::End { steps: 2 };
     assert!(tried(end, &[0, 0], &[0, 0]).is_ok());
     let refused = Replayed::Refused { refusal: Refusal { number: 14, place: 1 }, steps: 1 };
-    for replayed in [Replayed::End { steps: 1 }, Replayed::Outside { steps: 2 }, refused] {
+    for replayed in [Replayed::End { steps: 1 }, Replayed::Outside { steps: 2, followed: 2 }, refused] {
         let why = tried(replayed, &[0, 0], &[0, 0]).expect_err("it is another");
         assert_eq!(why, format!("the library says \"{replayed}\", its steps lead to \"end 2\""));
     }
@@ -222,6 +236,21 @@ fn another_reply_is_noticed() {
         assert!(tried(end, states, queue).is_err(), "{states:?} {queue:?}");
     }
     assert!(stepped(&session, &trace, &end, &Configuration { states: &[0, 0], queues: vec![] }).is_err());
+}
+
+/// So it is where the tables do not have as many arcs in turn as the library says were followed.
+#[test]
+fn a_way_that_is_not_there_is_noticed() {
+    // one 0 may wait
+    let file = "02 01 01 00 00 01 01 02 00 00 00 01 00 01 00 01 00 00 02 00 01 00 02 01 01 00 01 01 00 01 00";
+    let session = swarmbanner::read(&hex(file)).expect("it is a session file");
+    let last = Configuration { states: &[0, 0], queues: vec![&[0, 0]] };
+    let tried = |followed| stepped(&session, &Trace::of(vec![0, 0]), &Replayed::Outside { steps: 2, followed }, &last);
+    assert!(tried(1).is_ok());
+    for followed in [2, 3] {
+        let why = format!("the library says \"outside 2 {followed}\", and the tables of the file have no such way");
+        assert_eq!(tried(followed), Err(why));
+    }
 }
 
 /// Transitions that can be taken, and often after them something that is turned away: any transition, none that the file has, a

@@ -4,7 +4,7 @@ use std::ffi::OsStr;
 
 use reference_checker::generate::document;
 use reference_checker::generate::verdicts::Plans;
-use swarmbanner::{Checker, Reply};
+use swarmbanner::{membership, Checker, Membership, Reply, Session};
 use swarmbanner_explain::{explained, listing, object};
 
 const FILES: usize = 6_000;
@@ -34,12 +34,12 @@ fn a_step_that_has_nowhere_to_go() {
         [
             "before: control state 0: machine 0 in state 0, machine 1 in state 0",
             "  queue 0 holds 1 message: 0",
-            "inside: the set of control state 0 reads 1 of 1 message, from diagram state 0 to 1, which is final",
+            "inside: the set of control state 0 takes the one message, from diagram state 0 to 1, which is final",
             "step: transition 0: machine 0 goes from state 0 to state 0 and puts 0 at the end of queue 0",
             "after: control state 0: machine 0 in state 0, machine 1 in state 0",
             "  queue 0 holds 2 messages: 0 0",
-            "outside: the set of control state 0 reads 1 of 2 messages, from diagram state 0 to 1, which has no arc for the \
-             next, message 0 of queue 0",
+            "outside: the set of control state 0 takes the first of 2 messages, from diagram state 0 to 1, which has no arc for \
+             the next one: message 0, number 2 in queue 0",
         ]
     );
 }
@@ -51,7 +51,7 @@ fn a_start_that_is_outside() {
         [
             "start: control state 0: machine 0 in state 0, machine 1 in state 0",
             "  queue 0 is empty",
-            "outside: the set of control state 0 reads 0 of 0 messages, from diagram state 0 to 0, which is not final",
+            "outside: the set of control state 0 begins in diagram state 0, which is not final",
         ]
     );
 }
@@ -63,9 +63,48 @@ fn contents_that_are_bad() {
         [
             "configuration: control state 0: machine 0 in state 0, machine 1 in state 0",
             "  queue 0 is empty",
-            "inside: the set of control state 0 reads 0 of 0 messages, from diagram state 0 to 0, which is final",
-            "bad: the diagram of bad entry 0 reads 0 of 0 messages, from diagram state 0 to 0, which is final",
+            "inside: the set of control state 0 begins in diagram state 0, which is final",
+            "bad: the diagram of bad entry 0 begins in diagram state 0, which is final",
         ]
+    );
+}
+
+/// Where contents are lost: after a send of 0 1 to queue 0 while 2 3 waits in queue 1, by pools of other arcs.
+#[test]
+fn where_contents_are_lost() {
+    let last = |file: &[u8], line: &str| {
+        let reply = swarmbanner::check(file);
+        assert_eq!(reply.to_string(), line);
+        explained(file, &reply).pop().expect("there are words")
+    };
+    let model = [1, 3, 2, 2, 2, 2, 1, 0, 0, 1, 1, 0, 2, 0, 1];
+    // in state 0 just 2 3 waits, and in state 2, the start, nothing
+    let before = [0, 1, 2, 1, 0, 1, 3, 2, 1, 0];
+    let lost = |count: u8, states: &[u8], root: u8, line: &str| {
+        last(&[&model[..], &[3 + count], &before, states, &[1, root, 3, 0]].concat(), line)
+    };
+    assert_eq!(
+        lost(0, &[], 0, "leaves 0 0 2 0: 2 3"),
+        "outside: the set of control state 1 has no root, so nothing is in it"
+    );
+    assert_eq!(
+        lost(1, &[1, 0], 4, "leaves 0 0 2 0: 2 3"),
+        "outside: the set of control state 1 takes none of 4 messages: its root, diagram state 3, has no arc for the first one: \
+         message 0, number 1 in queue 0"
+    );
+    assert_eq!(
+        lost(2, &[1, 1, 0, 4, 1, 0], 4, "leaves 0 0 2 1: 2 3"),
+        "outside: the set of control state 1 takes the first of 4 messages, from diagram state 3 to 4, which has no arc for the \
+         next one: message 1, number 2 in queue 0"
+    );
+    assert_eq!(
+        lost(2, &[1, 3, 0, 3, 1, 3, 2, 4, 1, 0], 4, "leaves 0 0 2 3: 2 3"),
+        "outside: the set of control state 1 takes the first 3 of 4 messages, from diagram state 3 to 4, which has no arc for the \
+         next one: message 3, number 2 in queue 1"
+    );
+    assert_eq!(
+        lost(2, &[1, 3, 0, 3, 1, 3, 2, 4, 0, 1, 3, 4], 4, "leaves 0 0 2 4: 2 3"),
+        "outside: the set of control state 1 takes all 4 messages, from diagram state 3 to 4, which is not final"
     );
 }
 
@@ -88,22 +127,22 @@ fn a_received_word_of_sixteen() {
         [
             "before: control state 1: machine 0 in state 1",
             "  queue 0 holds 16 messages: 0 1 2 3 4 5 6 7 8 9 10 11 12 13 14 15",
-            "inside: the set of control state 1 reads 16 of 16 messages, from diagram state 1 to 17, which is final",
+            "inside: the set of control state 1 takes all 16 messages, from diagram state 1 to 17, which is final",
             "step: transition 0: machine 0 goes from state 1 to state 1 and takes 0 1 2 3 4 5 6 7 8 9 10 11 12 13 14 15 from \
              the front of queue 0",
             "after: control state 1: machine 0 in state 1",
             "  queue 0 is empty",
-            "outside: the set of control state 1 reads 0 of 0 messages, from diagram state 1 to 1, which is not final",
+            "outside: the set of control state 1 begins in diagram state 1, which is not final",
         ]
     );
     let word = "[0,1,2,3,4,5,6,7,8,9,10,11,12,13,14,15]";
     assert_eq!(
         object(OsStr::new("f"), &file, &reply.to_string(), 1, &reply),
         format!(
-            "{{\"file\":\"f\",\"line\":\"leaves 1 0 16: 0 1 2 3 4 5 6 7 8 9 10 11 12 13 14 15\",\"verdict\":\"leaves\",\
+            "{{\"file\":\"f\",\"line\":\"leaves 1 0 16 0: 0 1 2 3 4 5 6 7 8 9 10 11 12 13 14 15\",\"verdict\":\"leaves\",\
              \"status\":1,\"control\":1,\"machines\":[1],\"contents\":{word},\"queues\":[{word}],\
              \"transition\":{{\"number\":0,\"machine\":0,\"from\":1,\"to\":1,\"kind\":\"receive\",\"queue\":0,\"word\":{word}}},\
-             \"after\":{{\"control\":1,\"machines\":[1],\"contents\":[],\"queues\":[[]]}},\
+             \"after\":{{\"control\":1,\"machines\":[1],\"contents\":[],\"queues\":[[]]}},\"followed\":0,\
              \"lost\":{{\"why\":\"not final\",\"read\":0,\"states\":[1]}}}}"
         )
     );
@@ -120,6 +159,13 @@ fn a_listing_has_the_whole_word() {
     assert!(lines.iter().any(|line| line == "field 4, byte 28: diagram states"), "{lines:?}");
 }
 
+/// The words that name the message at a place of contents.
+fn named(session: &Session, contents: &[u8], place: usize) -> String {
+    let queue = session.queue_of(contents[place]).expect("it is a message of a queue");
+    let begin = session.split(contents).expect("they are in order")[..queue].concat().len();
+    format!("message {}, number {} in queue {queue}", contents[place], place - begin + 1)
+}
+
 /// What membership, asked of the library, says of the configuration after a step agrees with the words.
 #[test]
 fn generated_files() {
@@ -133,14 +179,19 @@ fn generated_files() {
         let json = object(OsStr::new("f"), &file, &reply.to_string(), 0, &reply);
         assert!(!json.contains('\n') && json.starts_with('{') && json.ends_with('}'));
         let last = lines.last().expect("every verdict has words");
-        let Reply::Leaves { control, transition, contents } = &reply else { continue };
+        let Reply::Leaves { control, transition, contents, followed } = &reply else { continue };
         let session = swarmbanner::read(&file).expect("plans are session files");
         let (target, after) = session.step(*control, *transition, contents).expect("the step can be taken");
         assert_eq!(swarmbanner::member(&file, *control, contents), Ok(true));
-        assert_eq!(swarmbanner::member(&file, target, &after), Ok(false));
+        assert_eq!(membership(&file, target, &after), Ok(Membership { is_inside: false, followed: *followed }));
+        assert!(json.contains(&format!("\"followed\":{followed},\"lost\":{{\"why\":")), "{json}");
+        assert!(json.contains(&format!(",\"read\":{followed},\"states\":")), "{json}");
+        if session.root(target).is_some() && *followed < after.len() {
+            assert!(last.ends_with(&named(&session, &after, *followed)), "{last}");
+        }
         assert!(last.starts_with(&format!("outside: the set of control state {target} ")), "{last}");
         no_root += usize::from(last.ends_with("has no root, so nothing is in it"));
-        no_arc += usize::from(last.contains("which has no arc for the next"));
+        no_arc += usize::from(last.contains(" has no arc for the "));
         not_final += usize::from(last.ends_with("which is not final"));
     }
     println!("{no_root} without a root, {no_arc} without an arc, {not_final} not final");
