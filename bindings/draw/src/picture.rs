@@ -19,7 +19,7 @@ pub struct Picture {
 }
 
 /// The pictures of a session: its machines, where the reply shows contents what becomes of them, and the diagram of a
-/// control state, which is the starting one where nothing is shown and none is asked for.
+/// control state, which is the starting one where nothing is shown and none is asked for. Contents are lost where the reply says.
 pub fn pictures(session: &Session, reply: &Reply, control: Option<usize>) -> Vec<Picture> {
     let failure = Failure::shown(session, reply);
     let marked = failure.as_ref().map(|failure| {
@@ -34,7 +34,11 @@ pub fn pictures(session: &Session, reply: &Reply, control: Option<usize>) -> Vec
 }
 
 /// The pictures of a replay: the machines at the states of its last configuration, the diagram of that control state with the
-/// way of what waits, and the diagram of another control state where one is asked for.
+/// way of what waits, as far as the replay says that it is followed, and the diagram of another control state where one is asked for.
+///
+/// # Panics
+///
+/// Panics where the replay is one of another session.
 pub fn replay_pictures(
     session: &Session,
     trace: &[u8],
@@ -51,7 +55,8 @@ pub fn replay_pictures(
         None => replayed.to_string(),
     };
     let machines = machines::draw(session, Some(Marked { control: reached, tone, transition }));
-    let way = Way::follow(session, session.root(reached), &last.contents());
+    let way =
+        way_of(session, reached, &last.contents(), replayed).expect("what waits is followed as far as the replay says");
     let mut pictures = vec![picture("replay-machines".to_string(), machines)];
     pictures.push(draw_replay(session, &title, reached, &way, bad.as_ref()));
     pictures.extend(control.map(|control| draw_control(session, control)));
@@ -70,11 +75,20 @@ pub fn expression_picture(text: &[u8], diagram: &swarmbanner::Diagram) -> Pictur
 /// byte there.
 fn failing(replayed: &Replayed, trace: &[u8]) -> Option<usize> {
     let place = match replayed {
-        Replayed::Outside { steps } => steps.checked_sub(1)?,
+        Replayed::Outside { steps, .. } => steps.checked_sub(1)?,
         Replayed::Refused { refusal, .. } if refusal.number >= 14 => refusal.place,
         _ => return None,
     };
     trace.get(place).map(|&number| number.into())
+}
+
+/// The way of what waits where a replay ended: all of it where that is inside.
+fn way_of(session: &Session, control: usize, contents: &[u8], replayed: &Replayed) -> Option<Way> {
+    let followed = match replayed {
+        Replayed::Outside { followed, .. } => *followed,
+        _ => contents.len(),
+    };
+    Way::followed(session, session.root(control), contents, followed)
 }
 
 fn picture(name: String, (dot, arrows): (String, usize)) -> Picture {

@@ -1,9 +1,9 @@
 //! Pictures of small files and replays, held to the DOT kept in `tests/golden`.
 
-use swarmbanner::{expression, Replayer};
+use swarmbanner::{expression, Configuration, Replayed, Replayer, Reply};
 use swarmbanner_draw::{expression_picture, pictures, replay_pictures, Picture};
 
-/// Case c of document 01: `leaves 0 0 1: 0`. One 0 may wait, so a second send is lost.
+/// Case c of document 01: `leaves 0 0 1 1: 0`. One 0 may wait, so a second send is lost.
 const C: &str = "02 01 01 00 00 01 01 02 00 00 00 01 00 01 00 01 00 00 02 00 01 00 02 01 01 00 01 01 00 01 00";
 /// Case e: `bad 0 0:`.
 const E: &str = "02 01 01 00 00 01 01 02 00 00 00 01 00 01 00 01 00 00 02 00 01 00 01 01 01 00 00 01 01 00 00";
@@ -18,7 +18,7 @@ const W: &str = "01 02 00 01 20 04 \
                  00 01 00 02 00 08 00 01 02 03 04 05 06 07 \
                  01 01 00 01 00 00";
 
-/// A word of 16 is received that takes two arcs in turn: `leaves 0 0 16: 0 1 0 1 ..`.
+/// A word of 16 is received that takes two arcs in turn: `leaves 0 0 16 0: 0 1 0 1 ..`.
 const T: &str = "01 02 00 01 02 01 00 00 01 02 00 10 00 01 00 01 00 01 00 01 00 01 00 01 00 01 00 01 \
                  02 01 01 00 01 00 01 01 00 01 00 00";
 
@@ -94,7 +94,7 @@ fn a_word_of_sixteen_on_two_arcs() {
 fn a_replay_that_ends_outside() {
     let machines = include_str!("golden/c-outside-replay-machines.dot");
     let replay = include_str!("golden/c-outside-replay-0.dot");
-    let drawn = replayed(C, &[0, 1, 0, 0], "outside 4");
+    let drawn = replayed(C, &[0, 1, 0, 0], "outside 4 1");
     assert_pictures(&drawn, &[("replay-machines", machines), ("replay-0", replay)]);
 }
 
@@ -102,7 +102,7 @@ fn a_replay_that_ends_outside() {
 fn a_replay_that_ends_where_nothing_is_inside() {
     let machines = include_str!("golden/w-outside-replay-machines.dot");
     let replay = include_str!("golden/w-outside-replay-1.dot");
-    assert_pictures(&replayed(W, &[0], "outside 1"), &[("replay-machines", machines), ("replay-1", replay)]);
+    assert_pictures(&replayed(W, &[0], "outside 1 0"), &[("replay-machines", machines), ("replay-1", replay)]);
 }
 
 #[test]
@@ -118,6 +118,30 @@ fn a_replay_that_ends_with_its_trace() {
     let machines = include_str!("golden/s-end-replay-machines.dot");
     let replay = include_str!("golden/s-end-replay-0.dot");
     assert_pictures(&replayed(S, &[0, 0], "end 2"), &[("replay-machines", machines), ("replay-0", replay)]);
+}
+
+/// A picture loses contents where the reply says, and does not look for the place: in C the second of 0 0 has no arc, and the first
+/// has none where none was followed.
+#[test]
+fn contents_are_lost_where_the_reply_says() {
+    let session = swarmbanner::read(&hex(C)).expect("it is a session file");
+    let at = |followed: usize| {
+        let reply = Reply::Leaves { control: 0, transition: 0, contents: vec![0], followed };
+        let replayed = Replayed::Outside { steps: 2, followed };
+        let last = Configuration { states: &[0, 0], queues: vec![&[0, 0]] };
+        let lost = |picture: &Picture, arrow: &str| picture.dot.matches(arrow).count();
+        (
+            lost(
+                &pictures(&session, &reply, None)[1],
+                &format!("b{followed} -> b_nowhere [label=\"q0: 0 [{}]\"", followed + 1),
+            ),
+            lost(
+                &replay_pictures(&session, &[0, 0], &replayed, &last, None)[1],
+                &format!("a{followed} -> a_nowhere [label=\"q0: 0 [{}]\"", followed + 1),
+            ),
+        )
+    };
+    assert_eq!((at(0), at(1)), ((1, 1), (1, 1)));
 }
 
 /// Below the set stands the diagram that lists what waits as bad, and the states are red, also at the end of a trace. A number

@@ -6,7 +6,7 @@ use reference_checker::diagram::accepts;
 use reference_checker::generate::verdicts::Plans;
 use reference_checker::random::Random;
 use reference_checker::read::{read, Tables};
-use swarmbanner::{Checker, End, Failure, Replayed, Replayer, Session, Way};
+use swarmbanner::{Checker, End, Failure, Replayed, Replayer, Reply, Session, Way};
 use swarmbanner_draw::{pictures, replay_pictures, Picture};
 
 const FILES: usize = 6_000;
@@ -75,17 +75,18 @@ fn places(attributes: &str) -> Vec<usize> {
     ends.flatten().collect()
 }
 
-fn assert_way(tables: &Tables, way: &Way, drawn: &Drawn, is_final: bool) {
+/// A way is marked as far as it was followed, all of it where that is not said.
+fn assert_way(tables: &Tables, way: &Way, drawn: &Drawn, is_final: bool, followed: Option<usize>) {
     assert_eq!(way.end == End::Final, is_final);
     assert_eq!(drawn.ends_in_a_final_state(), is_final);
-    assert_eq!(drawn.way.len(), way.states.len().saturating_sub(1));
+    assert_eq!(drawn.way.len(), followed.unwrap_or(way.contents.len()));
     assert_eq!(drawn.is_lost, way.end == End::Nowhere);
     let root = way.states.first().map(|state| state.index());
     assert_eq!(accepts(tables, root, &way.contents), is_final, "by the reference");
 }
 
 /// False where a way is too long to be read back.
-fn assert_failure(tables: &Tables, session: &Session, picture: &Picture, failure: &Failure) -> bool {
+fn assert_failure(tables: &Tables, session: &Session, picture: &Picture, reply: &Reply, failure: &Failure) -> bool {
     let (first, second) = (Drawn::read(picture, "a"), Drawn::read(picture, "b"));
     if first.is_cut || second.is_cut {
         return false;
@@ -94,13 +95,15 @@ fn assert_failure(tables: &Tables, session: &Session, picture: &Picture, failure
         Failure::Leaves { before: (control, before), transition, after: (target, after) } => {
             assert_eq!(picture.name, format!("leaves-{control}-{transition}"));
             assert_eq!(session.step(*control, *transition, &before.contents), Some((*target, after.contents.clone())));
-            assert_way(tables, before, &first, true);
-            assert_way(tables, after, &second, false);
+            let Reply::Leaves { followed, .. } = reply else { panic!("{reply} shows a step") };
+            assert_way(tables, before, &first, true, None);
+            assert_way(tables, after, &second, false, Some(*followed));
+            assert_eq!(*after, Way::follow(session, session.root(*target), &after.contents), "by its own arcs");
         }
         Failure::Bad { entry, inside: (_, inside), bad } => {
             assert_eq!(picture.name, format!("bad-{entry}"));
-            assert_way(tables, inside, &first, true);
-            assert_way(tables, bad, &second, true);
+            assert_way(tables, inside, &first, true, None);
+            assert_way(tables, bad, &second, true, None);
         }
     }
     true
@@ -119,7 +122,7 @@ fn marked_ways_end_as_the_verdict_says() {
         assert_eq!(drawn.len(), 2);
         let Some(failure) = Failure::shown(&session, &reply) else { continue };
         let tables = read(&bytes).expect("plans are session files");
-        if !assert_failure(&tables, &session, &drawn[1], &failure) {
+        if !assert_failure(&tables, &session, &drawn[1], &reply, &failure) {
             cut += 1;
             continue;
         }
@@ -181,7 +184,7 @@ fn marked_ways_end_as_the_replay_says() {
         assert_eq!(names, ["replay-machines", &format!("replay-{control}"), &format!("control-{}", session.start())]);
         assert!(drawn[1].dot.contains(&format!("label=\"{replayed}")));
         let failing = match replayed {
-            Replayed::Outside { steps } => steps.checked_sub(1),
+            Replayed::Outside { steps, .. } => steps.checked_sub(1),
             Replayed::Refused { refusal, .. } => (refusal.number == 14).then_some(refusal.place),
             _ => None,
         };
@@ -193,7 +196,11 @@ fn marked_ways_end_as_the_replay_says() {
         }
         let tables = read(&bytes).expect("plans are session files");
         let way = Way::follow(&session, session.root(control), &last.contents());
-        assert_way(&tables, &way, &set, !matches!(replayed, Replayed::Outside { .. }));
+        let followed = match replayed {
+            Replayed::Outside { followed, .. } => Some(followed),
+            _ => None,
+        };
+        assert_way(&tables, &way, &set, followed.is_none(), followed);
         let accepting = tables.used_bad_entries().iter().filter(|entry| usize::from(entry.control_state) == control);
         let first = accepting.map(|entry| Some(entry.root.into())).find(|&root| accepts(&tables, root, &way.contents));
         assert_eq!(listed.root, first.flatten().map_or(String::new(), |root: usize| format!("b{root}")));
