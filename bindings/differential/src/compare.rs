@@ -1,6 +1,6 @@
 //! One file and one text: all six calls, with lengths and dirt chosen for them, beside the reference.
 
-use reference_checker::membership::membership;
+use reference_checker::membership::{membership, Member};
 use reference_checker::random::Random;
 use reference_checker::read::{read, Refusal, Tables, LONGEST_FILE, MESSAGES, QUEUES};
 use reference_checker::replay::{replay, Answer, Lent as Replaying, Record, Reply as Replayed};
@@ -15,7 +15,7 @@ use crate::lend::Lent;
 use crate::tally::Tally;
 use crate::texts::text;
 use crate::traces::trace;
-use crate::typed::{same_run, same_session};
+use crate::typed::{same_membership, same_run, same_session};
 use crate::writing::Writer;
 
 /// Most entries that are lent beyond the least.
@@ -43,30 +43,30 @@ pub struct Comparer {
     pub tally: Tally,
 }
 
-/// A kind and the three numbers that go with it.
-type Told = (usize, [usize; 3]);
+/// A kind and the numbers that go with it.
+pub type Told = (usize, [usize; REPLY_LEAST]);
 
 pub fn refused(refusal: &Refusal) -> Told {
-    (lent::REFUSED, [usize::from(refusal.number), refusal.place, 0])
+    (lent::REFUSED, [usize::from(refusal.number), refusal.place, 0, 0])
 }
 
 fn told(reply: &Reply) -> Told {
     match reply {
-        Ok(Verdict::Closed { pairs }) => (lent::CLOSED, [*pairs as usize, 0, 0]),
-        Ok(Verdict::Outside) => (lent::OUTSIDE, [0; 3]),
-        Ok(Verdict::Leaves { control_state, transition, contents }) => {
-            (lent::LEAVES, [*control_state, *transition, contents.len()])
+        Ok(Verdict::Closed { pairs }) => (lent::CLOSED, [*pairs as usize, 0, 0, 0]),
+        Ok(Verdict::Outside) => (lent::OUTSIDE, [0; REPLY_LEAST]),
+        Ok(Verdict::Leaves { control_state, transition, contents, far }) => {
+            (lent::LEAVES, [*control_state, *transition, contents.len(), *far])
         }
-        Ok(Verdict::Bad { entry, contents }) => (lent::BAD, [*entry, contents.len(), 0]),
+        Ok(Verdict::Bad { entry, contents }) => (lent::BAD, [*entry, contents.len(), 0, 0]),
         Err(refusal) => refused(refusal),
     }
 }
 
 fn told_of_replay(reply: &Replayed) -> Told {
-    let numbers = |refusal: &Refusal, steps| [usize::from(refusal.number), refusal.place, steps];
+    let numbers = |refusal: &Refusal, steps| [usize::from(refusal.number), refusal.place, steps, 0];
     match reply {
-        Replayed::End { steps } => (lent::END, [*steps, 0, 0]),
-        Replayed::Outside { steps } => (lent::LEFT, [*steps, 0, 0]),
+        Replayed::End { steps } => (lent::END, [*steps, 0, 0, 0]),
+        Replayed::Outside { steps, far } => (lent::LEFT, [*steps, *far, 0, 0]),
         Replayed::StepRefused { refusal, steps } => (lent::STEP_REFUSED, numbers(refusal, *steps)),
         Replayed::FileRefused(refusal) => (lent::REFUSED, numbers(refusal, 0)),
         Replayed::TraceRefused(refusal) => (lent::TRACE_REFUSED, numbers(refusal, 0)),
@@ -157,7 +157,7 @@ impl Comparer {
     fn reply(&self, kind: usize, call: &str) -> Result<Told, String> {
         demand(self.reply.kept_from(REPLY_LEAST), &format!("{call}: the reply's rest has changed"))?;
         let numbers = &self.reply.now()[..REPLY_LEAST];
-        Ok((kind, numbers.try_into().expect("a reply has three numbers")))
+        Ok((kind, numbers.try_into().expect("a reply has four numbers")))
     }
 
     fn compare_reading(
@@ -178,7 +178,7 @@ impl Comparer {
             Ok(tables) => {
                 self.tally.count("read: read");
                 self.tally.count_words(tables.used_transitions());
-                demand(told == (lent::READ, [0; 3]), &format!("read: told {told:?} of a file that is read"))?;
+                demand(told == (lent::READ, [0; REPLY_LEAST]), &format!("read: told {told:?} of a file that is read"))?;
                 demand(self.space.now()[..SPACE_LEAST] == flat(tables), "read: other tables")?;
                 demand(self.space.kept_from(SPACE_LEAST), "read: the space's rest has changed")
             }
@@ -205,19 +205,25 @@ impl Comparer {
         }
         let expected = membership(file, control, &contents);
         let expected_told = match &expected {
-            Ok(true) => (lent::YES, [0; 3]),
-            Ok(false) => (lent::NO, [0; 3]),
+            Ok(Member { belongs: true, far }) => (lent::YES, [*far, 0, 0, 0]),
+            Ok(Member { belongs: false, far }) => (lent::NO, [*far, 0, 0, 0]),
             Err(refusal) => refused(refusal),
         };
         let told = self.reply(kind, "member")?;
         self.tally.count(&match &expected {
-            Ok(true) => "member: yes".to_string(),
-            Ok(false) => "member: no".to_string(),
+            Ok(Member { belongs: true, .. }) => "member: yes".to_string(),
+            Ok(Member { belongs: false, .. }) => "member: no".to_string(),
             Err(refusal) => format!("member: refused {}", refusal.number),
         });
         demand(told == expected_told, &format!("member {control} {contents:?}: told {told:?}, not {expected_told:?}"))?;
-        let typed = swarmbanner::member(file, control, &contents).map_err(|refusal| refusal.to_string());
-        demand(typed == expected.map_err(|refusal| refusal.to_string()), "member: the typed call says something else")
+        let typed = swarmbanner::membership(file, control, &contents);
+        demand(same_membership(&typed, &expected), "member: the typed call says something else")?;
+        let is_inside = swarmbanner::member(file, control, &contents);
+        demand(is_inside == typed.map(|said| said.is_inside), "member: yes or no is another")?;
+        if let (Ok(tables), Ok(Member { belongs: false, far })) = (tables, expected) {
+            self.tally.count_lost(tables, control, far, contents.len(), "member");
+        }
+        Ok(())
     }
 
     fn compare_checking(
@@ -320,12 +326,14 @@ impl Comparer {
         demand(reply.to_string() == line(expected), &format!("check: the binding prints {reply}"))?;
         self.tally.count("typed");
         // A witness of the proved library, taken apart by the binding and put to membership.
-        if let swarmbanner::Reply::Leaves { control, transition, contents } = reply {
+        if let swarmbanner::Reply::Leaves { control, transition, contents, followed } = reply {
             let session = swarmbanner::read(file).map_err(|refusal| refusal.to_string())?;
             let (target, after) =
                 session.step(control, transition, &contents).ok_or("step: the step shown cannot be taken")?;
-            demand(membership(file, control, &contents) == Ok(true), "leaves: the contents shown are not inside")?;
-            demand(membership(file, target, &after) == Ok(false), "leaves: the step shown does not lead outside")?;
+            let inside = Member { belongs: true, far: contents.len() };
+            demand(membership(file, control, &contents) == Ok(inside), "leaves: the contents shown are not inside")?;
+            let outside = Member { belongs: false, far: followed };
+            demand(membership(file, target, &after) == Ok(outside), "leaves: the step shown is not lost there")?;
         }
         Ok(())
     }

@@ -41,9 +41,9 @@ impl Drawer {
         let expected: Reply = expression(text).map(|states| Pool::of(&states));
         tally.count_drawn(&expected);
         demand(self.reply.kept_from(REPLY_LEAST), "the reply's rest has changed")?;
-        let told = (kind, self.reply.now()[..REPLY_LEAST].try_into().expect("a reply has three numbers"));
+        let told = (kind, self.reply.now()[..REPLY_LEAST].try_into().expect("a reply has four numbers"));
         let wanted = match &expected {
-            Ok(pool) => (lent::DRAWN, [ROOT, pool.state_count, 0]),
+            Ok(pool) => (lent::DRAWN, [ROOT, pool.state_count, 0, 0]),
             Err(refusal) => refused(refusal),
         };
         demand(told == wanted, &format!("told {told:?}, not {wanted:?}"))?;

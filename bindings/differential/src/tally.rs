@@ -2,10 +2,12 @@
 
 use std::collections::BTreeMap;
 
+use reference_checker::diagram::root;
 use reference_checker::expression::Pool;
 use reference_checker::read::{read, Kind, Refusal, Tables, Transition, POOL_STATES, WORD_LENGTH};
 use reference_checker::replay::{Answer, Reply as Replayed, QUEUE_ROOM};
 use reference_checker::verdict::{Reply, Verdict};
+use reference_checker::walk::control_state_after;
 
 use crate::write::Reply as Written;
 
@@ -39,6 +41,9 @@ const DRAWN: [&str; 8] = [
     "draw: no room",
 ];
 const QUEUES_MET: [&str; 2] = ["replay: a queue goes round its bytes", "replay: a queue is full"];
+/// How a diagram loses contents, and what says how far it followed them.
+const LOST: [&str; 3] = ["no root", "no arc", "not final"];
+const FOLLOWED: [&str; 3] = ["member", "check", "replay"];
 const LEFT: [&str; 2] = ["check: leaves by sending a longest word", "check: leaves by receiving a longest word"];
 
 impl Tally {
@@ -53,8 +58,11 @@ impl Tally {
         let name = match reply {
             Ok(Verdict::Closed { .. }) => "check: closed",
             Ok(Verdict::Outside) => "check: outside",
-            Ok(Verdict::Leaves { contents, transition, .. }) => {
+            Ok(Verdict::Leaves { control_state, contents, transition, far }) => {
                 self.count_left(tables.map(|tables| &tables.transitions[*transition]));
+                if let Some(tables) = tables {
+                    self.count_lost_by_step(tables, *control_state, *transition, contents.len(), *far);
+                }
                 self.longest_shown = self.longest_shown.max(contents.len());
                 "check: leaves"
             }
@@ -69,13 +77,18 @@ impl Tally {
 
     pub fn count_replay(&mut self, file: &[u8], trace: &[u8], answer: &Answer) {
         let name = match answer.reply {
-            Replayed::End { steps } | Replayed::Outside { steps } | Replayed::StepRefused { steps, .. } => {
+            Replayed::End { steps } => {
                 self.count_run(file, trace, answer, steps);
-                match answer.reply {
-                    Replayed::End { .. } => "replay: end".to_string(),
-                    Replayed::StepRefused { refusal, .. } => format!("replay: step refused {}", refusal.number),
-                    _ => "replay: outside".to_string(),
-                }
+                "replay: end".to_string()
+            }
+            Replayed::Outside { steps, far } => {
+                self.count_run(file, trace, answer, steps);
+                self.count_lost_by_run(file, answer, far);
+                "replay: outside".to_string()
+            }
+            Replayed::StepRefused { refusal, steps } => {
+                self.count_run(file, trace, answer, steps);
+                format!("replay: step refused {}", refusal.number)
             }
             Replayed::FileRefused(refusal) => format!("replay: file refused {}", refusal.number),
             Replayed::TraceRefused(refusal) => format!("replay: trace refused {}", refusal.number),
@@ -118,6 +131,35 @@ impl Tally {
         }
     }
 
+    /// How contents of this length are lost in a control state, of which so many messages are followed there.
+    pub fn count_lost(&mut self, tables: &Tables, control: usize, far: usize, length: usize, call: &str) {
+        let [no_root, no_arc, not_final] = LOST;
+        let how = match root(tables, control) {
+            None => no_root,
+            Some(_) if far < length => no_arc,
+            Some(_) => not_final,
+        };
+        self.count(&lost(call, how));
+    }
+
+    fn count_lost_by_step(&mut self, tables: &Tables, control: usize, transition: usize, shown: usize, far: usize) {
+        let step = &tables.transitions[transition];
+        let target = control_state_after(tables, control, step).expect("the step can be taken");
+        let length = match step.kind {
+            Kind::Local => shown,
+            Kind::Send => shown + step.word().len(),
+            Kind::Receive => shown - step.word().len(),
+        };
+        self.count_lost(tables, target, far, length, "check");
+    }
+
+    fn count_lost_by_run(&mut self, file: &[u8], answer: &Answer, far: usize) {
+        let (tables, record) = (read(file).expect("a file that is replayed is read"), &answer.lent.record);
+        let states = tables.states.iter().zip(record.states).take(tables.machine_count);
+        let control = states.fold(0, |control, (&count, state)| control * usize::from(count) + usize::from(state));
+        self.count_lost(&tables, control, far, record.lengths.iter().sum(), "replay");
+    }
+
     /// The transition by which a file is left.
     fn count_left(&mut self, transition: Option<&Transition>) {
         let [sending, receiving] = LEFT;
@@ -150,7 +192,8 @@ impl Tally {
         let files = refused_files.map(|number| format!("replay: file refused {number}"));
         let steps = [3, 4, 5, 14, 15].map(|number| format!("replay: step refused {number}"));
         let met = DEMANDED.into_iter().chain(REPLAYED).chain(WRITTEN).chain(DRAWN);
-        let fixed = met.chain(QUEUES_MET).chain(LEFT).map(str::to_string);
+        let losses = FOLLOWED.into_iter().flat_map(|call| LOST.map(|how| lost(call, how)));
+        let fixed = met.chain(QUEUES_MET).chain(LEFT).map(str::to_string).chain(losses);
         let demanded = fixed.chain(verdicts).chain(read).chain(check).chain(member).chain(files).chain(steps);
         let lengths = self.words.iter().zip(0..).filter(|(&count, _)| count == 0);
         let words = lengths.map(|(_, length)| format!("a word of length {length}"));
@@ -172,6 +215,10 @@ impl Tally {
         report += &format!("  longest contents shown: {longest} messages; longest replay: {most} steps\n");
         report + &format!("  diagrams of {POOL_STATES} states: {full}\n")
     }
+}
+
+fn lost(call: &str, how: &str) -> String {
+    format!("{call}: lost, {how}")
 }
 
 /// How many messages the steps of a run send to the queue that gets the most. A number of a step that is taken has one byte.

@@ -1,8 +1,10 @@
-//! The typed session and the typed replay of the binding beside the reference's.
+//! The typed session, membership and replay of the binding beside the reference's.
 
-use reference_checker::read::{Kind as ReferenceKind, Tables, Transition as ReferenceTransition, MESSAGES};
+use reference_checker::membership::Member;
+use reference_checker::read::{Kind as ReferenceKind, Refusal as ReferenceRefusal, Tables};
+use reference_checker::read::{Transition as ReferenceTransition, MESSAGES};
 use reference_checker::replay::{Answer, Reply, QUEUE_ROOM};
-use swarmbanner::{Kind, Replayed, Replayer, Session, Transition};
+use swarmbanner::{Kind, Membership, Refusal, Replayed, Replayer, Session, Transition};
 
 /// Whether a session says what the tables say.
 pub fn same_session(session: &Session, tables: &Tables) -> bool {
@@ -55,6 +57,15 @@ fn same_pool(session: &Session, tables: &Tables) -> bool {
             },
         )
         && roots.eq(tables.roots[..tables.control_state_count].iter().map(|&root| usize::from(root)))
+}
+
+/// Whether membership says what the reference does.
+pub fn same_membership(said: &Result<Membership, Refusal>, expected: &Result<Member, ReferenceRefusal>) -> bool {
+    match (said, expected) {
+        (Ok(said), Ok(expected)) => said.is_inside == expected.belongs && said.followed == expected.far,
+        (Err(one), Err(other)) => one.to_string() == other.to_string(),
+        _ => false,
+    }
 }
 
 /// Whether a replay that has memory enough says what the reference does, which may have had too little.

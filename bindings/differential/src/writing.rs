@@ -66,9 +66,9 @@ impl Writer {
         }
         tally.count_written(&expected);
         demand(self.reply.kept_from(REPLY_LEAST), "write: the reply's rest has changed")?;
-        let told = (kind, self.reply.now()[..REPLY_LEAST].try_into().expect("a reply has three numbers"));
+        let told = (kind, self.reply.now()[..REPLY_LEAST].try_into().expect("a reply has four numbers"));
         let wanted = match &expected {
-            Ok(file) => (lent::WRITTEN, [file.len(), 0, 0]),
+            Ok(file) => (lent::WRITTEN, [file.len(), 0, 0, 0]),
             Err(refusal) => refused(refusal),
         };
         demand(told == wanted, &format!("write: told {told:?}, not {wanted:?}"))?;
