@@ -1,6 +1,6 @@
 -- How far the contents after a step are followed, from the contents before it: a step that leaves shows the number of the configuration that it leads to.
 use mathlib.Core.Path.{_≡_, refl, sym, ap, ap₂, _∙_}
-use mathlib.Core.List.{List, [], _++_}
+use mathlib.Core.List.{List, _++_}
 use Prim.Native.Nat.{ℕ, suc}
 use native.Mathlib.Omega.{arith}
 use lib.ListN.{length, drop}
