@@ -36,7 +36,7 @@ type Drawn = Result<usize, Refusal>;
 /// The product, by its C function.
 fn by_product(text: &[u8], pool: &mut [u8; POOL]) -> Drawn {
     let text = black_box(text);
-    let mut reply = [0; 3];
+    let mut reply = [0; 4];
     // SAFETY: each pointer and length are of one slice; those that are written to are borrowed by this call alone.
     let kind = unsafe {
         swarmbanner_expression(

@@ -36,7 +36,7 @@ const WRITTEN: usize = 14;
 /// The product, by its C function.
 fn by_product(flat: &Flat, buffer: &mut [u8]) -> Result<usize, Refusal> {
     let tables = black_box(&flat.0);
-    let mut reply = [0; 3];
+    let mut reply = [0; 4];
     // SAFETY: each pointer and length are of one slice; those that are written to are borrowed by this call alone.
     let kind = unsafe {
         swarmbanner_write(
