@@ -4,7 +4,7 @@ use mathlib.Core.Path.{_≡_}
 use Rattle.numbers.specs.Limits.{mostBytes}
 use Rattle.numbers.specs.Part.{Part, got, refused}
 use Rattle.numbers.specs.declared.refusal.Refusal.{Refusal}
-use Rattle.numbers.specs.declared.refusal.Refusal.the-variants.{TooLong, Ends, NotShortest, OutOfRange, PassesLimit, OtherQueue, NotAscending, NotInQueueOrder, Trailing}
+use Rattle.numbers.specs.declared.refusal.Refusal.the-variants.{TooLong, Ends, NotShortest, OutOfRange, PassesLimit, OtherQueue, NotAscending, NotInQueueOrder, Trailing, StartsEmpty}
 use Rattle.numbers.specs.declared.number.Number.{Number}
 use Rattle.numbers.specs.declared.number.Number.the-variants.{Value as NumberValue, Refused as NumberRefused}
 use Rattle.numbers.specs.declared.number.Field.{Field}
@@ -14,7 +14,7 @@ use Rattle.numbers.specs.declared.number.Pair.the-variants.{Values, Refu
 use Rattle.numbers.specs.declared.number.Filled.{Filled}
 use Rattle.numbers.specs.declared.number.Filled.the-variants.{To, Refused as FilledRefused}
 
--- a refusal's number in the table of document 01, "When a file or a question is turned away"
+-- a refusal's number in the table of document 01, "When a file or a question is turned away", and of document 02, change 8
 abbrev pub numberOf : Refusal → ℕ
 numberOf TooLong = 1
 numberOf (Ends p) = 3
@@ -25,6 +25,7 @@ numberOf (OtherQueue p) = 7
 numberOf (NotAscending p) = 8
 numberOf (NotInQueueOrder p) = 9
 numberOf (Trailing p) = 10
+numberOf StartsEmpty = 23
 
 -- and its place
 abbrev pub placeOf : Refusal → ℕ
@@ -37,6 +38,7 @@ placeOf (OtherQueue p) = p
 placeOf (NotAscending p) = p
 placeOf (NotInQueueOrder p) = p
 placeOf (Trailing p) = p
+placeOf StartsEmpty = 0
 
 abbrev pub saidNumber : Number → Part ℕ
 saidNumber (NumberValue v next) = got v next

@@ -1,4 +1,4 @@
-// Why an input is turned away. Each case but the first has its place in the bytes.
+// Why an input is turned away. Each case but the first and the last has its place in the bytes.
 ghost use mathlib.Core.Path.{_≡_};
 ghost use Rattle.numbers.specs.Said.{numberOf, placeOf};
 
@@ -16,7 +16,7 @@ pub enum Refusal {
     OutOfRange(usize),
     // the product of states or the sum of messages passes its limit
     PassesLimit(usize),
-    // a transition's message is in another queue
+    // a message of a transition, or one that waits at the start, is in another queue
     OtherQueue(usize),
     // an arc's message does not ascend
     NotAscending(usize),
@@ -24,6 +24,8 @@ pub enum Refusal {
     NotInQueueOrder(usize),
     // bytes after the last field
     Trailing(usize),
+    // a file in the form that resumes, and all its queues start empty
+    StartsEmpty,
 }
 
 // The refusal's number in document 01.
@@ -40,6 +42,7 @@ pub fn number(why: Refusal) -> usize
         Refusal::NotAscending(_) => 8,
         Refusal::NotInQueueOrder(_) => 9,
         Refusal::Trailing(_) => 10,
+        Refusal::StartsEmpty => 23,
     }
 }
 
@@ -57,5 +60,6 @@ pub fn place(why: Refusal) -> usize
         Refusal::NotAscending(at) => at,
         Refusal::NotInQueueOrder(at) => at,
         Refusal::Trailing(at) => at,
+        Refusal::StartsEmpty => 0,
     }
 }

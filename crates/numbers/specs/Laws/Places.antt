@@ -1,5 +1,5 @@
--- Where reading is, and where it refuses: places only grow and stay within the input, and a part refuses by 3 to 8.
-use Prim.Native.Nat.{ℕ, zero, suc, _+_, _-_, _*_, _≤_}
+-- Where reading is, and where it refuses: places only grow and stay within the input, and a part refuses by 3 to 8, or by 23 at the first number.
+use Prim.Native.Nat.{ℕ, zero, suc, _+_, _-_, _*_, _≤_, zero-le}
 use mathlib.Core.Path.{_≡_, refl, sym, ap, subst, _∙_}
 use mathlib.Core.Bool.{Bool, true, false, cond}
 use mathlib.Core.Logic.{_⊎_, inl, inr}
@@ -13,34 +13,52 @@ use Rattle.numbers.specs.Number.{readNumber, readWithin, readBelow, read
 use Rattle.numbers.specs.Laws.Rounds.{Rounds}
 
 -- What a refusal by 3 to 8 says of its place: the end of the input, a number in no allowed form, or a number that is refused for
--- what it says.
+-- what it says. 23 is said of the first number.
 pub record RefusalPlace (s : List ℕ) (k p : ℕ) : Type 0 where
   pub ends : k ≡ 3 → p ≡ length s
   pub malformed : k ≡ 4 → readNumber s p ≡ refused 4 p
   pub number : 5 ≤ k → k ≤ 8 → (v : ℕ) × (next : ℕ) × (readNumber s p ≡ got v next)
+  pub empty : k ≡ 23 → p ≡ 0
 
--- a refusal at place at or after it, by a number from 3 to top
+-- a refusal at place at or after it, by a number from 3 to top; or by 23
 pub record Refuses (s : List ℕ) (top at k p : ℕ) : Type 0 where
   pub least : 3 ≤ k
-  pub most : k ≤ top
-  pub from : at ≤ p
+  pub most : (k ≡ 23 → ⊥) → k ≤ top
+  pub from : (k ≡ 23 → ⊥) → at ≤ p
   pub inside : p ≤ length s
   pub placed : RefusalPlace s k p
 
 pub refuses-here : (s : List ℕ) (top at k : ℕ) → 3 ≤ k → k ≤ top → at ≤ length s → RefusalPlace s k at → Refuses s top at k at
-refuses-here s top at k a b h placed = record { least = a; most = b; from = omega arith; inside = h; placed = placed }
+refuses-here s top at k a b h placed = record { least = a; most = λ n. b; from = λ n. omega arith; inside = h; placed = placed }
 
 -- a number that is well formed is refused for what it says
 pub refuses-number : (s : List ℕ) (at k : ℕ) {v next : ℕ} → 5 ≤ k → k ≤ 8 → at ≤ length s → readNumber s at ≡ got v next → Refuses s 8 at k at
 refuses-number s at k {v} {next} a b h e =
     refuses-here s 8 at k (omega arith) b h
-    (record { ends = λ n. absurd (omega arith); malformed = λ n. absurd (omega arith); number = λ _ _. (v, next, e) })
+    (record { ends = λ n. absurd (omega arith); malformed = λ n. absurd (omega arith); number = λ _ _. (v, next, e); empty = λ n. absurd (omega arith) })
 
 -- 9 and 10 are no part's
 pub refuses-late : (s : List ℕ) (at k : ℕ) → 9 ≤ k → k ≤ 10 → at ≤ length s → Refuses s 10 at k at
 refuses-late s at k a b h =
     refuses-here s 10 at k (omega arith) b h
-    (record { ends = λ n. absurd (omega arith); malformed = λ n. absurd (omega arith); number = λ _ g. absurd (omega arith) })
+    (record { ends = λ n. absurd (omega arith); malformed = λ n. absurd (omega arith); number = λ _ g. absurd (omega arith); empty = λ n. absurd (omega arith) })
+
+-- 23 is at the first number, wherever reading is
+pub refuses-empty : (s : List ℕ) (top at : ℕ) → Refuses s top at 23 0
+refuses-empty s top at =
+    record {
+      least = omega arith;
+      most = λ n. absurd (n refl);
+      from = λ n. absurd (n refl);
+      inside = zero-le;
+      placed =
+          record {
+            ends = λ n. absurd (omega arith);
+            malformed = λ n. absurd (omega arith);
+            number = λ _ g. absurd (omega arith);
+            empty = λ n. refl;
+          };
+    }
 
 -- a part that begins at place at: it goes on from a place between at and the end, or it refuses there
 module _ {A : Type 0} where
@@ -51,12 +69,12 @@ module _ {A : Type 0} where
   pub fair-earlier : (s : List ℕ) (top at at′ : ℕ) (x : Part A) → at ≤ at′ → Fair s top at′ x → Fair s top at x
   fair-earlier s top at at′ (got v next) h f = (omega arith, f .1)
   fair-earlier s top at at′ (refused k p) h f =
-      record { least = f .least; most = f .most; from = omega (arith, f .from); inside = f .inside; placed = f .placed }
+      record { least = f .least; most = f .most; from = λ n. omega (arith, f .from n); inside = f .inside; placed = f .placed }
 
   pub fair-more : (s : List ℕ) (top more at : ℕ) (x : Part A) → top ≤ more → Fair s top at x → Fair s more at x
   fair-more s top more at (got v next) h f = f
   fair-more s top more at (refused k p) h f =
-      record { least = f .least; most = omega (arith, f .most); from = f .from; inside = f .inside; placed = f .placed }
+      record { least = f .least; most = λ n. omega (arith, f .most n); from = f .from; inside = f .inside; placed = f .placed }
 
   pub fair-provided : (s : List ℕ) (top at : ℕ) (b : Bool) (k p : ℕ) (x : Part A) → Refuses s top at k p → Fair s top at x
       → Fair s top at (provided b k p x)
@@ -122,12 +140,13 @@ module _ (s : List ℕ) where
     where
       why : (k p : ℕ) → readNumber s at ≡ refused k p → ((k ≡ 3) × (p ≡ length s)) ⊎ ((k ≡ 4) × (p ≡ at)) → RefusalPlace s k p
       why k p e (inl t) =
-          record { ends = λ n. t .1; malformed = λ n. absurd (omega arith); number = λ a b. absurd (omega arith) }
+          record { ends = λ n. t .1; malformed = λ n. absurd (omega arith); number = λ a b. absurd (omega arith); empty = λ n. absurd (omega arith) }
       why k p e (inr t) =
           record {
             ends = λ n. absurd (omega arith);
             malformed = λ n. ap (readNumber s) (t .1) ∙ e ∙ ap (λ j. refused j p) n;
             number = λ a b. absurd (omega arith);
+            empty = λ n. absurd (omega arith);
           }
 
       where-to : (k p : ℕ) → ((k ≡ 3) × (p ≡ length s)) ⊎ ((k ≡ 4) × (p ≡ at)) → (3 ≤ k) × (k ≤ 8) × (at ≤ p) × (p ≤ length s)
@@ -138,7 +157,7 @@ module _ (s : List ℕ) where
       go (got v next) e t = t
       go (refused k p) e t =
           let b = where-to k p t in
-          record { least = b .0; most = b .1; from = b .2; inside = b .3; placed = why k p e t }
+          record { least = b .0; most = λ n. b .1; from = λ n. b .2; inside = b .3; placed = why k p e t }
 
   -- a number that was read and is then tested
   pub tested-fair : (at : ℕ) (x : Part ℕ) (test : ℕ → Bool) (k : ℕ) → 5 ≤ k → k ≤ 8 → at ≤ length s
