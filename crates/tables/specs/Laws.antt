@@ -3,3 +3,5 @@ pub mod Queues
 pub mod Pool
 pub mod Kinds
 pub mod Lookup
+pub mod Each
+pub mod Starting

@@ -3,6 +3,7 @@ pub mod Kinds
 pub mod Rows
 pub mod Queues
 pub mod Pool
+pub mod Starting
 pub mod Empty
 pub mod Said
 pub mod Lookup

@@ -19,6 +19,10 @@ mostQueues = 4
 abbrev pub mostMessages : ℕ
 mostMessages = 32
 
+-- messages that a queue starts with (document 02, change 8)
+abbrev pub mostStarting : ℕ
+mostStarting = 8
+
 abbrev pub mostTransitions : ℕ
 mostTransitions = 128
 

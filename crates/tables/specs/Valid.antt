@@ -4,10 +4,11 @@ use Prim.Native.Nat.{ℕ, zero, suc, _+_, _*_, _≤_, _<_}
 use mathlib.Core.Path.{_≡_}
 use mathlib.Core.List.{List}
 use lib.ListN.{length, getD}
-use Rattle.tables.specs.Limits.{mostMachines, mostStates, mostControls, mostQueues, mostMessages, mostTransitions, mostWord, mostPool, mostBad}
+use Rattle.tables.specs.Limits.{mostMachines, mostStates, mostControls, mostQueues, mostMessages, mostStarting, mostTransitions, mostWord, mostPool, mostBad}
 use Rattle.tables.specs.Rows.{rowLength, rowsLength, wordEntry, machineAt, fromAt, toAt, kindAt, queueAt, lengthAt}
 use Rattle.tables.specs.Queues.{firstMessage, OfQueue}
 use Rattle.tables.specs.Pool.{poolArcs}
+use Rattle.tables.specs.Starting.{startingLength}
 use Rattle.tables.specs.declared.tables.Machines.{Machines}
 use Rattle.tables.specs.declared.tables.Queues.{Queues}
 use Rattle.tables.specs.declared.tables.Transitions.{Transitions}
@@ -35,6 +36,21 @@ pub record MachinesValid (m : Machines) : Type 0 where
   pub productLeast : 1 ≤ m .product
   pub productMost : m .product ≤ mostControls
 
+-- a word of queue p and length len, whose messages stand from entry first on, with room for so many
+pub record WordValid (q : Queues) (room p len first : ℕ) (table : List ℕ) : Type 0 where
+  pub most : len ≤ room
+  pub word : (j : ℕ) → j < len → OfQueue q p (getD table (first + j) 0)
+  pub below : (j : ℕ) → j < len → getD table (first + j) 0 < q .sum
+  pub rest : (j : ℕ) → len ≤ j → j < room → getD table (first + j) 0 ≡ 0
+
+-- what waits at the start: in each queue a word of its own
+pub record StartingValid (q : Queues) : Type 0 where
+  pub lengthsLong : length (q .lengths) ≡ mostQueues
+  pub contentsLong : length (q .contents) ≡ startingLength
+  pub words : (i : ℕ) → i < q .count → WordValid q mostStarting i (getD (q .lengths) i 0) (i * mostStarting) (q .contents)
+  pub lengthsRest : (i : ℕ) → q .count ≤ i → getD (q .lengths) i 0 ≡ 0
+  pub contentsRest : (k : ℕ) → q .count * mostStarting ≤ k → getD (q .contents) k 0 ≡ 0
+
 pub record QueuesValid (q : Queues) : Type 0 where
   pub least : 1 ≤ q .count
   pub most : q .count ≤ mostQueues
@@ -44,6 +60,7 @@ pub record QueuesValid (q : Queues) : Type 0 where
   pub sum : q .sum ≡ firstMessage (q .messages) (q .count)
   pub sumLeast : 1 ≤ q .sum
   pub sumMost : q .sum ≤ mostMessages
+  pub starting : StartingValid q
 
 -- machine i from state a to state b, of kind k
 pub record MoveValid (m : Machines) (i a b k : ℕ) : Type 0 where
@@ -52,13 +69,10 @@ pub record MoveValid (m : Machines) (i a b k : ℕ) : Type 0 where
   pub to : b < getD (m .states) i 0
   pub kind : k < 3
 
--- queue p and a word of length len, whose messages stand from entry first on
+-- queue p and a word of it
 pub record ActionValid (q : Queues) (p len first : ℕ) (rows : List ℕ) : Type 0 where
   pub queue : p < q .count
-  pub most : len ≤ mostWord
-  pub word : (j : ℕ) → j < len → OfQueue q p (getD rows (first + j) 0)
-  pub below : (j : ℕ) → j < len → getD rows (first + j) 0 < q .sum
-  pub rest : (j : ℕ) → len ≤ j → j < mostWord → getD rows (first + j) 0 ≡ 0
+  pub word : WordValid q mostWord p len first rows
 
 -- the row that begins at entry row; of a local transition queue and word length are 0, and so is the word
 pub record RowValid (m : Machines) (q : Queues) (rows : List ℕ) (row : ℕ) : Type 0 where

@@ -3,6 +3,7 @@ use crate::tables::MOST_MACHINES;
 use crate::tables::MOST_QUEUES;
 use crate::tables::Machines;
 use crate::tables::Queues;
+use crate::tables::STARTING;
 ghost use mathlib.Core.Path.{_≡_};
 ghost use Rattle.tables.specs.Empty.{emptyMachines, emptyQueues};
 
@@ -24,5 +25,7 @@ pub fn empty_queues() -> Queues
         count: 0,
         sum: 0,
         messages: [0u8; MOST_QUEUES as usize],
+        lengths: [0u8; MOST_QUEUES as usize],
+        contents: [0u8; STARTING],
     }
 }

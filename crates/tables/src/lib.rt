@@ -3,4 +3,5 @@ pub mod empty;
 pub mod kinds;
 pub mod lookup;
 pub mod spans;
+pub mod starting;
 pub mod tables;

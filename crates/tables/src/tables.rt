@@ -13,6 +13,9 @@ pub const MOST_QUEUES: u8 = 4;
 
 pub const MOST_MESSAGES: u8 = Message::LIMIT as u8;
 
+// Messages that a queue starts with.
+pub const MOST_STARTING: u8 = 8;
+
 pub const MOST_TRANSITIONS: u8 = 128;
 
 pub const MOST_WORD: u8 = 16;
@@ -48,6 +51,9 @@ pub const ENTRY: usize = 2;
 
 pub const ENTRIES: usize = MOST_BAD as usize * ENTRY;
 
+// What waits at the start: the messages of queue q from entry q * MOST_STARTING on.
+pub const STARTING: usize = MOST_QUEUES as usize * MOST_STARTING as usize;
+
 pub struct Machines {
     pub count: u8,
     pub product: usize,
@@ -59,6 +65,9 @@ pub struct Queues {
     pub count: u8,
     pub sum: u8,
     pub messages: [u8; MOST_QUEUES as usize],
+    // how many messages each queue starts with, and these
+    pub lengths: [u8; MOST_QUEUES as usize],
+    pub contents: [u8; STARTING],
 }
 
 pub struct Transitions {
@@ -81,7 +90,7 @@ pub struct BadList {
     pub rows: [u8; ENTRIES],
 }
 
-// Fields 1 to 3: what moves.
+// Fields 1 to 3: what moves, and from where.
 pub struct ModelTables {
     pub machines: Machines,
     pub queues: Queues,

@@ -1,10 +1,10 @@
 -- Lists of so many values.
 use Prim.Native.Nat.{ℕ, zero, suc, _+_, _≤_, _<_}
 use mathlib.Core.Path.{_≡_, refl, ap, ap₂, _∙_}
-use mathlib.Core.List.{List, [], _∷_, _++_, map}
+use mathlib.Core.List.{List, [], _∷_, _++_}
 use native.Mathlib.Omega.{arith}
 use lib.ListN.{length, getD, set}
-use Rattle.rings.specs.Ring.{each}
+use Rattle.tables.specs.Starting.{each}
 
 pub each-length : (f : ℕ → List ℕ) (left q : ℕ) → length (each f left q) ≡ left
 each-length f zero q = refl
@@ -40,8 +40,3 @@ each-snoc f (suc left) q =
     ap (λ l. f q ∷ l)
     (each-snoc f left (q + 1)
     ∙ ap (λ k. each f left (q + 1) ++ (f k ∷ [])) (let z : q + 1 + left ≡ q + suc left = omega arith in z))
-
--- so many empty queues
-pub each-empty : (ns : List ℕ) (q : ℕ) → each (λ k. []) (length ns) q ≡ map (λ n. []) ns
-each-empty [] q = refl
-each-empty (n ∷ ns) q = ap (λ l. [] ∷ l) (each-empty ns (q + 1))
