@@ -28,7 +28,7 @@ abbrev pub receiver : Transition
 receiver = record { machine = 1; from = 0; to = 0; action = receive 0 (0 ∷ []) }
 
 abbrev pub modelR : Model
-modelR = record { sizes = 1 ∷ 1 ∷ []; starts = 0 ∷ 0 ∷ []; queues = 1 ∷ []; transitions = sender ∷ receiver ∷ [] }
+modelR = record { sizes = 1 ∷ 1 ∷ []; starts = 0 ∷ 0 ∷ []; queues = 1 ∷ []; starting = [] ∷ []; transitions = sender ∷ receiver ∷ [] }
 
 abbrev pub sessionR : Pool → List (ℕ × ℕ) → Session
 sessionR P bads = record { model = modelR; pool = P; root = λ c. some 0; bad = bads }
@@ -50,7 +50,7 @@ nothingAccepted = record { states = 1; final = λ s. false; arc = λ s m. elim (
 abbrev sessionS : Action → Session
 sessionS a =
     record {
-      model = record { sizes = 1 ∷ []; starts = 0 ∷ []; queues = 1 ∷ 1 ∷ []; transitions = record { machine = 0; from = 0; to = 0; action = a } ∷ [] };
+      model = record { sizes = 1 ∷ []; starts = 0 ∷ []; queues = 1 ∷ 1 ∷ []; starting = [] ∷ [] ∷ []; transitions = record { machine = 0; from = 0; to = 0; action = a } ∷ [] };
       pool = record { states = 2; final = λ s. true; arc = λ s m. elim (eqb m 1) [ true ↦ some 1 | false ↦ elim (eqb (s + m) 0) [ true ↦ some 0 | false ↦ none ] ] };
       root = λ c. some 0;
       bad = [];

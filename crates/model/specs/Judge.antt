@@ -7,7 +7,7 @@ use lib.Dec.{eqb, ltb}
 use lib.ListN.{length, drop}
 use Rattle.explore.specs.Explore.{Entry, explore, firstBy}
 use Rattle.model.specs.Model.{Action, Transition, local, send, receive, messages, first, moved, begin}
-use Rattle.model.specs.Diagram.{along, follow, howFar, isFinal, frontOf, restOf}
+use Rattle.model.specs.Diagram.{along, follow, howFar, isFinal, frontOf, restOf, word}
 use Rattle.model.specs.Session.{Session, inside}
 use Rattle.model.specs.Verdict.{Item, start, step, entry, items, Pair, before, after, mostPairs, Reply, closed, outside, leaves, bad}
 
@@ -139,7 +139,7 @@ module _ (S : Session) where
   judgeWalk (some B) = look (B .walk) (walked S (B .walk) (B .root))
 
   unfoldable pub judge : Item → Judged
-  judge start = elim (inside S (begin (S .model))) [ true ↦ passes 0 | false ↦ fails [] ]
+  judge start = elim (inside S (begin (S .model))) [ true ↦ passes 0 | false ↦ fails (word (S .model .starting)) ]
   judge (step c t τ) = judgeWalk (walkOf (step c t τ))
   judge (entry b e) = judgeWalk (walkOf (entry b e))
 

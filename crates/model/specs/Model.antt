@@ -1,7 +1,7 @@
 -- The model (source document 000, section 2, by its prose): machines and queues, control states, configurations, a step, a run.
 use mathlib.Core.Bool.{Bool, true, false}
 use mathlib.Core.Option.{Option, none, some, Option·map}
-use mathlib.Core.List.{List, [], _∷_, _++_, map}
+use mathlib.Core.List.{List, [], _∷_, _++_}
 use Prim.Native.Nat.{ℕ, zero, suc, _+_, _-_, _*_, _/_, _%_, _≤_, _<_}
 use lib.ListN.{getD, set, getElem?}
 use lib.Dec.{eqb, ltb}
@@ -23,8 +23,9 @@ pub record Model : Type 0 where
   -- for each machine how many states it has, and its starting state
   pub sizes : List ℕ
   pub starts : List ℕ
-  -- for each queue how many messages it has
+  -- for each queue how many messages it has, and what waits in it at the start (document 02, change 8)
   pub queues : List ℕ
+  pub starting : List (List ℕ)
   pub transitions : List Transition
 
 -- CONTROL STATES are numbered with machine 0 most significant
@@ -122,9 +123,9 @@ module _ (M : Model) where
   abbrev pub next : ℕ → Configuration → Configuration
   next t γ = elim (take? t γ) [ some γ′ ↦ γ′ | none ↦ γ ]
 
-  -- THE RUN fed a list of numbers: its configurations, the first included. At the start all queues are empty
+  -- THE RUN fed a list of numbers: its configurations, the first included. At the start the machines are in their starting states, and in the queues waits what the model says
   abbrev pub begin : Configuration
-  begin = record { control = number (M .sizes) (M .starts); queues = map (λ n. []) (M .queues) }
+  begin = record { control = number (M .sizes) (M .starts); queues = M .starting }
 
   abbrev pub runFrom : Configuration → List ℕ → List Configuration
   runFrom γ [] = γ ∷ []

@@ -2,11 +2,12 @@
 -- is tested when it is taken, and the first wrong one ends the search. It is the same judgement (`search-is` of Laws/Searches).
 use mathlib.Core.Bool.{true, false}
 use mathlib.Core.Option.{Option, none, some}
-use mathlib.Core.List.{[], reverse}
+use mathlib.Core.List.{reverse}
 use Prim.Native.Nat.{ℕ, suc}
 use lib.ListN.{length}
 use Rattle.explore.specs.Search.{Outcome, found, finished, searchFrom, trace}
 use Rattle.model.specs.Model.{messages, begin}
+use Rattle.model.specs.Diagram.{word}
 use Rattle.model.specs.Session.{Session, inside}
 use Rattle.model.specs.Verdict.{Item, start, step, entry, Pair}
 use Rattle.model.specs.Judge.{same, Walk, Begun, go, wrong, contents, Judged, passes, fails, walkOf}
@@ -25,6 +26,6 @@ module _ (S : Session) where
   searchWalk fuel (some B) = searched fuel (B .walk) (B .root)
 
   unfoldable pub judgeBySearch : ℕ → Item → Judged
-  judgeBySearch fuel start = elim (inside S (begin (S .model))) [ true ↦ passes 0 | false ↦ fails [] ]
+  judgeBySearch fuel start = elim (inside S (begin (S .model))) [ true ↦ passes 0 | false ↦ fails (word (S .model .starting)) ]
   judgeBySearch fuel (step c t τ) = searchWalk fuel (walkOf S (step c t τ))
   judgeBySearch fuel (entry b e) = searchWalk fuel (walkOf S (entry b e))

@@ -55,6 +55,7 @@ module _ (M : Model) where
 
 pub record WellFormed (S : Session) : Type 0 where
   pub starts : States (S .model .sizes) (S .model .starts)
+  pub starting : Contents (S .model) (S .model .starting)
   pub moves : (τ : Transition) → Mem τ (S .model .transitions) → τ .to < getD (S .model .sizes) (τ .machine) 0
   pub words : (τ : Transition) → Mem τ (S .model .transitions) → OwnWord (S .model) (τ .action)
   pub arcs : (s m s′ : ℕ) → S .pool .arc s m ≡ some s′ → s′ < S .pool .states

@@ -151,7 +151,8 @@ module _ (S : Session) where
   -- WHAT A REPLY MEANS, over a list of items
   abbrev pub Means : List Item → Reply → Type 0
   Means is (closed n) = ((i : Item) → Mem i is → Passes S i) × Sum S is n
-  Means is outside = First S is start []
+  -- the contents that speak against the start are those that it has, and nothing is shown of them
+  Means is outside = First S is start (word (S .model .starting))
   Means is (leaves c t w f) = (τ : Transition) × (F : First S is (step c t τ) w) × (f ≡ howFarIn S (F .fails .against .after))
   Means is (bad b w) = (e : ℕ × ℕ) × First S is (entry b e) w
 

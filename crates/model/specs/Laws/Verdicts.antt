@@ -16,7 +16,6 @@ use Rattle.model.specs.Verdict.{Item, start, step, entry, items, Pair, b
 use Rattle.model.specs.Verdict.{Reply, closed, outside, bad, Closed, stepsFrom, entriesFrom}
 use Rattle.model.specs.Judge.{Judged, passes, fails, Begun, beginStep, beginEntry, walkOf, judgeWalk, judge, reply, decide, verdict}
 use Rattle.model.specs.TwoRuns.{TwoRuns}
-use Rattle.model.specs.Laws.Queues.{word-empty}
 use Rattle.model.specs.Laws.Items.{IsItem, item-is}
 use Rattle.model.specs.Laws.Basics.{none-not-some, false-not-true}
 use Rattle.model.specs.Laws.Walks.{follow-none}
@@ -53,14 +52,14 @@ module _ (S : Session) where
 
 -- THE JUDGEMENT OF AN ITEM
 module _ (S : Session) (wf : WellFormed S) where
-  start-means : (b : Bool) → inside S (begin (S .model)) ≡ b → JudgedMeans S start (elim b [ true ↦ passes 0 | false ↦ fails [] ])
+  start-means : (b : Bool) → inside S (begin (S .model)) ≡ b → JudgedMeans S start (elim b [ true ↦ passes 0 | false ↦ fails (word (S .model .starting)) ])
   start-means true e = ((λ γ (p, q). false-not-true q (ap (inside S) p ∙ e)), size-none (Visited S start) (λ x v. v))
   start-means false e =
       record {
         shown = begin (S .model);
         against = (refl, e);
-        contents = word-empty (S .model .queues);
-        least = λ γ (p, q). inr (sym (ap (λ δ. word (δ .queues)) p ∙ word-empty (S .model .queues)));
+        contents = refl;
+        least = λ γ (p, q). inr (sym (ap (λ δ. word (δ .queues)) p));
       }
 
   -- a walk judges its item; without a walk nothing speaks against it, and nothing is visited
@@ -94,12 +93,12 @@ module _ (S : Session) (wf : WellFormed S) where
   sum-snoc [] i n k s z = (k, 0, z, refl, omega arith)
   sum-snoc (j ∷ is) i n k (a, b, y, s, e) z = (a, b + k, y, sum-snoc is i b k s z, omega arith)
 
-  -- the start that fails shows no message
+  -- the start fails with the contents that it has
   reply-means : (is : List Item) (i : Item) (w : List ℕ) → IsItem S i → First S is i w → Means S is (reply S i w)
   reply-means is start w item F =
       let f = F .fails in
-      let empty : w ≡ [] = sym (f .contents) ∙ ap (λ γ. word (γ .queues)) (f .against .0) ∙ word-empty (S .model .queues) in
-      subst (First S is start) empty F
+      let its : w ≡ word (S .model .starting) = sym (f .contents) ∙ ap (λ γ. word (γ .queues)) (f .against .0) in
+      subst (First S is start) its F
   reply-means is (step c t τ) w item F = (τ, F, sym (far-after S wf c t τ item (F .fails .shown) (F .fails .against) (F .fails .contents)))
   reply-means is (entry b e) w item F = (e, F)
 
@@ -140,11 +139,11 @@ module _ (S : Session) (wf : WellFormed S) where
   pub closed-is : ((n : ℕ) × (verdict S ≡ closed n)) ↔ Closed S
   closed-is = ((λ c. passes-closed S wf (closed-items .0 c)), (λ C. closed-items .1 (λ i m. closed-passes S wf C i (item-is S i m))))
 
-  -- empty queues are not in the set of the starting control state
+  -- what waits at the start is not in the set of the starting control state
   pub outside-is : (verdict S ≡ outside) ↔ Outside S (begin (S .model))
   outside-is = ((λ e. let F = verdict-is outside .0 (sym e) in subst (Outside S) (F .fails .against .0) (F .fails .against .1)), (λ o. sym (verdict-is outside .1 (fails-first o))))
     where
-      fails-first : Outside S (begin (S .model)) → First S (items S) start []
+      fails-first : Outside S (begin (S .model)) → First S (items S) start (word (S .model .starting))
       fails-first o =
           record {
             earlier = [];

@@ -9,7 +9,7 @@ use lib.Dec.{eqb}
 use lib.ListN.{getD}
 use borrow.Author.Tests.{eqb-true}
 use Rattle.explore.specs.Mem.{Mem, here, there}
-use Rattle.model.specs.Model.{Configuration, Between, nothing, message, queueOf, run}
+use Rattle.model.specs.Model.{Configuration, Between, nothing, message, none-left, queue, queueOf, run}
 use Rattle.model.specs.Diagram.{OutOfOrder}
 use Rattle.model.specs.Session.{Session, OwnWord, WellFormed, Inside}
 use Rattle.model.specs.TwoRuns.{Says}
@@ -38,6 +38,7 @@ pub r-well-formed : WellFormed R
 r-well-formed =
     record {
       starts = (omega arith, (omega arith, tt));
+      starting = queue nothing none-left;
       moves = of-two (λ τ. τ .to < getD (1 ∷ 1 ∷ []) (τ .machine) 0) sender receiver (omega arith) (omega arith);
       words = of-two (λ τ. OwnWord modelR (τ .action)) sender receiver (omega arith, message zero-le (omega arith) nothing) (omega arith, message zero-le (omega arith) nothing);
       arcs = λ s m s′ e. omega (arith, arc-is s m s′ e);
