@@ -1,4 +1,5 @@
 pub mod Machines
+pub mod Words
 pub mod Queues
 pub mod Transitions
 pub mod Model

@@ -1,8 +1,9 @@
 -- Field 1: the machines, their states and starting states.
-use Prim.Native.Nat.{ℕ, zero, suc, _+_, _*_}
+use Prim.Native.Nat.{ℕ, zero, suc, _+_, _-_, _*_}
+use mathlib.Core.Bool.{Bool, cond}
 use mathlib.Core.List.{List}
 use lib.ListN.{getD, set, replicate}
-use lib.Dec.{leb}
+use lib.Dec.{ltb, leb}
 use Rattle.tables.specs.Limits.{mostMachines, mostStates, mostControls}
 use Rattle.numbers.specs.Part.{Part, got, provided, andThen}
 use Rattle.numbers.specs.Number.{readWithin, readBelow}
@@ -32,5 +33,19 @@ countedMachines s at count =
     andThen (readStarts s p₁ (sized .1) count 0 (replicate mostMachines 0)) (λ starts p₂.
     got (record { count = count; product = sized .0; states = sized .1; starts = starts }) p₂))
 
-unfoldable pub readMachines : List ℕ → ℕ → Part Machines
-readMachines s at = andThen (readWithin s at 1 mostMachines) (λ count p. countedMachines s p count)
+-- THE FIRST NUMBER of a file (document 02, change 8): above the most machines, the file says what waits at the start, and has that many machines
+-- less the most
+abbrev pub mostFirst : ℕ
+mostFirst = mostMachines + mostMachines
+
+abbrev pub resumesBy : ℕ → Bool
+resumesBy first = ltb mostMachines first
+
+abbrev pub machinesBy : ℕ → ℕ
+machinesBy first = cond (resumesBy first) (first - mostMachines) first
+
+unfoldable pub readMachines : List ℕ → ℕ → Part (Bool × Machines)
+readMachines s at =
+    andThen (readWithin s at 1 mostFirst) (λ first p₁.
+    andThen (countedMachines s p₁ (machinesBy first)) (λ m p₂.
+    got (resumesBy first, m) p₂))

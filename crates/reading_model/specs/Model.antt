@@ -9,7 +9,7 @@ use Rattle.tables.specs.declared.tables.ModelTables.{ModelTables}
 
 unfoldable pub readModel : List ℕ → ℕ → Part ModelTables
 readModel s at =
-    andThen (readMachines s at) (λ m p₁.
-    andThen (readQueues s p₁) (λ q p₂.
-    andThen (readTransitions s p₂ m q) (λ τ p₃.
-    got (record { machines = m; queues = q; transitions = τ }) p₃)))
+    andThen (readMachines s at) (λ first p₁.
+    andThen (readQueues s p₁ (first .0)) (λ q p₂.
+    andThen (readTransitions s p₂ (first .1) q) (λ τ p₃.
+    got (record { machines = first .1; queues = q; transitions = τ }) p₃)))

@@ -3,26 +3,16 @@ use mathlib.Core.Bool.{cond}
 use Prim.Native.Nat.{ℕ, zero, suc, _+_, _*_}
 use mathlib.Core.List.{List}
 use lib.ListN.{getD, set, replicate}
-use lib.Dec.{ltb, leb, eqb}
+use lib.Dec.{eqb}
 use Rattle.tables.specs.Limits.{mostTransitions, mostWord}
-use Rattle.numbers.specs.Part.{Part, got, provided, andThen}
+use Rattle.numbers.specs.Part.{Part, got, andThen}
 use Rattle.numbers.specs.Number.{readWithin, readBelow, readTwo}
 use Rattle.tables.specs.Queues.{firstMessage}
 use Rattle.tables.specs.declared.tables.Machines.{Machines}
 use Rattle.tables.specs.declared.tables.Queues.{Queues}
 use Rattle.tables.specs.declared.tables.Transitions.{Transitions}
+use Rattle.reading_model.specs.Words.{readWord}
 use Rattle.tables.specs.Rows.{rowLength, rowsLength, fromEntry, toEntry, kindEntry, queueEntry, lengthEntry, wordEntry}
-
--- a message of the queue whose messages are those from lo on and below hi
-unfoldable pub readMessage : List ℕ → ℕ → ℕ → ℕ → ℕ → Part ℕ
-readMessage s at sum lo hi =
-    andThen (readBelow s at sum) (λ m next. provided (leb lo m) 7 at (provided (ltb m hi) 7 at (got m next)))
-
--- the messages of a word, into the table's entries from j on
-unfoldable pub readWord : List ℕ → ℕ → ℕ → ℕ → ℕ → ℕ → ℕ → List ℕ → Part (List ℕ)
-readWord s at sum lo hi zero j rows = got rows at
-readWord s at sum lo hi (suc left) j rows =
-    andThen (readMessage s at sum lo hi) (λ m next. readWord s next sum lo hi left (j + 1) (set rows j m))
 
 -- what a send and a receive go on with: queue, word length, word
 unfoldable pub readAction : List ℕ → ℕ → Queues → ℕ → List ℕ → Part (List ℕ)

@@ -51,7 +51,7 @@ pub fn read_model(s: &[u8], at: usize, rows: &mut [u8; ROWS]) -> ModelRead
     match after_machines {
         Filled::Refused(why) => refused(why),
         Filled::To(p1) => {
-            let second = read_queues(s, p1);
+            let second = read_queues(s, p1, first.resumes);
             let after_queues = second.filled;
             match after_queues {
                 Filled::Refused(why) => refused(why),

@@ -2,4 +2,6 @@
 pub mod fields;
 mod machines;
 mod queues;
+mod starting;
 mod transitions;
+mod words;

@@ -6,18 +6,23 @@ use numbers::number::read_below;
 use numbers::number::read_within;
 use numbers::number::wide;
 use numbers::refusal::Refusal;
+use tables::empty::empty_machines;
 use tables::tables::MOST_CONTROLS;
 use tables::tables::MOST_MACHINES;
 use tables::tables::MOST_STATES;
 use tables::tables::Machines;
 ghost use mathlib.Core.Path.{_≡_};
 ghost use Prim.Native.Nat.{_≤_};
+ghost use Rattle.numbers.specs.Part.{got, andThen};
 ghost use Rattle.numbers.specs.Said.{saidField, numberWith, filledWith};
 ghost use Rattle.tables.specs.Limits.{mostMachines, mostControls};
 ghost use Rattle.reading_model.specs.Machines.{readFactor, readSizes, readStarts, countedMachines, readMachines};
+ghost use Rattle.reading_model.specs.Lent.{resuming};
 
+// The file resumes if it says what waits at the start.
 pub struct MachinesRead {
     pub filled: Filled,
+    pub resumes: bool,
     pub machines: Machines,
 }
 
@@ -86,15 +91,16 @@ fn read_starts(
 }
 
 // Both, for machines of this count.
-fn read_counted(s: &[u8], at: usize, count: u8) -> MachinesRead
+fn read_counted(s: &[u8], at: usize, resumes: bool, count: u8) -> MachinesRead
     requires { ⌜ count ≤ mostMachines ⌝ }
-    ensures { λ r. ⌜ filledWith (r .filled) (r .machines) ≡ countedMachines (now (s .entry)) at count ⌝ }
+    ensures { λ r. ⌜ filledWith (r .filled) (resuming (r .resumes) (r .machines)) ≡ andThen (countedMachines (now (s .entry)) at count) (λ m p. got (resuming resumes m) p) ⌝ }
 {
     let mut states = [0u8; MOST_MACHINES as usize];
     let mut starts = [0u8; MOST_MACHINES as usize];
     match read_sizes(s, at, count as usize, &mut states) {
         Number::Refused(why) => MachinesRead {
             filled: Filled::Refused(why),
+            resumes,
             machines: Machines {
                 count,
                 product: 0,
@@ -106,6 +112,7 @@ fn read_counted(s: &[u8], at: usize, count: u8) -> MachinesRead
             let filled = read_starts(s, place, states, count as usize, &mut starts);
             MachinesRead {
                 filled,
+                resumes,
                 machines: Machines {
                     count,
                     product,
@@ -117,19 +124,21 @@ fn read_counted(s: &[u8], at: usize, count: u8) -> MachinesRead
     }
 }
 
+// A first number above the most machines says that the file resumes; it has that many machines less the most.
 pub(crate) fn read_machines(s: &[u8], at: usize) -> MachinesRead
-    ensures { λ r. ⌜ filledWith (r .filled) (r .machines) ≡ readMachines (now (s .entry)) at ⌝ }
+    ensures { λ r. ⌜ filledWith (r .filled) (resuming (r .resumes) (r .machines)) ≡ readMachines (now (s .entry)) at ⌝ }
 {
-    match read_within(s, at, 1, MOST_MACHINES) {
+    match read_within(s, at, 1, MOST_MACHINES + MOST_MACHINES) {
         Field::Refused(why) => MachinesRead {
             filled: Filled::Refused(why),
-            machines: Machines {
-                count: 0,
-                product: 0,
-                states: [0u8; MOST_MACHINES as usize],
-                starts: [0u8; MOST_MACHINES as usize],
-            },
+            resumes: false,
+            machines: empty_machines(),
         },
-        Field::Value(count, place) => read_counted(s, place, count),
+        Field::Value(first, place) => {
+            if MOST_MACHINES < first {
+                return read_counted(s, place, true, first - MOST_MACHINES);
+            }
+            read_counted(s, place, false, first)
+        }
     }
 }

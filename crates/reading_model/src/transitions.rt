@@ -1,4 +1,5 @@
 // Field 3: the transitions, each in a row of the table.
+use crate::words::read_word;
 use numbers::number::Field;
 use numbers::number::Filled;
 use numbers::number::Pair;
@@ -10,7 +11,6 @@ use numbers::number::read_within;
 use numbers::number::wide;
 use numbers::number::within;
 use numbers::reader::two_at;
-use numbers::refusal::Refusal;
 use tables::spans::messages_of;
 use tables::tables::FROM;
 use tables::tables::KIND;
@@ -25,66 +25,17 @@ use tables::tables::ROWS;
 use tables::tables::TO;
 use tables::tables::WORD;
 ghost use mathlib.Core.Path.{_≡_};
-ghost use Prim.Native.Nat.{_+_, _-_, _≤_};
+ghost use Prim.Native.Nat.{_+_, _≤_};
 ghost use lib.ListN.{getD, replicate};
-ghost use Rattle.numbers.specs.Said.{saidField, filledWith};
+ghost use Rattle.numbers.specs.Said.{filledWith};
 ghost use Rattle.tables.specs.Limits.{mostControls, mostTransitions};
 ghost use Rattle.tables.specs.Rows.{rowLength, rowsLength};
-ghost use Rattle.reading_model.specs.Transitions.{readMessage, readWord, readAction, readTransition, readRows, readTransitions};
+ghost use Rattle.reading_model.specs.Transitions.{readAction, readTransition, readRows, readTransitions};
 ghost use Rattle.reading_model.specs.Lent.{lentTransitions};
 
 pub struct TransitionsRead {
     pub filled: Filled,
     pub count: u8,
-}
-
-// A message below the sum, of the queue whose messages are those from lo on and below hi.
-fn read_message(s: &[u8], at: usize, sum: u8, lo: usize, hi: usize) -> Field
-    ensures { λ r. ⌜ saidField r ≡ readMessage (now (s .entry)) at sum lo hi ⌝ }
-{
-    match read_below(s, at, wide(sum)) {
-        Field::Refused(why) => Field::Refused(why),
-        Field::Value(m, next) => {
-            let raw = wide(m);
-            if raw < lo {
-                return Field::Refused(Refusal::OtherQueue(at));
-            }
-            if hi <= raw {
-                return Field::Refused(Refusal::OtherQueue(at));
-            }
-            Field::Value(m, next)
-        }
-    }
-}
-
-// A word into the entries from start on.
-fn read_word(
-    s: &[u8],
-    at: usize,
-    sum: u8,
-    lo: usize,
-    hi: usize,
-    start: usize,
-    end: usize,
-    rows: &mut [u8; ROWS],
-) -> Filled
-    requires { ⌜ start ≤ end ⌝ }
-    requires { ⌜ end ≤ rowsLength ⌝ }
-    ensures { λ r. ⌜ filledWith r (now (rows .exit)) ≡ readWord (now (s .entry)) at sum lo hi (end - start) start (now (rows .entry)) ⌝ }
-{
-    let mut place = at;
-    let mut j = start;
-    while j < end {
-        match read_message(s, place, sum, lo, hi) {
-            Field::Refused(why) => return Filled::Refused(why),
-            Field::Value(m, next) => {
-                rows[j] = m;
-                place = next;
-                j += 1;
-            }
-        }
-    }
-    Filled::To(place)
 }
 
 // What a send and a receive go on with.

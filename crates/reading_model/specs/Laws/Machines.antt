@@ -1,9 +1,11 @@
 -- What holds of the machines that were read (field 1).
-use Prim.Native.Nat.{ℕ, zero, suc, _+_, _*_, _≤_, _<_}
+use Prim.Native.Nat.{ℕ, zero, suc, _+_, _-_, _*_, _≤_, _<_}
+use mathlib.Core.Bool.{Bool, true, false, cond}
 use mathlib.Core.Path.{_≡_, refl, sym, ap, ap₂, subst, _∙_}
 use mathlib.Core.List.{List}
 use lib.ListN.{length, getD, set, replicate}
 use lib.Seq.{getD-set-same, getD-set-other}
+use borrow.Author.Tests.{ltb-true, ltb-false}
 use native.Mathlib.Omega.{arith}
 use native.Mathlib.Nat.{mul-le-mul, zero-add}
 use native.Mathlib.Numerals.{add-one}
@@ -11,7 +13,7 @@ use Rattle.tables.specs.Limits.{mostMachines, mostStates, mostControls}
 use Rattle.numbers.specs.Part.{got}
 use Rattle.numbers.specs.Laws.Parts.{andThen-got, same-value}
 use Rattle.numbers.specs.Number.{readWithin, readBelow}
-use Rattle.reading_model.specs.Machines.{readFactor, readSizes, readStarts, countedMachines, readMachines}
+use Rattle.reading_model.specs.Machines.{readFactor, readSizes, readStarts, countedMachines, mostFirst, resumesBy, machinesBy, readMachines}
 use Rattle.numbers.specs.Laws.Ranges.{below-range, within-range}
 use Rattle.tables.specs.Valid.{productOf, MachinesValid}
 use Rattle.reading_model.specs.Laws.Ranges.{factor-range, factor-within}
@@ -105,9 +107,19 @@ module _ (s : List ℕ) where
         productMost = z .most;
       })
 
-  pub machines-valid : (at : ℕ) {m : Machines} {next : ℕ} → readMachines s at ≡ got m next → MachinesValid m
+  -- the number of machines, by the first number of a file
+  machines-by : (first : ℕ) → 1 ≤ first → first ≤ mostFirst → (1 ≤ machinesBy first) × (machinesBy first ≤ mostMachines)
+  machines-by first l h = byTest (resumesBy first) refl
+    where
+      byTest : (b : Bool) → resumesBy first ≡ b → (1 ≤ cond b (first - mostMachines) first) × (cond b (first - mostMachines) first ≤ mostMachines)
+      byTest true e = omega (arith, ltb-true mostMachines first e)
+      byTest false e = omega (arith, ltb-false mostMachines first e)
+
+  pub machines-valid : (at : ℕ) {x : Bool × Machines} {next : ℕ} → readMachines s at ≡ got x next → MachinesValid (x .1)
   unfolding readMachines
   machines-valid at e =
-      let t = andThen-got (readWithin s at 1 mostMachines) e in
-      let r = within-range s at 1 mostMachines (t .first) in
-      counted-valid (t .place) (t .value) (r .0) (r .1) (t .then)
+      let t = andThen-got (readWithin s at 1 mostFirst) e in
+      let r = within-range s at 1 mostFirst (t .first) in
+      let c = andThen-got (countedMachines s (t .place) (machinesBy (t .value))) (t .then) in
+      let n = machines-by (t .value) (r .0) (r .1) in
+      subst (λ y. MachinesValid (y .1)) (same-value (c .then)) (counted-valid (t .place) (machinesBy (t .value)) (n .0) (n .1) (c .first))

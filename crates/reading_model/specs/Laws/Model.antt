@@ -10,7 +10,7 @@ use Rattle.reading_model.specs.Transitions.{readTransitions}
 use Rattle.reading_model.specs.Model.{readModel}
 use Rattle.tables.specs.Valid.{ModelValid}
 use Rattle.reading_model.specs.Laws.Machines.{machines-valid}
-use Rattle.reading_model.specs.Laws.Queues.{queues-valid}
+use Rattle.reading_model.specs.Laws.Starting.{queues-valid}
 use Rattle.reading_model.specs.Laws.Transitions.{transitions-valid}
 use Rattle.tables.specs.declared.tables.ModelTables.{ModelTables}
 
@@ -18,12 +18,12 @@ pub model-valid : (s : List ℕ) (at : ℕ) {M : ModelTables} {next : ℕ} → r
 unfolding readModel
 model-valid s at e =
     let m = andThen-got (readMachines s at) e in
-    let q = andThen-got (readQueues s (m .place)) (m .then) in
-    let τ = andThen-got (readTransitions s (q .place) (m .value) (q .value)) (q .then) in
-    let queues = queues-valid s (m .place) (q .first) in
+    let q = andThen-got (readQueues s (m .place) (m .value .0)) (m .then) in
+    let τ = andThen-got (readTransitions s (q .place) (m .value .1) (q .value)) (q .then) in
+    let queues = queues-valid s (m .place) (m .value .0) (q .first) in
     subst ModelValid (same-value (τ .then))
     (record {
       machines = machines-valid s at (m .first);
       queues = queues;
-      transitions = transitions-valid s (m .value) (q .value) (queues .least) (q .place) (τ .first);
+      transitions = transitions-valid s (m .value .1) (q .value) (queues .least) (q .place) (τ .first);
     })

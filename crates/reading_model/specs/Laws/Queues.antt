@@ -1,15 +1,16 @@
--- What holds of the queues that were read (field 2).
-use Prim.Native.Nat.{ℕ, _+_, _-_, _≤_, _<_}
+-- What holds of the queues that were read (field 2), where they start empty.
+use Prim.Native.Nat.{ℕ, _+_, _-_, _*_, _≤_, _<_}
 use mathlib.Core.Path.{_≡_, refl, sym, ap, subst, _∙_}
 use mathlib.Core.List.{List}
 use lib.ListN.{length, set, replicate}
 use native.Mathlib.Omega.{arith}
 use native.Mathlib.Nat.{zero-add}
-use Rattle.tables.specs.Limits.{mostQueues, mostMessages}
+use Rattle.tables.specs.Limits.{mostQueues, mostMessages, mostStarting}
+use Rattle.tables.specs.Starting.{startingLength}
 use Rattle.numbers.specs.Part.{got}
 use Rattle.numbers.specs.Laws.Parts.{andThen-got, same-value}
 use Rattle.numbers.specs.Number.{readWithin}
-use Rattle.reading_model.specs.Queues.{readTerm, readCounts, readQueues}
+use Rattle.reading_model.specs.Queues.{readTerm, readCounts, countedQueues}
 use Rattle.tables.specs.Queues.{firstMessage}
 use Rattle.numbers.specs.Laws.Ranges.{within-range}
 use Rattle.tables.specs.Valid.{QueuesValid}
@@ -57,9 +58,9 @@ module _ (s : List ℕ) where
         most = omega arith;
       })
 
-  pub queues-valid : (at : ℕ) {q : Queues} {next : ℕ} → readQueues s at ≡ got q next → QueuesValid q
-  unfolding readQueues
-  queues-valid at e =
+  pub counted-valid : (at : ℕ) {q : Queues} {next : ℕ} → countedQueues s at ≡ got q next → QueuesValid q
+  unfolding countedQueues
+  counted-valid at e =
       let t = andThen-got (readWithin s at 1 mostQueues) e in
       let r = within-range s at 1 mostQueues (t .first) in
       let a = andThen-got (readCounts s (t .place) 0 (t .value) 0 (replicate mostQueues 0)) (t .then) in
@@ -74,4 +75,20 @@ module _ (s : List ℕ) where
         sum = z .sum;
         sumLeast = omega (arith, z .least, r .0);
         sumMost = z .most;
+        starting =
+            record {
+              lengthsLong = refl;
+              contentsLong = refl;
+              words =
+                  λ i g.
+                  let n = zeros-hold mostQueues i in
+                  record {
+                    most = omega arith;
+                    word = λ j h. absurd (omega arith);
+                    below = λ j h. absurd (omega arith);
+                    rest = λ j h l. zeros-hold startingLength (i * mostStarting + j);
+                  };
+              lengthsRest = λ i g. zeros-hold mostQueues i;
+              contentsRest = λ k g. zeros-hold startingLength k;
+            };
       })

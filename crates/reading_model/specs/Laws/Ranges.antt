@@ -11,7 +11,7 @@ use Rattle.numbers.specs.Number.{readWithin, readBelow}
 use Rattle.numbers.specs.Laws.Ranges.{below-range, within-range, tested-got}
 use Rattle.reading_model.specs.Machines.{readFactor}
 use Rattle.reading_model.specs.Queues.{readTerm}
-use Rattle.reading_model.specs.Transitions.{readMessage}
+use Rattle.reading_model.specs.Words.{readMessage}
 
 module _ (s : List ℕ) (at : ℕ) {v next : ℕ} where
   -- a machine's states: in range, and so is the product with those before it
@@ -41,7 +41,7 @@ module _ (s : List ℕ) (at : ℕ) {v next : ℕ} where
       leb-true (sum + v) mostMessages
       (tested-got (readWithin s at 1 mostMessages) (λ w. leb (sum + w) mostMessages) 6 at e .1)
 
-  -- a message of a transition's word
+  -- a message of a word
   pub message-range : (sum lo hi : ℕ) → readMessage s at sum lo hi ≡ got v next → (lo ≤ v) × (v < hi) × (v < sum)
   unfolding readMessage
   message-range sum lo hi e =

@@ -13,12 +13,12 @@ use Rattle.tables.specs.Limits.{mostTransitions, mostWord}
 use Rattle.numbers.specs.Part.{got, andThen}
 use Rattle.numbers.specs.Laws.Parts.{andThen-got, same-value}
 use Rattle.numbers.specs.Number.{readWithin, readBelow, readTwo}
-use Rattle.tables.specs.Queues.{firstMessage, OfQueue}
-use Rattle.reading_model.specs.Transitions.{readMessage, readWord, readAction, readTransition, readRows, readTransitions}
+use Rattle.tables.specs.Queues.{firstMessage}
+use Rattle.reading_model.specs.Transitions.{readAction, readTransition, readRows, readTransitions}
 use Rattle.numbers.specs.Laws.Ranges.{below-range, within-range, two-range}
 use Rattle.tables.specs.Valid.{MoveValid, ActionValid, RowValid, TransitionsValid}
-use Rattle.reading_model.specs.Laws.Ranges.{message-range}
-use Rattle.numbers.specs.Laws.Written.{Changed, changed-none, changed-set, changed-then, changed-wider, Entries, entries-none, entries-more, Written, written-none, written-more, zeros-hold}
+use Rattle.reading_model.specs.Laws.Words.{word-same, word-read, word-made}
+use Rattle.numbers.specs.Laws.Written.{Changed, changed-none, changed-set, changed-then, changed-wider, Written, written-none, written-more, zeros-hold}
 use Rattle.numbers.specs.Laws.Rounds.{Rounds, rounds-keep}
 use Rattle.tables.specs.declared.tables.Machines.{Machines}
 use Rattle.tables.specs.declared.tables.Queues.{Queues}
@@ -36,7 +36,7 @@ row-same m q row t u same r =
     let e₄ = sym (same (queueEntry row) (omega arith)) in
     let e₅ = sym (same (lengthEntry row) (omega arith)) in
     let a = r .action in
-    let n = a .most in
+    let n = a .word .most in
     record {
       move =
           subst₂ (λ x y. MoveValid m (machineAt u row) (fromAt u row) x y) e₂ e₃
@@ -45,10 +45,7 @@ row-same m q row t u same r =
           subst₂ (λ x y. ActionValid q x y (wordEntry row) u) e₄ e₅
           (record {
             queue = a .queue;
-            most = n;
-            word = λ j h. subst (OfQueue q (queueAt t row)) (sym (same (wordEntry row + j) (omega arith))) (a .word j h);
-            below = λ j h. subst (λ x. x < q .sum) (sym (same (wordEntry row + j) (omega arith))) (a .below j h);
-            rest = λ j l h. same (wordEntry row + j) (omega arith) ∙ a .rest j l h;
+            word = word-same q (lengthAt t row) (λ k h. same k (omega arith)) (a .word);
           });
       local = λ z. let f = r .local (e₃ ∙ z) in (sym e₄ ∙ f .0, sym e₅ ∙ f .1);
     }
@@ -117,23 +114,6 @@ row-made m q row before after x i a b k d acted local v =
     )
 
 module _ (s : List ℕ) where
-  pub word-rounds : (sum lo hi : ℕ) → Rounds (λ left j at x. readWord s at sum lo hi left j x) (λ j at x. readMessage s at sum lo hi)
-      (λ j v x. set x j v)
-  unfolding readWord
-  word-rounds sum lo hi = record { stop = λ i at x. refl; round = λ left i at x. refl }
-
-  word-read : (sum lo hi len first at : ℕ) (before : List ℕ) {x : List ℕ} {next : ℕ} → first + len ≤ length before
-      → readWord s at sum lo hi len first before ≡ got x next
-      → Entries (λ k v. (lo ≤ v) × (v < hi) × (v < sum)) first (first + len) before x
-  word-read sum lo hi len first at before {x} h e =
-      (rounds-keep (word-rounds sum lo hi) (λ j t. (first ≤ j) × Entries (λ k v. (lo ≤ v) × (v < hi) × (v < sum)) first j before t)
-      (first + len)
-      (λ j at′ t v next l f z. (
-        omega (arith, z .0),
-        entries-more (λ k w. (lo ≤ w) × (w < hi) × (w < sum)) (z .0) (omega arith) (z .1) (message-range s at′ sum lo hi f),
-      ))
-      len first at before refl e (omega arith, entries-none (λ k w. (lo ≤ w) × (w < hi) × (w < sum)) first before)) .1
-
   action-read : (q : Queues) (row at : ℕ) (before : List ℕ) {x : List ℕ} {next : ℕ} → row + rowLength ≤ length before
       → ((k : ℕ) → row + 4 ≤ k → getD before k 0 ≡ 0) → readAction s at q row before ≡ got x next → Acted q row before x
   unfolding readAction
@@ -148,7 +128,7 @@ module _ (s : List ℕ) where
       let l₁ = length-set before (queueEntry row) queue in
       let l₂ = length-set b₁ (lengthEntry row) len in
       let z =
-      word-read (q .sum) (firstMessage (q .messages) queue) (firstMessage (q .messages) (suc queue)) len (wordEntry row) (u .place) b₂ (omega arith)
+      word-read s (q .sum) (firstMessage (q .messages) queue) (firstMessage (q .messages) (suc queue)) len (wordEntry row) (u .place) b₂ (omega arith)
       (u .then)
       in
       let c = z .changed in
@@ -168,14 +148,9 @@ module _ (s : List ℕ) where
             subst₂ (λ a b. ActionValid q a b (wordEntry row) x) (sym e₄) (sym e₅)
             (record {
               queue = below-range s at (q .count) (t .first);
-              most = n;
               word =
-                  λ j g.
-                  let r = z .each (wordEntry row + j) (omega arith) (omega arith) in
-                  record { queue = below-range s at (q .count) (t .first); from = r .0; below = r .1 };
-              below = λ j g. z .each (wordEntry row + j) (omega arith) (omega arith) .2;
-              rest =
-                  λ j l g. c .over (wordEntry row + j) (omega arith) ∙ c₂ .over (wordEntry row + j) (omega arith) ∙ blank (wordEntry row + j) (omega arith);
+                  word-made q queue (below-range s at (q .count) (t .first)) n z
+                  (λ k g. c₂ .over k (omega arith) ∙ blank k (omega arith));
             });
       }
 
@@ -193,10 +168,13 @@ module _ (s : List ℕ) where
           action =
               record {
                 queue = omega arith;
-                most = omega arith;
-                word = λ j g. absurd (omega arith);
-                below = λ j g. absurd (omega arith);
-                rest = λ j g₁ g₂. blank (wordEntry row + j) (omega arith);
+                word =
+                    record {
+                      most = omega arith;
+                      word = λ j g. absurd (omega arith);
+                      below = λ j g. absurd (omega arith);
+                      rest = λ j g₁ g₂. blank (wordEntry row + j) (omega arith);
+                    };
               };
         },
         λ z. (b₄, b₅),

@@ -16,7 +16,7 @@ use Rattle.numbers.proofs.number.wide.Reads as wide-reads
 use Rattle.numbers.proofs.number.within.Reads as within-reads
 use Rattle.numbers.proofs.reader.two_at.Reads as two-at-reads
 use Rattle.tables.proofs.spans.messages_of.Reads as messages-of-reads
-use Rattle.reading_model.proofs.transitions.read_word.Reads as read-word-reads
+use Rattle.reading_model.proofs.words.read_word.Reads as read-word-reads
 
 -- src/transitions.rt:86:9
 two-at-requires : tie.Need-two-at-requires

@@ -1,51 +1,51 @@
 use mathlib.Core.Path.{sym, ap, _∙_}
 use borrow.Author.Tests.{le-leb, lt-leb, lt-ltb, le-ltb}
 use Rattle.numbers.specs.Said.{saidField}
-use Rattle.reading_model.specs.Transitions.{readMessage}
+use Rattle.reading_model.specs.Words.{readMessage}
 use borrow.Author.Needs.{needs}
-use Rattle.reading_model.proofs.transitions.read_message.Statement.{statement}
-use Rattle.reading_model.proofs.transitions.read_message.Tie as tie
-use Rattle.reading_model.proofs.transitions.read_message.Reads as reads
-use Rattle.reading_model.proofs.transitions.read_message.Lts as lts
+use Rattle.reading_model.proofs.words.read_message.Statement.{statement}
+use Rattle.reading_model.proofs.words.read_message.Tie as tie
+use Rattle.reading_model.proofs.words.read_message.Reads as reads
+use Rattle.reading_model.proofs.words.read_message.Lts as lts
 use Rattle.numbers.proofs.number.read_below.Reads as read-below-reads
 use Rattle.numbers.proofs.number.wide.Reads as wide-reads
 
--- src/transitions.rt:22:29
+-- src/words.rt:22:29
 wide-requires : tie.Need-wide-requires
 wide-requires c κs = search needs
 
--- src/transitions.rt:22:11
+-- src/words.rt:22:11
 read-below-requires : tie.Need-read-below-requires
 read-below-requires c κs = search needs
 
--- src/transitions.rt:23:24
+-- src/words.rt:23:24
 enum-known-why : tie.Need-enum-known-why
 enum-known-why c = search needs
 
--- src/transitions.rt:24:22
+-- src/words.rt:24:22
 enum-known-m : tie.Need-enum-known-m
 enum-known-m c = search needs
 
--- src/transitions.rt:25:17
+-- src/words.rt:25:17
 wide-requires-2 : tie.Need-wide-requires-2
 wide-requires-2 c κs = search needs
 
--- src/transitions.rt:27:17
+-- src/words.rt:27:17
 returns : tie.Need-returns
 unfolding readMessage
 returns c = rw (← c .before .before .before .before .before .before .wide .ensures .same, sym (c .before .before .before .before .before .read-below .ensures) ∙ ap saidField (c .before .before .before .m .given .1), ← c .before .wide2 .ensures .same, lt-leb _ _ (c .if1 .taken))
 
--- src/transitions.rt:30:17
+-- src/words.rt:30:17
 returns-2 : tie.Need-returns-2
 unfolding readMessage
 returns-2 c = rw (← c .before .before .before .before .before .before .before .wide .ensures .same, sym (c .before .before .before .before .before .before .read-below .ensures) ∙ ap saidField (c .before .before .before .before .m .given .1), ← c .before .before .wide2 .ensures .same, le-leb _ _ (c .before .if1 .left), le-ltb _ _ (c .if2 .taken))
 
--- src/transitions.rt:19:1
+-- src/words.rt:19:1
 returns-3 : tie.Need-returns-3
 unfolding readMessage
 returns-3 c = rw (← c .before .before .before .before .wide .ensures .same, sym (c .before .before .before .read-below .ensures) ∙ ap saidField (c .before .why .given .1))
 
--- src/transitions.rt:19:1
+-- src/words.rt:19:1
 returns-4 : tie.Need-returns-4
 unfolding readMessage
 returns-4 c = rw (← c .before .before .before .before .before .before .before .wide .ensures .same, sym (c .before .before .before .before .before .before .read-below .ensures) ∙ ap saidField (c .before .before .before .before .m .given .1), ← c .before .before .wide2 .ensures .same, le-leb _ _ (c .before .if1 .left), lt-ltb _ _ (c .if2 .left))
