@@ -1,18 +1,21 @@
--- WHY A FILE IS REFUSED BY 3 TO 8 (document 01, "When a file or a question is turned away"): the field that reading has come to, the
+-- WHY A FILE IS REFUSED BY 3 TO 8 AND BY 23 (document 01, "When a file or a question is turned away"; document 02, change 8): the field that reading has come to, the
 -- number that stands there, and what it breaks. `Laws.Causes.refusal-cause` is the theorem.
 use Prim.Native.Nat.{ℕ, suc, _+_, _*_, _≤_, _<_}
 use mathlib.Core.Path.{_≡_}
 use mathlib.Core.Logic.{_⊎_}
+use mathlib.Core.Bool.{Bool, true}
 use mathlib.Core.Option.{Option, none, some}
 use mathlib.Core.List.{List}
 use lib.ListN.{length, getD, replicate}
-use Rattle.tables.specs.Limits.{mostMachines, mostStates, mostControls, mostQueues, mostMessages, mostTransitions, mostWord, mostPool, mostBad}
+use Rattle.tables.specs.Limits.{mostMachines, mostStates, mostControls, mostQueues, mostMessages, mostStarting, mostTransitions, mostWord, mostPool, mostBad}
 use Rattle.numbers.specs.Part.{got}
 use Rattle.numbers.specs.Number.{readNumber, readWithin, readBelow, readTwo}
-use Rattle.reading_model.specs.Machines.{readSizes, readStarts, readMachines}
-use Rattle.reading_model.specs.Queues.{readCounts, readQueues}
+use Rattle.reading_model.specs.Machines.{readSizes, readStarts, mostFirst, machinesBy, readMachines}
+use Rattle.reading_model.specs.Queues.{readCounts, countedQueues, readContents, readQueues}
+use Rattle.tables.specs.Starting.{startingLength}
 use Rattle.tables.specs.Queues.{firstMessage, OfQueue}
-use Rattle.reading_model.specs.Transitions.{readWord, readRows}
+use Rattle.reading_model.specs.Words.{readWord}
+use Rattle.reading_model.specs.Transitions.{readRows}
 use Rattle.reading_model.specs.Model.{readModel}
 use Rattle.tables.specs.Pool.{poolArcs}
 use Rattle.reading_pool.specs.Pool.{readAscending, readArc, readStates, readPool}
@@ -35,13 +38,15 @@ pub data FileField : Type 0 where
   queueCount : FileField
   -- of a queue; the sum of the messages of those before it
   queueMessages : ℕ → FileField
+  -- of a queue, in a file that resumes
+  contentLength : FileField
   transitionCount : FileField
   -- of a transition; the machines, and for from and to its machine's states
   machine : ℕ → FileField
   fromState : ℕ → FileField
   toState : ℕ → FileField
   kind : FileField
-  -- of a send or a receive; the queues, and for a message of its word the queue that it names
+  -- of a send or a receive; the queues. A message of its word, or one that waits at the start; its queue
   queue : ℕ → FileField
   wordLength : FileField
   wordMessage : Queues → ℕ → FileField
@@ -61,11 +66,13 @@ pub data FileField : Type 0 where
 
 -- THE RANGE of each (document 01, "The session file")
 abbrev pub InRange : FileField → ℕ → Type 0
-InRange machineCount v = (1 ≤ v) × (v ≤ mostMachines)
+-- the first number, which says the form too
+InRange machineCount v = (1 ≤ v) × (v ≤ mostFirst)
 InRange (machineStates product) v = (1 ≤ v) × (v ≤ mostStates)
 InRange (startingState states) v = v < states
 InRange queueCount v = (1 ≤ v) × (v ≤ mostQueues)
 InRange (queueMessages sum) v = (1 ≤ v) × (v ≤ mostMessages)
+InRange contentLength v = v ≤ mostStarting
 InRange transitionCount v = v ≤ mostTransitions
 InRange (machine machines) v = v < machines
 InRange (fromState states) v = v < states
@@ -91,11 +98,31 @@ leastAfter (some m) = m + 1
 
 -- WHERE READING IS: what is read up to a place, in the order of the fields, by the definitions of reading.
 module _ (s : List ℕ) where
-  -- fields 1 and 2
-  pub record ToTransitions (m : Machines) (q : Queues) (p : ℕ) : Type 0 where
+  -- fields 1 and 2 of a file that resumes
+  pub record Resumes (q : Queues) (p : ℕ) : Type 0 where
+    pub machines : Machines
     pub afterMachines : ℕ
-    pub machines : readMachines s 0 ≡ got m afterMachines
-    pub queues : readQueues s afterMachines ≡ got q p
+    pub resumes : readMachines s 0 ≡ got (true, machines) afterMachines
+    pub queues : countedQueues s afterMachines ≡ got q p
+
+  -- and what waits in so many of the queues at the start
+  abbrev pub ContentsRead : Queues → ℕ → ℕ → List ℕ × List ℕ → ℕ → Type 0
+  ContentsRead q i at held p = readContents s at q i 0 (replicate mostQueues 0, replicate startingLength 0) ≡ got held p
+
+  -- the queues before number i, which is left
+  pub record ToContent (q : Queues) (i p : ℕ) : Type 0 where
+    pub begins : ℕ
+    pub before : Resumes q begins
+    pub below : i < q .count
+    pub held : List ℕ × List ℕ
+    pub read : ContentsRead q i begins held p
+
+  -- fields 1 and 2, and what waits at the start
+  pub record ToTransitions (m : Machines) (q : Queues) (p : ℕ) : Type 0 where
+    pub resumes : Bool
+    pub afterMachines : ℕ
+    pub machines : readMachines s 0 ≡ got (resumes, m) afterMachines
+    pub queues : readQueues s afterMachines resumes ≡ got q p
 
   -- and the transitions before number t
   pub record ToTransition (m : Machines) (q : Queues) (t p : ℕ) : Type 0 where
@@ -203,15 +230,21 @@ module _ (s : List ℕ) where
   -- READING COMES TO A FIELD at a place
   pub data Comes : FileField → ℕ → Type 0 where
     to-machine-count : Comes machineCount 0
-    to-states : {count p₁ i product p : ℕ} {sizes : List ℕ} → readWithin s 0 1 mostMachines ≡ got count p₁ → i < count
+    to-states : {first p₁ i product p : ℕ} {sizes : List ℕ} → readWithin s 0 1 mostFirst ≡ got first p₁ → i < machinesBy first
         → readSizes s p₁ 1 i 0 (replicate mostMachines 0) ≡ got (product, sizes) p → Comes (machineStates product) p
-    to-start : {count p₁ i product p₂ p : ℕ} {sizes starts : List ℕ} → readWithin s 0 1 mostMachines ≡ got count p₁
-        → readSizes s p₁ 1 count 0 (replicate mostMachines 0) ≡ got (product, sizes) p₂ → i < count
+    to-start : {first p₁ i product p₂ p : ℕ} {sizes starts : List ℕ} → readWithin s 0 1 mostFirst ≡ got first p₁
+        → readSizes s p₁ 1 (machinesBy first) 0 (replicate mostMachines 0) ≡ got (product, sizes) p₂ → i < machinesBy first
         → readStarts s p₂ sizes i 0 (replicate mostMachines 0) ≡ got starts p → Comes (startingState (getD sizes i 0)) p
-    to-queue-count : {m : Machines} {p : ℕ} → readMachines s 0 ≡ got m p → Comes queueCount p
-    to-messages : {m : Machines} {p₁ count p₂ i sum p : ℕ} {counts : List ℕ} → readMachines s 0 ≡ got m p₁
+    to-queue-count : {m : Bool × Machines} {p : ℕ} → readMachines s 0 ≡ got m p → Comes queueCount p
+    to-messages : {m : Bool × Machines} {p₁ count p₂ i sum p : ℕ} {counts : List ℕ} → readMachines s 0 ≡ got m p₁
         → readWithin s p₁ 1 mostQueues ≡ got count p₂ → i < count
         → readCounts s p₂ 0 i 0 (replicate mostQueues 0) ≡ got (sum, counts) p → Comes (queueMessages sum) p
+    to-content-length : {q : Queues} {i p : ℕ} → ToContent q i p → Comes contentLength p
+    -- the table that the messages are put into is of no account, here and below
+    to-content : {q : Queues} {i p₁ len p₂ j p : ℕ} {table′ : List ℕ} (e : ℕ) (table : List ℕ) → ToContent q i p₁
+        → readWithin s p₁ 0 mostStarting ≡ got len p₂ → j < len
+        → readWord s p₂ (q .sum) (firstMessage (q .messages) i) (firstMessage (q .messages) (suc i)) j e table ≡ got table′ p
+        → Comes (wordMessage q i) p
     to-transition-count : {m : Machines} {q : Queues} {p : ℕ} → ToTransitions m q p → Comes transitionCount p
     to-machine : {m : Machines} {q : Queues} {t p : ℕ} → ToTransition m q t p → Comes (machine (m .count)) p
     to-from : {m : Machines} {q : Queues} {i p : ℕ} → ToMove m q i p → Comes (fromState (getD (m .states) i 0)) p
@@ -221,7 +254,6 @@ module _ (s : List ℕ) where
         → readTwo s p₁ (getD (m .states) i 0) (getD (m .states) i 0) ≡ got move p → Comes kind p
     to-queue : {q : Queues} {p : ℕ} → ToAction q p → Comes (queue (q .count)) p
     to-word-length : {q : Queues} {i p : ℕ} → ToWord q i p → Comes wordLength p
-    -- the table that the messages are put into is of no account here
     to-word : {q : Queues} {i p₁ len p₂ j p : ℕ} {rows′ : List ℕ} (e : ℕ) (rows : List ℕ) → ToWord q i p₁
         → readWithin s p₁ 0 mostWord ≡ got len p₂ → j < len
         → readWord s p₂ (q .sum) (firstMessage (q .messages) i) (firstMessage (q .messages) (suc i)) j e rows ≡ got rows′ p
@@ -266,3 +298,6 @@ pub data Cause (s : List ℕ) : ℕ → ℕ → Type 0 where
   other-queue : {q : Queues} {i v p : ℕ} → NumberAt s (wordMessage q i) v p → InRange (wordMessage q i) v → (OfQueue q i v → ⊥) → Cause s 7 p
   not-ascending : {sum before v p : ℕ} → NumberAt s (arcMessage sum (some before)) v p → InRange (arcMessage sum (some before)) v → v ≤ before
       → Cause s 8 p
+  -- what waits in all queues is read, and that is nothing
+  starts-empty : {q : Queues} {begins p : ℕ} {held : List ℕ × List ℕ} → Resumes s q begins → ContentsRead s q (q .count) begins held p
+      → ((i : ℕ) → getD (held .0) i 0 ≡ 0) → Cause s 23 0

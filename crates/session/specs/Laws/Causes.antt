@@ -1,26 +1,29 @@
--- EACH REFUSAL BY 3 TO 8 HAS ITS CAUSE: field after field, what is read on the way is kept.
+-- EACH REFUSAL BY 3 TO 8 AND BY 23 HAS ITS CAUSE: field after field, what is read on the way is kept.
 use Prim.Native.Nat.{ℕ, zero, suc, _+_, _-_, _*_, _≤_, _<_}
-use mathlib.Core.Path.{_≡_, refl, sym, subst, subst₂, _∙_}
+use mathlib.Core.Path.{_≡_, refl, sym, ap, subst, subst₂, _∙_}
 use mathlib.Core.Bool.{Bool, true, false, cond}
-use mathlib.Core.Logic.{inl, inr}
+use mathlib.Core.Logic.{_↔_, inl, inr}
 use mathlib.Core.Option.{Option, none, some}
 use mathlib.Core.List.{List}
 use lib.ListN.{length, getD, set, replicate}
 use lib.Dec.{ltb, leb, eqb}
-use borrow.Author.Tests.{ltb-true, ltb-false, leb-true, leb-false, eqb-false}
+use borrow.Author.Tests.{ltb-true, ltb-false, leb-false, eqb-false, leb-true, le-leb}
 use native.Mathlib.Omega.{arith}
 use Rattle.numbers.specs.Limits.{mostBytes}
-use Rattle.tables.specs.Limits.{mostMachines, mostStates, mostControls, mostQueues, mostMessages, mostTransitions, mostWord, mostPool, mostBad}
+use Rattle.tables.specs.Limits.{mostMachines, mostStates, mostControls, mostQueues, mostMessages, mostStarting, mostTransitions, mostWord, mostPool, mostBad}
+use Rattle.tables.specs.Starting.{startingLength, waits}
+use Rattle.tables.specs.Laws.Starting.{waits-none, none-waits}
 use Rattle.numbers.specs.Part.{Part, got, refused, provided, andThen}
 use Rattle.numbers.specs.Number.{readNumber, readWithin, readBelow, readTwo}
 use Rattle.numbers.specs.Laws.Parts.{not-refused}
 use Rattle.numbers.specs.Laws.Ranges.{below-number, below-range, within-number, within-range}
 use Rattle.numbers.specs.Laws.Rounds.{Rounds, rounds-more}
 use Rattle.numbers.specs.Laws.Places.{Fair, rounds-fair, number-fair, within-fair, below-fair, two-fair}
-use Rattle.reading_model.specs.Machines.{readFactor, readSizes, readStarts, countedMachines, readMachines}
-use Rattle.reading_model.specs.Queues.{readTerm, readCounts, readQueues}
+use Rattle.reading_model.specs.Machines.{readFactor, readSizes, readStarts, countedMachines, mostFirst, resumesBy, machinesBy, readMachines}
+use Rattle.reading_model.specs.Queues.{readTerm, readCounts, countedQueues, readContent, readContents, startingWith, readStarting, readQueues}
 use Rattle.tables.specs.Queues.{firstMessage}
-use Rattle.reading_model.specs.Transitions.{readMessage, readAction, readTransition, readRows, readTransitions}
+use Rattle.reading_model.specs.Words.{readMessage, readWord}
+use Rattle.reading_model.specs.Transitions.{readAction, readTransition, readRows, readTransitions}
 use Rattle.tables.specs.Pool.{poolArcs}
 use Rattle.reading_pool.specs.Pool.{readAscending, readArc, readArcs, readState, readStates, readPool}
 use Rattle.session.specs.Map.{readRoots, readMap}
@@ -29,17 +32,19 @@ use Rattle.reading_model.specs.Model.{readModel}
 use Rattle.session.specs.Sets.{readSets}
 use Rattle.session.specs.File.{readFile, joined}
 use Rattle.session.specs.Causes.{FileField, machineStates, startingState, queueMessages, wordMessage, InRange}
-use Rattle.session.specs.Causes.{ToTransitions, ToTransition, ToMove, ToAction, ToWord, ToState, ToArcs, leastAfter, ArcsRead, no-arc, one-arc-more, ToArc, ToSets, ToBad, ToEntry}
-use Rattle.session.specs.Causes.{Comes, to-machine-count, to-states, to-start, to-queue-count, to-messages, to-transition-count, to-machine, to-from, to-to, to-kind, to-queue, to-word-length, to-word, to-pool-count, to-final, to-arc-count, to-arc, to-target, to-root, to-bad-count, to-control, to-bad-root}
-use Rattle.session.specs.Causes.{NumberAt, Cause, ends, malformed, outside, product-passed, sum-passed, other-queue, not-ascending}
+use Rattle.session.specs.Causes.{Resumes, ContentsRead, ToContent, ToTransitions, ToTransition, ToMove, ToAction, ToWord, ToState, ToArcs, leastAfter, ArcsRead, no-arc, one-arc-more, ToArc, ToSets, ToBad, ToEntry}
+use Rattle.session.specs.Causes.{Comes, to-machine-count, to-states, to-start, to-queue-count, to-messages, to-content-length, to-content, to-transition-count, to-machine, to-from, to-to, to-kind, to-queue, to-word-length, to-word, to-pool-count, to-final, to-arc-count, to-arc, to-target, to-root, to-bad-count, to-control, to-bad-root}
+use Rattle.session.specs.Causes.{NumberAt, Cause, ends, malformed, outside, product-passed, sum-passed, other-queue, not-ascending, starts-empty}
 use Rattle.reading_model.specs.Laws.Machines.{sizes-rounds, starts-rounds}
 use Rattle.reading_model.specs.Laws.Queues.{counts-rounds}
-use Rattle.reading_model.specs.Laws.Transitions.{word-rounds, rows-rounds}
+use Rattle.reading_model.specs.Laws.Words.{word-rounds}
+use Rattle.reading_model.specs.Laws.Starting.{contents-rounds}
+use Rattle.reading_model.specs.Laws.Transitions.{rows-rounds}
 use Rattle.reading_pool.specs.Laws.Pool.{states-rounds}
 use Rattle.session.specs.Laws.Map.{roots-rounds}
 use Rattle.session.specs.Laws.Bad.{entries-rounds}
-use Rattle.session.specs.Laws.Fields.{isOrdered, atEnd, parts, file-is}
-use Rattle.reading_model.specs.Laws.Places.{factor-fair, machines-fair, term-fair, queues-fair, message-fair, transition-fair, transitions-fair, model-fair}
+use Rattle.session.specs.Laws.Fields.{isOrdered, atEnd, fromPool, parts, file-is}
+use Rattle.reading_model.specs.Laws.Places.{factor-fair, counted-machines-fair, machines-fair, term-fair, counted-fair, content-fair, contents-fair, queues-fair, message-fair, word-fair, transition-fair, transitions-fair, model-fair}
 use Rattle.reading_pool.specs.Laws.Places.{ascending-fair, arc-fair, arcs-fair, state-fair, pool-fair}
 use Rattle.session.specs.Laws.Places.{map-fair, bad-fair, sets-fair}
 use Rattle.tables.specs.declared.tables.Machines.{Machines}
@@ -135,7 +140,10 @@ module _ (s : List ℕ) where
       (leb-false (product * v) mostControls t))
       (λ _. tt))
 
-  module _ {count p₁ : ℕ} (counted : readWithin s 0 1 mostMachines ≡ got count p₁) (h₁ : p₁ ≤ length s) where
+  module _ {first p₁ : ℕ} (counted : readWithin s 0 1 mostFirst ≡ got first p₁) (h₁ : p₁ ≤ length s) where
+    abbrev count : ℕ
+    count = machinesBy first
+
     sizes-caused : Caused (readSizes s p₁ 1 count 0 (replicate mostMachines 0))
     sizes-caused =
         rounds-caused (sizes-rounds s) (λ i at x h. factor-fair s at (x .0) h) 0 p₁ (1, replicate mostMachines 0) count
@@ -154,15 +162,17 @@ module _ (s : List ℕ) where
   machines-caused : Caused (readMachines s 0)
   unfolding readMachines countedMachines
   machines-caused =
-      caused-then 0 (readWithin s 0 1 mostMachines) _ (within-fair s 0 1 mostMachines (omega arith))
-      (within-caused to-machine-count (omega arith) 1 mostMachines (λ v r. r)) (λ count p₁ e₁ h₁.
-      caused-then p₁ (readSizes s p₁ 1 count 0 (replicate mostMachines 0)) _
+      caused-then 0 (readWithin s 0 1 mostFirst) _ (within-fair s 0 1 mostFirst (omega arith))
+      (within-caused to-machine-count (omega arith) 1 mostFirst (λ v r. r)) (λ first p₁ e₁ h₁.
+      let count = machinesBy first in
+      caused-then p₁ (countedMachines s p₁ count) (λ m next. got (resumesBy first, m) next) (counted-machines-fair s first p₁ h₁)
+      (caused-then p₁ (readSizes s p₁ 1 count 0 (replicate mostMachines 0)) _
       (rounds-fair s 8 (sizes-rounds s) (λ i at x h. factor-fair s at (x .0) h) count 0 p₁ (1, replicate mostMachines 0) h₁)
       (sizes-caused e₁ h₁) (λ sized p₂ e₂ h₂.
       caused-then p₂ (readStarts s p₂ (sized .1) count 0 (replicate mostMachines 0)) _
       (rounds-fair s 8 (starts-rounds s (sized .1)) (λ i at x h. below-fair s at (getD (sized .1) i 0) h) count 0 p₂
       (replicate mostMachines 0) h₂)
-      (starts-caused e₁ h₁ e₂ h₂) (λ _ _ _ _. tt)))
+      (starts-caused e₁ h₁ e₂ h₂) (λ _ _ _ _. tt))) (λ _ _ _ _. tt))
 
   -- FIELD 2
   term-caused : (at sum : ℕ) → Comes s (queueMessages sum) at → at ≤ length s → Caused (readTerm s at sum)
@@ -175,9 +185,9 @@ module _ (s : List ℕ) where
       (leb-false (sum + v) mostMessages t))
       (λ _. tt))
 
-  queues-caused : {m : Machines} {p : ℕ} → readMachines s 0 ≡ got m p → p ≤ length s → Caused (readQueues s p)
-  unfolding readQueues
-  queues-caused {m} {p} e h =
+  counted-caused : {m : Bool × Machines} {p : ℕ} → readMachines s 0 ≡ got m p → p ≤ length s → Caused (countedQueues s p)
+  unfolding countedQueues
+  counted-caused {m} {p} e h =
       caused-then p (readWithin s p 1 mostQueues) _ (within-fair s p 1 mostQueues h)
       (within-caused (to-queue-count e) h 1 mostQueues (λ v r. r)) (λ count p₁ e₁ h₁.
       caused-then p₁ (readCounts s p₁ 0 count 0 (replicate mostQueues 0)) _
@@ -186,7 +196,7 @@ module _ (s : List ℕ) where
       (λ j i at x l n f h′. term-caused at (x .0) (to-messages e e₁ l f) h′) h₁)
       (λ _ _ _ _. tt))
 
-  -- FIELD 3
+  -- A MESSAGE of a word
   message-caused : (q : Queues) (i at : ℕ) → Comes s (wordMessage q i) at → at ≤ length s
       → Caused (readMessage s at (q .sum) (firstMessage (q .messages) i) (firstMessage (q .messages) (suc i)))
   unfolding readMessage
@@ -200,6 +210,43 @@ module _ (s : List ℕ) where
       (λ t. other-queue stands range (λ o. let b = ltb-false v (firstMessage (q .messages) (suc i)) t in omega (arith, o .below)))
       (λ _. tt)))
 
+  -- what waits in queue i at the start
+  content-caused : (q : Queues) (i at : ℕ) (held : List ℕ × List ℕ) → ToContent s q i at → at ≤ length s → Caused (readContent s at q i held)
+  unfolding readContent
+  content-caused q i at held c h =
+      caused-then at (readWithin s at 0 mostStarting) _ (within-fair s at 0 mostStarting h)
+      (within-caused (to-content-length c) h 0 mostStarting (λ v r. (omega arith, r))) (λ len p e h₁.
+      caused-then p (readWord s p (q .sum) (firstMessage (q .messages) i) (firstMessage (q .messages) (suc i)) len (i * mostStarting) (held .1)) _
+      (word-fair s (q .sum) (firstMessage (q .messages) i) (firstMessage (q .messages) (suc i)) len (i * mostStarting) p (held .1) h₁)
+      (rounds-caused (word-rounds s (q .sum) (firstMessage (q .messages) i) (firstMessage (q .messages) (suc i)))
+      (λ j at′ x h′. message-fair s at′ (q .sum) (firstMessage (q .messages) i) (firstMessage (q .messages) (suc i)) h′) (i * mostStarting) p (held .1) len
+      (λ j k at′ x l n f h′. message-caused q i at′ (to-content (i * mostStarting) (held .1) c e l f) h′) h₁)
+      (λ _ _ _ _. tt))
+
+  starting-caused : {q : Queues} {p : ℕ} → Resumes s q p → p ≤ length s → Caused (readStarting s p q)
+  unfolding readStarting
+  starting-caused {q} {p} r h =
+      caused-then p (readContents s p q (q .count) 0 (replicate mostQueues 0, replicate startingLength 0)) _ (contents-fair s q p h)
+      (rounds-caused (contents-rounds s q) (λ i at x h′. content-fair s q i at x h′) 0 p (replicate mostQueues 0, replicate startingLength 0) (q .count)
+      (λ j i at x l n f h′.
+      let same : j ≡ i = omega arith in
+      content-caused q i at x
+      (subst (λ k. ToContent s q k at) same (record { begins = p; before = r; below = l; held = x; read = f })) h′)
+      h)
+      (λ held next e h₁.
+      caused-provided (waits (held .0)) 23 0 (got (startingWith q held) next) (λ t. starts-empty r e (waits-none (held .0) t)) (λ _. tt))
+
+  queues-caused : {m : Machines} {p : ℕ} (resumes : Bool) → readMachines s 0 ≡ got (resumes, m) p → p ≤ length s → Caused (readQueues s p resumes)
+  unfolding readQueues
+  queues-caused {m} {p} resumes e h =
+      caused-then p (countedQueues s p) _ (counted-fair s p h) (counted-caused e h) (λ q p₁ e₁ h₁. byForm resumes e q p₁ e₁ h₁)
+    where
+      byForm : (b : Bool) → readMachines s 0 ≡ got (b, m) p → (q : Queues) (p₁ : ℕ) → countedQueues s p ≡ got q p₁ → p₁ ≤ length s
+          → Caused (cond b (readStarting s p₁ q) (got q p₁))
+      byForm true f q p₁ e₁ h₁ = starting-caused (record { machines = m; afterMachines = p; resumes = f; queues = e₁ }) h₁
+      byForm false f q p₁ e₁ h₁ = tt
+
+  -- FIELD 3
   action-caused : (q : Queues) (row at : ℕ) (rows : List ℕ) → ToAction s q at → at ≤ length s → Caused (readAction s at q row rows)
   unfolding readAction
   action-caused q row at rows c h =
@@ -274,10 +321,10 @@ module _ (s : List ℕ) where
   model-caused : Caused (readModel s 0)
   unfolding readModel
   model-caused =
-      caused-then 0 (readMachines s 0) _ (machines-fair s 0 (omega arith)) machines-caused (λ m p₁ e₁ h₁.
-      caused-then p₁ (readQueues s p₁) _ (queues-fair s p₁ h₁) (queues-caused e₁ h₁) (λ q p₂ e₂ h₂.
-      caused-then p₂ (readTransitions s p₂ m q) _ (transitions-fair s m q p₂ h₂)
-      (transitions-caused (record { afterMachines = p₁; machines = e₁; queues = e₂ }) h₂) (λ _ _ _ _. tt)))
+      caused-then 0 (readMachines s 0) _ (machines-fair s 0 (omega arith)) machines-caused (λ first p₁ e₁ h₁.
+      caused-then p₁ (readQueues s p₁ (first .0)) _ (queues-fair s p₁ (first .0) h₁) (queues-caused (first .0) e₁ h₁) (λ q p₂ e₂ h₂.
+      caused-then p₂ (readTransitions s p₂ (first .1) q) _ (transitions-fair s (first .1) q p₂ h₂)
+      (transitions-caused (record { resumes = first .0; afterMachines = p₁; machines = e₁; queues = e₂ }) h₂) (λ _ _ _ _. tt)))
 
   -- FIELD 4
   -- a message that is not above the one before it
@@ -420,10 +467,10 @@ module _ (s : List ℕ) where
   past-test true j q x n e = (refl, e)
   past-test false j q x {k} n e = let m : j ≡ k = cc in absurd (n m)
 
--- THE CAUSE OF EACH REFUSAL BY 3 TO 8
-pub refusal-cause : (s : List ℕ) (k p : ℕ) → readFile s ≡ refused k p → 3 ≤ k → k ≤ 8 → Cause s k p
-refusal-cause s k p e least most =
-    let short = past-test s (leb (length s) mostBytes) 1 mostBytes (parts s) (λ n. omega arith) (sym (file-is s) ∙ e) in
+-- THE CAUSE OF EACH REFUSAL BY 3 TO 8 AND BY 23: every one but those by 1, 9 and 10, which have theorems of their own
+pub refusal-cause : (s : List ℕ) (k p : ℕ) → readFile s ≡ refused k p → (k ≡ 1 → ⊥) → (k ≡ 9 → ⊥) → (k ≡ 10 → ⊥) → Cause s k p
+refusal-cause s k p e one nine ten =
+    let short = past-test s (leb (length s) mostBytes) 1 mostBytes (parts s) (λ n. one (sym n)) (sym (file-is s) ∙ e) in
     in-turn s 0 (readModel s 0) _ (model-fair s 0 (omega arith)) (model-caused s) (short .1) (λ M p₁ e₁ h₁ g₁.
     in-turn s p₁ (readPool s p₁ (M .queues .sum)) _ (pool-fair s (M .queues .sum) p₁ h₁) (pool-caused s e₁ h₁) g₁ (λ P p₂ e₂ h₂ g₂.
     let to : ToSets s (M .machines .product) (P .count) p₂ =
@@ -440,6 +487,47 @@ refusal-cause s k p e least most =
     in-turn s p₂ (readSets s p₂ (M .machines .product) (P .count)) _ (sets-fair s (M .machines .product) (P .count) p₂ h₂)
     (sets-caused s (M .machines .product) (P .count) p₂ to h₂) g₂ (λ D p₃ e₃ h₃ g₃.
     let T = joined M P D in
-    let order = past-test s (isOrdered T) 9 p₃ (atEnd s T p₃) (λ n. omega arith) g₃ in
-    let end = past-test s (leb (length s) p₃) 10 p₃ _ (λ n. omega arith) (order .1) in
+    let order = past-test s (isOrdered T) 9 p₃ (atEnd s T p₃) (λ n. nine (sym n)) g₃ in
+    let end = past-test s (leb (length s) p₃) 10 p₃ _ (λ n. ten (sym n)) (order .1) in
     absurd (not-refused (sym (end .1))))))
+
+-- 23: A FILE THAT RESUMES, AND NO QUEUE STARTS WITH A MESSAGE
+pub record StartsWithNothing (s : List ℕ) : Type 0 where
+  pub short : length s ≤ mostBytes
+  pub queues : Queues
+  pub begins : ℕ
+  pub before : Resumes s queues begins
+  pub held : List ℕ × List ℕ
+  pub ends : ℕ
+  pub read : ContentsRead s queues (queues .count) begins held ends
+  pub none : (i : ℕ) → getD (held .0) i 0 ≡ 0
+
+module _ (s : List ℕ) where
+  caused-by-nothing : {k p : ℕ} → length s ≤ mostBytes → Cause s k p → k ≡ 23 → (p ≡ 0) × StartsWithNothing s
+  caused-by-nothing l (ends c u) e = absurd (omega arith)
+  caused-by-nothing l (malformed c m) e = absurd (omega arith)
+  caused-by-nothing l (outside n r) e = absurd (omega arith)
+  caused-by-nothing l (product-passed n r g) e = absurd (omega arith)
+  caused-by-nothing l (sum-passed n r g) e = absurd (omega arith)
+  caused-by-nothing l (other-queue n r o) e = absurd (omega arith)
+  caused-by-nothing l (not-ascending n r g) e = absurd (omega arith)
+  caused-by-nothing l (starts-empty {q} {begins} {p} {held} r c z) e =
+      (refl, record { short = l; queues = q; begins = begins; before = r; held = held; ends = p; read = c; none = z })
+
+  nothing-refused : StartsWithNothing s → readModel s 0 ≡ refused 23 0
+  unfolding readModel readQueues readStarting
+  nothing-refused h =
+      rw (h .before .resumes, h .before .queues, h .read, none-waits (h .held .0) (h .none))
+
+  pub refused-twenty-three : (p : ℕ) → (readFile s ≡ refused 23 p) ↔ ((p ≡ 0) × StartsWithNothing s)
+  refused-twenty-three p = (
+    λ e.
+        let short = past-test s (leb (length s) mostBytes) 1 mostBytes (parts s) (λ n. omega arith) (sym (file-is s) ∙ e) in
+        caused-by-nothing (leb-true (length s) mostBytes (short .0))
+        (refusal-cause s 23 p e (λ n. omega arith) (λ n. omega arith) (λ n. omega arith)) refl,
+    λ (z, h).
+        file-is s
+        ∙ ap (λ b. provided b 1 mostBytes (parts s)) (le-leb (length s) mostBytes (h .short))
+        ∙ ap (λ x. andThen x (λ M next. fromPool s next M)) (nothing-refused h)
+        ∙ ap (refused 23) (sym z),
+  )

@@ -22,7 +22,6 @@ use Rattle.reading_pool.specs.Laws.Places.{pool-fair}
 use Rattle.session.specs.Laws.Places.{sets-fair}
 use Rattle.tables.specs.declared.tables.ModelTables.{ModelTables}
 use Rattle.tables.specs.declared.tables.Pool.{Pool}
-use Rattle.tables.specs.declared.tables.SetTables.{SetTables}
 use Rattle.tables.specs.declared.tables.Tables.{Tables}
 
 -- the file is not too long, and its model and its pool are read, up to place at
@@ -55,7 +54,7 @@ abbrev pub fromSets : List ℕ → ℕ → ModelTables → Pool → Part Tables
 fromSets s at M P = andThen (readSets s at (M .machines .product) (P .count)) (λ D next. fromOrder s (joined M P D) next)
 
 -- what follows the model
-abbrev fromPool : List ℕ → ℕ → ModelTables → Part Tables
+abbrev pub fromPool : List ℕ → ℕ → ModelTables → Part Tables
 fromPool s at M = andThen (readPool s at (M .queues .sum)) (λ P next. fromSets s next M P)
 
 -- the whole, where the file is not too long
@@ -84,10 +83,10 @@ to-order {s} {T} {next} r =
 pub to-end : {s : List ℕ} {T : Tables} {next : ℕ} → Fields s T next → isOrdered T ≡ true → readFile s ≡ atEnd s T next
 to-end {s} {T} {next} r ordered = to-order r ∙ ap (λ b. provided b 9 next (atEnd s T next)) ordered
 
--- What comes of a file is late where it is no refusal of a part: tables, or a refusal by a number past 8.
+-- What comes of a file is late where it is no refusal of a part: tables, or a refusal by 9 or 10.
 abbrev pub Late : Part Tables → Type 0
 Late (got T next) = Unit {0}
-Late (refused k p) = 8 < k
+Late (refused k p) = (8 < k) × (k ≤ 10)
 
 -- the first part was read, and what follows it gives y
 record Past {A : Type 0} (s : List ℕ) (x : Part A) (f : A → ℕ → Part Tables) (y : Part Tables) : Type 0 where
@@ -100,7 +99,7 @@ record Past {A : Type 0} (s : List ℕ) (x : Part A) (f : A → ℕ → Part Tab
 past : {A : Type 0} (s : List ℕ) (at : ℕ) (x : Part A) {f : A → ℕ → Part Tables} {y : Part Tables} → Fair s 8 at x → Late y
     → andThen x f ≡ y → Past s x f y
 past s at (got v next) h late e = record { value = v; place = next; inside = h .1; first = refl; then = e }
-past s at (refused k p) h late e = let l = subst Late (sym e) late in absurd (omega (arith, l, h .most))
+past s at (refused k p) h late e = let l = subst Late (sym e) late in absurd (omega (arith, l .0, h .most (λ n. omega (arith, l .1))))
 
 -- all fields were read, and what follows them gives y
 pub record Ended (s : List ℕ) (y : Part Tables) : Type 0 where

@@ -10,7 +10,7 @@ use Rattle.session.specs.Said.{ReadReply, read, refusal, saidAnswer}
 use Rattle.session.specs.File.{readFile, empty, readReplyOf, tablesOf, Reads}
 use Rattle.session.specs.Valid.{Valid}
 use Rattle.session.specs.Laws.Valid.{valid}
-use Rattle.numbers.specs.declared.refusal.Refusal.the-variants.{TooLong, Ends, NotShortest, OutOfRange, PassesLimit, OtherQueue, NotAscending, NotInQueueOrder, Trailing}
+use Rattle.numbers.specs.declared.refusal.Refusal.the-variants.{TooLong, Ends, NotShortest, OutOfRange, PassesLimit, OtherQueue, NotAscending, NotInQueueOrder, Trailing, StartsEmpty}
 use Rattle.session.specs.declared.reading.Answer.{Answer}
 use Rattle.session.specs.declared.reading.Answer.the-variants.{Read, Refused}
 use Rattle.tables.specs.declared.tables.Tables.{Tables}
@@ -27,7 +27,8 @@ unsaid (refusal k p) =
     (cond (eqb k 6) (Refused (PassesLimit p))
     (cond (eqb k 7) (Refused (OtherQueue p))
     (cond (eqb k 8) (Refused (NotAscending p))
-    (cond (eqb k 9) (Refused (NotInQueueOrder p)) (Refused (Trailing p)))))))))
+    (cond (eqb k 9) (Refused (NotInQueueOrder p))
+    (cond (eqb k 10) (Refused (Trailing p)) (Refused StartsEmpty)))))))))
 
 unsaid-said : (a : Answer) → unsaid (saidAnswer a) ≡ a
 unfolding unsaid
@@ -41,6 +42,7 @@ unsaid-said (Refused (OtherQueue p)) = refl
 unsaid-said (Refused (NotAscending p)) = refl
 unsaid-said (Refused (NotInQueueOrder p)) = refl
 unsaid-said (Refused (Trailing p)) = refl
+unsaid-said (Refused StartsEmpty) = refl
 
 -- no two answers say the same
 pub said-apart : (a b : Answer) → saidAnswer a ≡ saidAnswer b → a ≡ b

@@ -1,13 +1,13 @@
 -- When a file is refused: the numbers and places there are, and the cases of 1, 9 and 10 exactly (document 01, "When a file or a
--- question is turned away"). `Causes` has the causes of 3 to 8.
+-- question is turned away"). `Causes` has the causes of 3 to 8 and of 23.
 use Prim.Native.Nat.{ℕ, _≤_, _<_}
 use mathlib.Core.Path.{_≡_, refl, sym, ap, subst, _∙_}
 use mathlib.Core.Logic.{_↔_, _⊎_, inl, inr}
 use mathlib.Core.Bool.{Bool, true, false}
 use mathlib.Core.List.{List}
 use lib.ListN.{length}
-use lib.Dec.{leb}
-use borrow.Author.Tests.{leb-true, leb-false, lt-leb}
+use lib.Dec.{leb, eqb}
+use borrow.Author.Tests.{leb-true, leb-false, lt-leb, eqb-true, eqb-false}
 use native.Mathlib.Omega.{arith}
 use Rattle.numbers.specs.Limits.{mostBytes}
 use Rattle.numbers.specs.Part.{Part, got, refused, provided}
@@ -52,7 +52,7 @@ pub record Overlong (s : List ℕ) (k p : ℕ) : Type 0 where
 
 pub record Within (s : List ℕ) (k p : ℕ) : Type 0 where
   pub least : 3 ≤ k
-  pub most : k ≤ 10
+  pub most : (k ≡ 23 → ⊥) → k ≤ 10
   pub place : p ≤ length s
   pub short : length s ≤ mostBytes
   pub placed : RefusalPlace s k p
@@ -69,13 +69,17 @@ refusal-is s k p e = go (leb (length s) mostBytes) refl (sym (file-is s) ∙ e)
     go false f g = inl (record { number = cc; place = cc; long = leb-false (length s) mostBytes f })
 
 module _ (s : List ℕ) where
-  -- 1, or 3 to 10; 2 is checking's alone
-  pub refusal-number : (k p : ℕ) → readFile s ≡ refused k p → (k ≡ 1) ⊎ ((3 ≤ k) × (k ≤ 10))
+  -- 1, or 3 to 10, or 23; 2 is checking's alone
+  pub refusal-number : (k p : ℕ) → readFile s ≡ refused k p → (k ≡ 1) ⊎ ((3 ≤ k) × (k ≤ 10)) ⊎ (k ≡ 23)
   refusal-number k p e = go (refusal-is s k p e)
     where
-      go : Overlong s k p ⊎ Within s k p → (k ≡ 1) ⊎ ((3 ≤ k) × (k ≤ 10))
+      byNumber : Within s k p → (b : Bool) → eqb k 23 ≡ b → ((3 ≤ k) × (k ≤ 10)) ⊎ (k ≡ 23)
+      byNumber h true t = inr (eqb-true k 23 t)
+      byNumber h false t = inl (h .least, h .most (eqb-false k 23 t))
+
+      go : Overlong s k p ⊎ Within s k p → (k ≡ 1) ⊎ ((3 ≤ k) × (k ≤ 10)) ⊎ (k ≡ 23)
       go (inl h) = inl (h .number)
-      go (inr h) = inr (h .least, h .most)
+      go (inr h) = inr (byNumber h (eqb k 23) refl)
 
   pub refusal-place : (k p : ℕ) → readFile s ≡ refused k p → (k ≡ 1 → ⊥) → p ≤ length s
   refusal-place k p e n = go (refusal-is s k p e)
