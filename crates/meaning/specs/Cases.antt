@@ -12,9 +12,11 @@ use Rattle.explore.specs.Explore.{explore, rounds, expand, fresh, starts, child
 use Rattle.numbers.specs.Part.{Part, got, refused}
 use Rattle.numbers.specs.Number.{readNumber, readWithin, readBelow, readTwo}
 use Rattle.reading_model.specs.Machines.{readFactor, readSizes, readStarts, countedMachines, readMachines}
-use Rattle.reading_model.specs.Queues.{readTerm, readCounts, readQueues}
+use Rattle.reading_model.specs.Words.{readMessage, readWord}
+use Rattle.reading_model.specs.Queues.{readTerm, readCounts, countedQueues, readContent, readContents, readStarting, readQueues}
+use Rattle.tables.specs.Starting.{waits}
 use Rattle.tables.specs.Queues.{firstMessage}
-use Rattle.reading_model.specs.Transitions.{readMessage, readWord, readAction, readTransition, readRows, readTransitions}
+use Rattle.reading_model.specs.Transitions.{readAction, readTransition, readRows, readTransitions}
 use Rattle.reading_pool.specs.Pool.{readAscending, readArc, readArcs, readState, readStates, readPool}
 use Rattle.queue_order.specs.Nodes.{gather, queueNodes}
 use Rattle.queue_order.specs.Search.{reached, noneFails, inQueueOrder}
@@ -81,7 +83,7 @@ r-is = refl
 s-is : fileS sendS poolS ≡ hex "01 01 00 02 01 01 01 00 00 00 01 00 01 00 02 01 02 00 00 01 01 01 01 01 01 01 00"
 s-is = refl
 
--- THE FOURTEEN LETTERED CASES
+-- THE FOURTEEN LETTERED CASES, j as document 02, change 8 has it
 abbrev pub cases : List Case
 cases =
     case "a" (fileR "02" poolR "00") "closed 4\n"
@@ -93,7 +95,7 @@ cases =
     ∷ case "g" (fileS "00 00 00 02 01 01 01" poolS) "closed 3\n"
     ∷ case "h" (hex "") "refused 3 at 0\n"
     ∷ case "i" (fileR "82 00" poolR "00") "refused 4 at 0\n"
-    ∷ case "j" (fileR "05" poolR "00") "refused 5 at 0\n"
+    ∷ case "j" (fileR "05" poolR "00") "refused 5 at 2\n"
     ∷ case "k" (fileR "02" poolR "00 00") "refused 10 at 29\n"
     ∷ case "l" (fileR "02" poolR "") "refused 3 at 28\n"
     ∷ case "m" (fileS sendS "01 01 02 00 00 01 00") "refused 9 at 23\n"
@@ -129,6 +131,18 @@ fileW kind =
 abbrev fileF : String → List ℕ
 fileF along =
     hex "01 02 00 02 02 01 01 00 00 01 01 00 02 01 01 0a 01 01 00 01 00 01 02 02 01 00" ++ (hex along ++ hex "00 00 00 01 01 09 01 00 01 04 00")
+
+-- R that resumes: with this first number, starting contents and pool; and S, with this first number and starting contents
+abbrev resumedR : String → String → String → List ℕ
+resumedR first waiting pool =
+    hex first ++ (hex "01 01 00 00 01 01" ++ (hex waiting ++ (hex "02 00 00 00 01 00 01 00 01 00 00 02 00 01 00" ++ (hex pool ++ hex "01 00"))))
+
+abbrev pub resumedS : String → String → List ℕ
+resumedS first waiting = hex first ++ (hex "01 00 02 01 01" ++ (hex waiting ++ (hex "01" ++ (hex sendS ++ (hex poolS ++ hex "01 00")))))
+
+-- any number of messages but none
+abbrev pub someR : String
+someR = "02 00 01 00 01 01 01 00 01"
 
 -- FURTHER CASES: machines of two states and more, longer words, two queues. With each stands what would print another line.
 abbrev pub furtherCases : List Case
@@ -197,6 +211,26 @@ furtherCases =
     -- the pool of case m with a byte too many, and with a root past its state: 10 before 9; 9 before field 5
     ∷ case "more" (fileS sendS "01 01 02 00 00 01 00" ++ hex "00") "refused 9 at 23\n"
     ∷ case "field 5" (hex "01 01 00 02 01 01 00 01 01 02 00 00 01 00 02 00") "refused 5 at 14\n"
+    -- a message waits at the start: starting contents dropped at the start; taken for part of field 3
+    ∷ case "resumed" (resumedR "06" "01 00" poolR) "closed 4\n"
+    ∷ case "resumed outside" (resumedR "06" "01 00" "01 01 00") "outside\n"
+    ∷ case "resumed inside" (resumedR "06" "03 00 00 00" someR) "leaves 0 1 1 0: 0\n"
+    ∷ case "not resumed" (fileR "02" someR "00") "outside\n"
+    -- both queues start with a message: queues exchanged
+    ∷ case "resumed queues" (resumedS "05" "01 00 01 01") "closed 3\n"
+    ∷ case "resumed eight" (resumedS "05" "08 00 00 00 00 00 00 00 00 00") "closed 3\n"
+    -- a message of the queue after, and of the queue before; one that is not below the sum; a length of nine
+    ∷ case "waits after" (resumedS "05" "01 01 01 01") "refused 7 at 7\n"
+    ∷ case "waits before" (resumedS "05" "01 00 01 00") "refused 7 at 9\n"
+    ∷ case "waits past" (resumedS "05" "01 02 01 01") "refused 5 at 7\n"
+    ∷ case "waits nine" (resumedS "05" "09") "refused 5 at 6\n"
+    -- all queues start empty: taken; told before all are read; told by another place, or after field 3
+    ∷ case "waits nothing" (resumedR "06" "00" poolR) "refused 23 at 0\n"
+    ∷ case "nothing so far" (hex "05 01 00 02 01 01 00") "refused 3 at 7\n"
+    ∷ case "nothing at all" (hex "05 01 00 02 01 01 00 00") "refused 23 at 0\n"
+    -- first numbers past both forms
+    ∷ case "first 0" (fileR "00" poolR "00") "refused 5 at 0\n"
+    ∷ case "first 9" (fileR "09" poolR "00") "refused 5 at 0\n"
     ∷ []
 
 -- what is claimed of a list of cases
@@ -241,7 +275,7 @@ unfolding
     replyOf readFile readModel readSets
     readNumber readWithin readBelow readTwo
     readFactor readSizes readStarts countedMachines readMachines
-    readTerm readCounts readQueues firstMessage
+    readTerm readCounts countedQueues readContent readContents readStarting readQueues waits firstMessage
     readMessage readWord readAction readTransition readRows readTransitions
     readAscending readArc readArcs readState readStates readPool
     gather queueNodes reached noneFails inQueueOrder

@@ -1,8 +1,9 @@
 -- The session that the tables of a file describe. Its projections compute, so a proof pays nothing for it.
 use Prim.Native.Nat.{ℕ, zero, suc, _+_, _*_}
 use mathlib.Core.List.{List, [], _∷_}
-use lib.ListN.{getD, take, drop}
+use lib.ListN.{getD, take}
 use Rattle.tables.specs.Lookup.{rootOf}
+use Rattle.tables.specs.Starting.{startingOf}
 use Rattle.tables.specs.declared.tables.Machines.{Machines}
 use Rattle.tables.specs.declared.tables.Queues.{Queues}
 use Rattle.tables.specs.declared.tables.Transitions.{Transitions}
@@ -38,6 +39,7 @@ modelOf m q τ =
       sizes = take (m .count) (m .states);
       starts = take (m .count) (m .starts);
       queues = take (q .count) (q .messages);
+      starting = startingOf q;
       transitions = transitionsFrom (τ .rows) (τ .count) 0;
     }
 

@@ -109,7 +109,8 @@ module _ (file seen queue contents : List ℕ) where
       go e (little h l q) = let n : 0 ≡ p = cc in (sym n, h, l)
       go e (whole h q) =
           absurd
-          (⊎-elim (λ (n : _≡_ {A = ℕ} 2 1). omega arith) (λ (n : (3 ≤ 2) × (2 ≤ 10)). omega (arith, n .0))
+          (⊎-elim (λ (n : _≡_ {A = ℕ} 2 1). omega arith)
+          (⊎-elim (λ (n : (3 ≤ 2) × (2 ≤ 10)). omega (arith, n .0)) (λ (n : _≡_ {A = ℕ} 2 23). omega arith))
           (refusal-number file 2 p (sym q ∙ e)))
 
   -- with enough lent, the reply is that to the file alone

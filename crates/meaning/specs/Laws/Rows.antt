@@ -56,6 +56,7 @@ module _ (m : Machines) (q : Queues) (τ : Transitions) (Q : QueuesValid q) wher
       × Between (first (modelOf m q τ) (queueAt (τ .rows) row)) (first (modelOf m q τ) (suc (queueAt (τ .rows) row))) (wordAt (τ .rows) row)
   row-word row r =
       let a = r .action in
+      let w = a .word in
       let p = queueAt (τ .rows) row in
       let long = length-take-le (q .count) (q .messages) (omega (arith, Q .most, Q .long)) in
       let lo = first-is (q .messages) (q .count) p (omega (arith, a .queue)) in
@@ -64,7 +65,7 @@ module _ (m : Machines) (q : Queues) (τ : Transitions) (Q : QueuesValid q) wher
         between-take (lengthAt (τ .rows) row) (drop (wordEntry row) (τ .rows))
             (λ j l.
             let e = getD-drop (wordEntry row) (τ .rows) j 0 in
-            let o = a .word j l in
+            let o = w .word j l in
             (omega (arith, o .from), omega (arith, o .below))),
       )
 

@@ -21,6 +21,7 @@ use Rattle.meaning.specs.Tables.{sessionOf}
 use Rattle.tables.specs.Lookup.{rootOf}
 use Rattle.tables.specs.Laws.Lookup.{root-entry}
 use Rattle.meaning.specs.Laws.Counts.{product-is, states-are}
+use Rattle.meaning.specs.Laws.Starting.{starting-own}
 use Rattle.meaning.specs.Laws.Rows.{transitions-length, entries-length, words-own, moves-within, entries-within}
 
 module _ (T : Tables) (ok : Valid T) where
@@ -47,6 +48,7 @@ module _ (T : Tables) (ok : Valid T) where
         starts =
             states-are (T .machines .count) (T .machines .states) (T .machines .starts) (omega (arith, M .most, M .statesLong))
             (omega (arith, M .most, M .startsLong)) (M .starts);
+        starting = starting-own (T .queues) Q;
         moves = moves-within (T .machines) (T .queues) (T .transitions) Q (omega (arith, M .most, M .statesLong)) (ok .transitions);
         words = words-own (T .machines) (T .queues) (T .transitions) Q (ok .transitions);
         arcs = λ s m s′ e. arc-within (T .queues) (T .pool) Q (ok .pool) s m s′ e .to;

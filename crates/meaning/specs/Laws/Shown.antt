@@ -2,7 +2,7 @@
 use Prim.Native.Nat.{ℕ, zero, suc, _+_, _*_, _≤_, zero-le}
 use mathlib.Core.Path.{_≡_, refl, sym, subst}
 use mathlib.Core.List.{List, [], _∷_}
-use lib.ListN.{length, drop, take, getD, length-append, length-drop, length-take}
+use lib.ListN.{length, drop, take, length-append, length-drop, length-take}
 use lib.Seq.{take-append-seam}
 use native.Mathlib.Omega.{arith}
 use native.Mathlib.Nat.{mul-le-mul}
@@ -19,7 +19,7 @@ use Rattle.model.specs.Judge.{Judged, passes, fails, judge, reply, decide, out}
 use Rattle.model.specs.Judge as Judge
 use Rattle.model.specs.Laws.Queues.{word-between, between-wide}
 use Rattle.model.specs.Laws.Items.{IsItem, item-is, at-place}
-use Rattle.model.specs.Laws.Lengths.{taken, shown-bound}
+use Rattle.model.specs.Laws.Lengths.{taken, showing, shown-bound}
 use Rattle.model.specs.Laws.Verdicts.{verdict-means}
 use Rattle.meaning.specs.Tables.{actionOf, sessionOf}
 use Rattle.meaning.specs.Reply.{FileReply, refused, verdict, replyTo, shownOf}
@@ -31,8 +31,8 @@ use Rattle.meaning.specs.Laws.Claims.{Sound}
 use Rattle.meaning.specs.Laws.Checking.{Ways, long, little, whole, ways, enough-long, lent-sound}
 use Rattle.tables.specs.Rows.{rowLength, wordEntry, kindAt, queueAt, lengthAt}
 
--- a failing item shows no more than w
-reply-shows : (S : Session) (i : Item) (w : List ℕ) (b : ℕ) → length w ≤ b → length (shownOf (verdict (reply S i w))) ≤ b
+-- a failing item shows no more than what speaks against it
+reply-shows : (S : Session) (i : Item) (w : List ℕ) (b : ℕ) → length (showing i w) ≤ b → length (shownOf (verdict (reply S i w))) ≤ b
 reply-shows S start w b h = zero-le
 reply-shows S (step c t τ) w b h = h
 reply-shows S (entry c e) w b h = h
@@ -66,7 +66,7 @@ module _ (T : Tables) (ok : Valid T) where
       let (j, m, e) = transition-row rows (T .transitions .count) 0 τ (at-place (sessionOf T .model .transitions) t g) in
       subst (λ σ. length (out (σ .action)) ≤ mostWord) (sym e)
       (out-short (kindAt rows (j * rowLength)) (queueAt rows (j * rowLength)) (lengthAt rows (j * rowLength))
-      (drop (wordEntry (j * rowLength)) rows) (ok .transitions .row j (omega arith) .action .most))
+      (drop (wordEntry (j * rowLength)) rows) (ok .transitions .row j (omega arith) .action .word .most))
   taken-short (entry b e) h = zero-le
 
   shown-most : (i : Item) → IsItem (sessionOf T) i → mostPairs (T .pool .count) + length (taken i) ≤ mostShown
