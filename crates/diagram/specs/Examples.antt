@@ -5,9 +5,10 @@ use mathlib.Core.List.{List, [], _∷_}
 use Rattle.explore.specs.Explore.{expand, fresh}
 use Rattle.numbers.specs.Number.{readNumber, readWithin, readBelow, readTwo}
 use Rattle.reading_model.specs.Machines.{readFactor, readSizes, readStarts, countedMachines, readMachines}
-use Rattle.reading_model.specs.Queues.{readTerm, readCounts, readQueues}
+use Rattle.reading_model.specs.Words.{readMessage, readWord}
+use Rattle.reading_model.specs.Queues.{readTerm, readCounts, countedQueues, readQueues}
 use Rattle.tables.specs.Queues.{firstMessage}
-use Rattle.reading_model.specs.Transitions.{readMessage, readWord, readAction, readTransition, readRows, readTransitions}
+use Rattle.reading_model.specs.Transitions.{readAction, readTransition, readRows, readTransitions}
 use Rattle.reading_pool.specs.Pool.{readAscending, readArc, readArcs, readState, readStates, readPool}
 use Rattle.queue_order.specs.Nodes.{gather, queueNodes}
 use Rattle.queue_order.specs.Search.{reached, noneFails, inQueueOrder}
@@ -45,7 +46,7 @@ unfolding
     memberOf ask judge readFile readModel readSets
     readNumber readWithin readBelow readTwo
     readFactor readSizes readStarts countedMachines readMachines
-    readTerm readCounts readQueues firstMessage
+    readTerm readCounts countedQueues readQueues firstMessage
     readMessage readWord readAction readTransition readRows readTransitions
     readAscending readArc readArcs readState readStates readPool
     gather queueNodes reached noneFails inQueueOrder expand fresh

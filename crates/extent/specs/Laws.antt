@@ -2,3 +2,4 @@
 pub mod Part
 pub mod Front
 pub mod After
+pub mod Starting

@@ -1,3 +1,5 @@
-// How far the contents after a step are followed, found where the contents before it and the word of the step lie.
+// Contents that lie in parts, followed where these lie: those after a step, from the contents before it and the word of the step; and those that
+// wait at the start.
 pub mod after;
 mod part;
+pub mod starting;

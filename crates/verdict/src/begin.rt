@@ -1,21 +1,31 @@
-// The start: whether empty queues are in the set of the control state that a run begins in.
+// The start: whether what waits then is in the set of the control state that a run begins in.
 use controls::begin::first_control;
+use extent::starting::follow_starting;
 use tables::lookup::is_final;
 use tables::lookup::root_of;
 use tables::tables::Machines;
+use tables::tables::Queues;
 ghost use mathlib.Core.Path.{_≡_};
-ghost use Rattle.model.specs.Model.{number};
-ghost use Rattle.tables.specs.Lookup.{rootOf, finalAt};
-ghost use Rattle.controls.specs.Controls.{sizesOf, startsOf};
-ghost use Rattle.verdict.specs.Begin.{RootsIn};
-ghost use Rattle.tables.specs.Valid.{MachinesValid};
+ghost use Rattle.tables.specs.Lookup.{finalAt, ArcsSmall};
+ghost use Rattle.verdict.specs.Begin.{RootsIn, startAt};
+ghost use Rattle.tables.specs.Valid.{MachinesValid, QueuesValid};
 
-// Whether empty queues are in the set of the control state that the machines start in.
-pub(crate) fn begins_inside(m: Machines, roots: &[u8], finals: &[u8]) -> bool
+// Whether what waits at the start leads to a final state.
+pub(crate) fn begins_inside(
+    m: Machines,
+    q: Queues,
+    roots: &[u8],
+    finals: &[u8],
+    arcs: &[u8],
+) -> bool
     requires { ⌜ MachinesValid m ⌝ }
+    requires { ⌜ QueuesValid q ⌝ }
     requires { ⌜ RootsIn (now roots) (now finals) ⌝ }
-    ensures { λ r. ⌜ r ≡ finalAt (now (finals .entry)) (rootOf (now (roots .entry)) (number (sizesOf m) (startsOf m))) ⌝ }
+    requires { ⌜ ArcsSmall (now arcs) ⌝ }
+    ensures { λ r. ⌜ r ≡ finalAt (now (finals .entry)) (startAt m q (now (roots .entry)) (now (arcs .entry))) ⌝ }
 {
     let c = first_control(m);
-    is_final(finals, root_of(roots, c))
+    let root = root_of(roots, c);
+    let at = follow_starting(arcs, root, q);
+    is_final(finals, at)
 }

@@ -39,7 +39,7 @@ pub const MOST_SHOWN: usize = TABLE_LEAST + MOST_WORD as usize;
 pub enum Verdict {
     // nothing fails: the pairs visited
     Closed(usize),
-    // empty queues are not in the set of the starting control state
+    // what waits at the start is not in the set of the starting control state
     Outside,
     // a step leads out: control state, transition, messages shown, how far the contents after it are followed
     Leaves(ControlState, usize, usize, usize),
@@ -94,7 +94,7 @@ fn judge_lent(
     requires { ⌜ Room n (now seen) (now queue) (now contents) ⌝ }
     ensures { λ r. ⌜ VerdictFound m (diagrams q (rows .entry) (arcs .entry) (finals .entry) (roots .entry)) (now (entries .entry)) count many (memory (contents .entry) (seen .entry) (queue .entry)) r (memory (contents .exit) (seen .exit) (queue .exit)) ⌝ }
 {
-    if !begins_inside(m, roots, finals) {
+    if !begins_inside(m, q, roots, finals, arcs) {
         return Verdict::Outside;
     }
     let p = judge_items(

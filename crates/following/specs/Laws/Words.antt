@@ -37,7 +37,7 @@ module _ (table : List ℕ) (at n : ℕ) where
 pub word-first : (table : List ℕ) (at n : ℕ) → at + suc n ≤ length table → wordOver table at (suc n) ≡ getD table at 0 ∷ wordOver table (suc at) n
 word-first table at n h = ap (take (suc n)) (drop-cons table at 0 (omega arith))
 
-all-small : (table : List ℕ) (at n : ℕ) → at + n ≤ length table → ((i : ℕ) → i < n → getD table (at + i) 0 < mostMessages)
+pub all-small : (table : List ℕ) (at n : ℕ) → at + n ≤ length table → ((i : ℕ) → i < n → getD table (at + i) 0 < mostMessages)
     → Between 0 mostMessages (wordOver table at n)
 all-small table at zero h each = nothing
 all-small table at (suc n) h each =

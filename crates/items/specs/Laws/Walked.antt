@@ -1,20 +1,19 @@
 -- What the walk's answer makes of the promise for one item, over what is lent of tables.
-use Prim.Native.Nat.{ℕ, zero, suc, _+_, _*_, _≤_, _<_}
+use Prim.Native.Nat.{ℕ, _+_, _*_, _≤_, _<_}
 use mathlib.Core.Path.{_≡_, refl, sym, ap, subst, _∙_}
 use mathlib.Core.Bool.{true, false}
-use mathlib.Core.List.{List, [], _∷_, _++_}
+use mathlib.Core.List.{List, _++_}
 use mathlib.Core.Logic.{inr}
 use native.Mathlib.Omega.{arith}
 use native.Mathlib.Nat.{mul-le-mul}
-use lib.ListN.{length, getD, take, drop, length-append, length-drop}
+use lib.ListN.{length, getD, drop, length-append}
 use lib.Seq.{drop-at}
 use Rattle.tables.specs.Valid.{MachinesValid, QueuesValid, RowValid}
 use Rattle.session.specs.Valid.{Valid}
 use Rattle.tables.specs.declared.tables.Machines.{Machines}
 use Rattle.tables.specs.declared.tables.Queues.{Queues}
 use Rattle.tables.specs.declared.tables.Tables.{Tables}
-use Rattle.model.specs.Session.{Session}
-use Rattle.model.specs.Verdict.{Item, step, entry, items, Pair, most}
+use Rattle.model.specs.Verdict.{Item, step, entry, Pair, most}
 use Rattle.model.specs.Judge as Model
 use Rattle.model.specs.Judge.{passes, fails, judge}
 use Rattle.model.specs.Searched.{judgeBySearch}
@@ -24,7 +23,6 @@ use Rattle.meaning.specs.Tables.{sessionOf, transitionAt}
 use Rattle.meaning.specs.Checking.{contentsLeast}
 use Rattle.meaning.specs.Laws.Sessions.{well-formed}
 use Rattle.pairs.specs.Pairs.{mostCodes, pairOf, NodeFits, afterSide}
-use Rattle.pairs.specs.Marks.{Blank}
 use Rattle.following.specs.Standing.{WordWithin}
 use Rattle.pairs.specs.Over.{Lent}
 use Rattle.walk.specs.Laws.Valid.{word-empty}
@@ -126,8 +124,8 @@ module _ {m : Machines} {q : Queues} {rows arcs finals roots : List ℕ} {c row 
       let queues = asked-queues in
       record {
         within = omega arith;
-        most = omega (arith, valid .action .most);
-        messages = λ i h. omega (arith, valid .action .below i (omega arith), queues .sumMost);
+        most = omega (arith, valid .action .word .most);
+        messages = λ i h. omega (arith, valid .action .word .below i (omega arith), queues .sumMost);
       }
 
 -- THE STEP: its walk and its first pair, as the code makes them
@@ -205,7 +203,7 @@ module _ {m : Machines} {q : Queues} {rows arcs finals roots : List ℕ} {c : �
         → ShownFits arcs finals rows (walkOf q row k) (pairOf (nodeOf k source target)))
         (a .parts)
         (λ b l item. step-fits (a .whole) (a .parts .valid) c row source target (b .to) k (b .here) (b .goes) (b .there) (b .cuts) (a .number) (b .somewhere) item l)
-        b (asked-row a .action .most) (a .item)
+        b (asked-row a .action .word .most) (a .item)
 
     pub node-fits : NodeFits (nodeOf k source target)
     node-fits =

@@ -8,22 +8,22 @@ use native.Mathlib.Numerals.{add-one}
 use lib.ListN.{length, getD, take, drop, set, replicate, length-replicate, take-append-drop, replicate-append-replicate, drop-of-length-le}
 use lib.Seq.{drop-cons, set-at, take-at, length-take-le}
 use Rattle.tables.specs.Limits.{mostPool}
-use Rattle.tables.specs.Valid.{MachinesValid}
+use Rattle.tables.specs.Valid.{MachinesValid, QueuesValid}
 use Rattle.tables.specs.declared.tables.Machines.{Machines}
 use Rattle.tables.specs.declared.tables.Queues.{Queues}
 use Rattle.tables.specs.declared.tables.Tables.{Tables}
-use Rattle.model.specs.Model.{number, begin, controls}
-use Rattle.model.specs.Session.{Session, inside}
-use Rattle.model.specs.Verdict.{Reply, outside, stepsFrom, entriesFrom}
+use Rattle.model.specs.Model.{begin, controls}
+use Rattle.model.specs.Session.{inside}
+use Rattle.model.specs.Verdict.{outside, stepsFrom, entriesFrom}
 use Rattle.model.specs.Judge as Model
 use Rattle.model.specs.Judge.{decide}
-use Rattle.meaning.specs.Tables.{sessionOf, badFrom as entriesIn}
-use Rattle.tables.specs.Lookup.{rootOf, finalAt}
-use Rattle.meaning.specs.Reply.{FileReply, verdict}
+use Rattle.meaning.specs.Tables.{sessionOf}
+use Rattle.tables.specs.Lookup.{finalAt, ArcsSmall}
+use Rattle.tables.specs.Laws.Lookup.{arcs-small}
+use Rattle.meaning.specs.Reply.{verdict}
 use Rattle.pairs.specs.Pairs.{mostCodes}
 use Rattle.pairs.specs.Marks.{Blank}
-use Rattle.controls.specs.Controls.{sizesOf, startsOf}
-use Rattle.verdict.specs.Begin.{RootsIn}
+use Rattle.verdict.specs.Begin.{RootsIn, startAt}
 use Rattle.items.specs.Judging.{Kept, Scratch, saidSoFar, shownSoFar, Judges, AllParts, AllAsked}
 use Rattle.verdict.specs.Check.{saidVerdict, shownIn, concluded, Room, Concludes}
 use Rattle.controls.specs.Laws.Parting.{sizes-product}
@@ -90,15 +90,22 @@ module _ {m : Machines} {q : Queues} {rows arcs finals roots entries : List ℕ}
         small = λ i. subst (λ l. getD l i 0 ≤ mostPool) (a .all .parts .sameRoots) (omega (arith, a .all .parts .valid .map .roots i, a .all .parts .valid .pool .most));
       }
 
+  pub all-queues : AllAsked m q rows arcs finals roots entries count many → QueuesValid q
+  all-queues a = subst QueuesValid (a .all .parts .sameQueues) (a .all .parts .valid .queues)
+
+  pub all-arcs : AllAsked m q rows arcs finals roots entries count many → ArcsSmall arcs
+  all-arcs a = subst ArcsSmall (a .all .parts .sameArcs) (arcs-small (a .all .parts .valid .pool))
+
   inside-is : {T : Tables} → AllParts T m q rows arcs finals roots entries count many → (b : Bool)
-      → b ≡ finalAt finals (rootOf roots (number (sizesOf m) (startsOf m))) → inside (sessionOf T) (begin (sessionOf T .model)) ≡ b
+      → b ≡ finalAt finals (startAt m q roots arcs) → inside (sessionOf T) (begin (sessionOf T .model)) ≡ b
   inside-is {T} p b e =
-      begin-inside T
-      ∙ ap (λ n. finalAt (T .pool .finals) (rootOf (T .map .roots) (number (sizesOf n) (startsOf n)))) (p .parts .sameMachines)
-      ∙ ap₂ (λ f r. finalAt f (rootOf r (number (sizesOf m) (startsOf m)))) (p .parts .sameFinals) (p .parts .sameRoots)
+      begin-inside T (p .parts .valid)
+      ∙ ap₂ (λ n w. finalAt (T .pool .finals) (startAt n w (T .map .roots) (T .pool .arcs))) (p .parts .sameMachines) (p .parts .sameQueues)
+      ∙ ap₂ (λ f r. finalAt f (startAt m q r (T .pool .arcs))) (p .parts .sameFinals) (p .parts .sameRoots)
+      ∙ ap (λ a. finalAt finals (startAt m q roots a)) (p .parts .sameArcs)
       ∙ sym e
 
-  pub outside-concludes : finalAt finals (rootOf roots (number (sizesOf m) (startsOf m))) ≡ false → {seen queue contents : List ℕ}
+  pub outside-concludes : finalAt finals (startAt m q roots arcs) ≡ false → {seen queue contents : List ℕ}
       → Concludes (λ T. AllParts T m q rows arcs finals roots entries count many) seen queue contents Outside seen queue contents
   unfolding Model.verdict
   outside-concludes e =
@@ -110,7 +117,7 @@ module _ {m : Machines} {q : Queues} {rows arcs finals roots entries : List ℕ}
       }
 
   -- THE ITEMS after it
-  pub items-conclude : finalAt finals (rootOf roots (number (sizesOf m) (startsOf m))) ≡ true → {n : ℕ} {seen queue contents : List ℕ}
+  pub items-conclude : finalAt finals (startAt m q roots arcs) ≡ true → {n : ℕ} {seen queue contents : List ℕ}
       → Room n seen queue contents → {r : Progress} {seen′ queue′ contents₁ seen₁ queue₁ : List ℕ}
       → Judges (λ T. AllParts T m q rows arcs finals roots entries count many) 1100000000 (allHere (m .product) entries many) contents r contents₁ seen′ queue′
       → seen₁ ≡ seen′ ++ drop n seen → queue₁ ≡ queue′ ++ drop n queue → {v : Verdict} → v ≡ concluded r

@@ -1,5 +1,5 @@
 -- The judgement of an item's walk is the model's judgement of the item, and its contents are not too long to be shown.
-use mathlib.Core.Path.{_≡_, sym, ap, subst, _∙_}
+use mathlib.Core.Path.{_≡_, refl, sym, ap, subst, _∙_}
 use mathlib.Core.Option.{some, Option·none-ne-some}
 use mathlib.Core.List.{List}
 use Prim.Native.Nat.{ℕ, _+_, _-_, _*_, _≤_}
@@ -16,7 +16,7 @@ use Rattle.model.specs.Laws.Items.{IsItem}
 use Rattle.model.specs.Laws.Judging.{JudgedMeans}
 use Rattle.model.specs.Laws.Verdicts.{judge-means}
 use Rattle.model.specs.Laws.Searches.{search-is}
-use Rattle.model.specs.Laws.Lengths.{taken, shown-bound}
+use Rattle.model.specs.Laws.Lengths.{taken, showing, shown-bound}
 use Rattle.pairs.specs.declared.pairs.Walk.{Walk}
 use Rattle.walk.specs.declared.judge.Judged.{Judged}
 use Rattle.pairs.specs.Pairs.{stride, mostCodes}
@@ -39,6 +39,12 @@ walk-judges S start B e = absurd (Option·none-ne-some B e)
 walk-judges S (step c t τ) B e = ap (searchWalk S mostCodes) (sym e)
 walk-judges S (entry b d) B e = ap (searchWalk S mostCodes) (sym e)
 
+-- and shows what speaks against it
+walk-shows : (S : Session) (i : Item) (B : Begun) → walkOf S i ≡ some B → (u : List ℕ) → showing i u ≡ u
+walk-shows S start B e u = absurd (Option·none-ne-some B e)
+walk-shows S (step c t τ) B e u = refl
+walk-shows S (entry b d) B e u = refl
+
 module _ (arcs finals rows : List ℕ) (w : Walk) (root : Pair) (S : Session) (o : Over arcs finals (w .sum) S) (wf : WellFormed S)
     (few : S .pool .states ≤ mostPool) (i : Item) (item : IsItem S i) (at : walkOf S i ≡ some (record { walk = walkOver rows w; root = root })) where
   pub judged-item : judgedOver arcs finals rows w root ≡ judge S i
@@ -50,7 +56,7 @@ module _ (arcs finals rows : List ℕ) (w : Walk) (root : Pair) (S : Session) (o
   pub item-fits : length (taken i) ≤ contentsLeast - mostCodes → ShownFits arcs finals rows w root
   item-fits short =
       record {
-        most = λ u e. omega (arith, shown-bound S wf i item u (sym judged-item ∙ e), pairs-fit (S .pool .states) few);
+        most = λ u e. omega (arith, ap length (walk-shows S i (record { walk = walkOver rows w; root = root }) at u), shown-bound S wf i item u (sym judged-item ∙ e), pairs-fit (S .pool .states) few);
       }
 
   -- WHAT THE CODE'S ANSWER MEANS: it counts the different pairs of the item, or shows the least contents that speak against it

@@ -26,8 +26,8 @@ word-within {q = q} z s t n h g =
     let a = z .row t h .action in
     record {
       within = omega (arith, z .most, z .long);
-      most = omega (arith, a .most);
-      messages = λ i l. omega (arith, a .below i (omega arith), s .sumMost);
+      most = omega (arith, a .word .most);
+      messages = λ i l. omega (arith, a .word .below i (omega arith), s .sumMost);
     }
 
 pub word-empty : {rows : List ℕ} {at : ℕ} → at + mostWord ≤ length rows → WordWithin rows at 0

@@ -1,14 +1,9 @@
-use mathlib.Core.Path.{subst}
-use Rattle.verdict.specs.declared.check.Verdict.{Verdict}
-use mathlib.Core.Path.{_≡_, refl, sym, ap, _∙_}
-use mathlib.Core.List.{List}
-use Prim.Native.Nat.{ℕ}
+use mathlib.Core.Path.{refl, sym, _∙_}
 use denote.Ref.{now}
 use lib.ListN.{length}
-use lib.Seq.{length-take-le, length-front}
+use lib.Seq.{length-take-le}
 use borrow.Author.Tests.{not-true, not-false}
-use Rattle.verdict.specs.Check.{Concludes}
-use Rattle.verdict.specs.Laws.Check.{room-scratch, all-machines, all-roots, outside-concludes, items-conclude}
+use Rattle.verdict.specs.Laws.Check.{room-scratch, all-machines, all-queues, all-roots, all-arcs, outside-concludes, items-conclude}
 use borrow.Author.Needs.{needs}
 use Rattle.verdict.proofs.check.judge_lent.Statement.{statement}
 use Rattle.verdict.proofs.check.judge_lent.Tie as tie
@@ -20,7 +15,9 @@ use Rattle.items.proofs.items.judge_items.Reads as judge-items-reads
 
 -- src/check.rt:83:9
 begins-inside-requires : tie.Need-begins-inside-requires
-begins-inside-requires c κs = (all-machines (c .before .before .before .before .before .before .before .before .pre .0), all-roots (c .before .before .before .before .before .before .before .before .pre .0))
+begins-inside-requires c κs =
+    let a = c .before .before .before .before .before .before .before .before .pre .0 in
+    (all-machines a, (all-queues a, (all-roots a, all-arcs a)))
 
 -- src/check.rt:84:9
 returns : tie.Need-returns
