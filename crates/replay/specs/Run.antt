@@ -4,12 +4,12 @@ use mathlib.Core.Path.{_≡_}
 use mathlib.Core.Bool.{Bool, true, false}
 use mathlib.Core.List.{List}
 use denote.Ref.{RefT, now}
-use lib.ListN.{length, drop, replicate}
+use lib.ListN.{length, drop}
 use Rattle.numbers.specs.Limits.{mostBytes}
 use Rattle.numbers.specs.declared.refusal.Refusal.{Refusal}
-use Rattle.tables.specs.Limits.{mostQueues}
 use Rattle.session.specs.Valid.{Valid}
 use Rattle.tables.specs.declared.tables.Machines.{Machines}
+use Rattle.tables.specs.declared.tables.Queues.{Queues}
 use Rattle.tables.specs.declared.tables.Tables.{Tables}
 use Rattle.session.specs.declared.reading.Answer.{Answer}
 use Rattle.session.specs.declared.reading.Answer.the-variants.{Read, Refused}
@@ -18,6 +18,7 @@ use Rattle.meaning.specs.Tables.{sessionOf}
 use Rattle.trace.specs.Rules.{room, Why, Ended, ended}
 use Rattle.trace.specs.Replay.{Turn, stops, goes, moved, turn, replayFrom}
 use Rattle.rings.specs.Laid.{memoryAfter}
+use Rattle.rings.specs.Laying.{fronts, Lays}
 use Rattle.stepping.specs.Frame.{modelIn, tablesOf}
 use Rattle.stepping.specs.Configurations.{runOf, configOf, Holds, Settles}
 use Rattle.stepping.specs.After.{recordAfter}
@@ -143,13 +144,18 @@ pub data Opens (a : Answer) (queues long bytes : ℕ) (p : Progress) : Type 0 wh
   opened : a ≡ Read → long ≤ mostBytes → queues * room ≤ bytes → p ≡ record { going = true; why = End; at = 0; steps = 0 }
       → Opens a queues long bytes p
 
--- the record of the start, starting states and empty queues; the one before where the replay does not go
-abbrev pub startsWith : Machines → RunRecord
-startsWith m = record { states = m .starts; heads = replicate mostQueues 0; lengths = replicate mostQueues 0 }
+-- the record of the start: starting states, and how much waits in each queue; the one before where the replay does not go
+abbrev pub startsWith : Machines → Queues → RunRecord
+startsWith m q = record { states = m .starts; heads = fronts; lengths = q .lengths }
 
-abbrev pub recordFor : RunRecord → Machines → Bool → RunRecord
-recordFor r m true = startsWith m
-recordFor r m false = r
+abbrev pub recordFor : RunRecord → Machines → Queues → Bool → RunRecord
+recordFor r m q true = startsWith m q
+recordFor r m q false = r
+
+-- the memory of the start, with what waits laid into it; the one before where the replay does not go
+pub record LaysFor (q : Queues) (going : Bool) (mem mem′ : List ℕ) : Type 0 where
+  pub lays : going ≡ true → Lays (q .lengths) (q .contents) (q .count) mem mem′
+  pub idle : going ≡ false → mem′ ≡ mem
 
 -- what the code makes of the file's tables at the beginning
 abbrev pub begunOf : RunRecord → Tables → Progress → Begun
@@ -159,13 +165,12 @@ begunOf r T p = record { «record» = r; progress = p; frame = frameOf T; roots 
 abbrev pub tablesIn : Begun → List ℕ → List ℕ → List ℕ → Tables
 tablesIn b rows finals arcs = tablesOf (b .frame) rows finals arcs (b .roots)
 
--- THE BEGINNING, with n bytes of memory lent, whatever they hold: a refusal with the record as it was, or the first state, in tables T
-pub data Begins (bytes s : List ℕ) (n : ℕ) (r : RunRecord) (b : Begun) (T : Tables) : Type 0 where
-  refuses : b .progress .going ≡ false → b .record ≡ r → b .progress .steps ≡ 0
-      → ((mem : List ℕ) → length mem ≡ n → replayOf bytes s mem r ≡ turnedAway (saidStop (b .progress .why)) r mem)
-      → Begins bytes s n r b T
+-- THE BEGINNING, with memory mem₀ lent and mem₁ left in it: a refusal with record and memory as they were, or the first state, in tables T
+pub data Begins (bytes s mem₀ : List ℕ) (r : RunRecord) (b : Begun) (T : Tables) (mem₁ : List ℕ) : Type 0 where
+  refuses : b .progress .going ≡ false → b .record ≡ r → mem₁ ≡ mem₀ → b .progress .steps ≡ 0
+      → replayOf bytes s mem₀ r ≡ turnedAway (saidStop (b .progress .why)) r mem₀
+      → Begins bytes s mem₀ r b T mem₁
   starts : b .progress .going ≡ true
-      → ((mem : List ℕ) → length mem ≡ n
-      → Ready T s (state (b .record) mem (b .progress))
-      × (replayOf bytes s mem r ≡ ranTo T mem (rest T s (state (b .record) mem (b .progress)))))
-      → Begins bytes s n r b T
+      → Ready T s (state (b .record) mem₁ (b .progress))
+      → replayOf bytes s mem₀ r ≡ ranTo T mem₁ (rest T s (state (b .record) mem₁ (b .progress)))
+      → Begins bytes s mem₀ r b T mem₁

@@ -77,15 +77,7 @@ pub fn replay(r: &mut RunRecord, file: &[u8], trace: &[u8], memory: &mut [u8]) -
     let mut rows = [0u8; ROWS];
     let mut finals = [0u8; DiagramState::LIMIT];
     let mut arcs = [0u8; POOL_ARCS];
-    let b = start(
-        *r,
-        file,
-        trace,
-        memory.len(),
-        &mut rows,
-        &mut finals,
-        &mut arcs,
-    );
+    let b = start(*r, file, trace, memory, &mut rows, &mut finals, &mut arcs);
     *r = b.record;
     let f = b.frame;
     let roots = b.roots;

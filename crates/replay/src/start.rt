@@ -5,6 +5,8 @@ use crate::progress::Stop;
 use numbers::number::wide;
 use numbers::refusal::MOST_BYTES;
 use rings::ROOM;
+use rings::laying::lay_starting;
+use rings::laying::starting_lengths;
 use session::reading::Answer;
 use session::reading::read_into;
 use stepping::frame::Frame;
@@ -13,10 +15,13 @@ use tables::kinds::DiagramState;
 use tables::tables::MOST_QUEUES;
 use tables::tables::Machines;
 use tables::tables::POOL_ARCS;
+use tables::tables::Queues;
 use tables::tables::ROWS;
 ghost use mathlib.Core.Path.{_≡_};
+ghost use mathlib.Core.Bool.{true};
+ghost use Rattle.rings.specs.Laying.{Layable};
 ghost use Rattle.session.specs.Lent.{Blank};
-ghost use Rattle.replay.specs.Run.{refusedBy, Opens, recordFor, tablesIn, Begins};
+ghost use Rattle.replay.specs.Run.{refusedBy, Opens, recordFor, LaysFor, tablesIn, Begins};
 
 fn refused(why: Stop) -> Progress
     ensures { λ p. ⌜ p ≡ refusedBy why ⌝ }
@@ -53,32 +58,44 @@ fn opening(answer: Answer, queues: u8, length: usize, bytes: usize) -> Progress
 }
 
 // The record that the file begins with; after a refusal it is as it was.
-fn record_for(r: RunRecord, machines: Machines, going: bool) -> RunRecord
-    ensures { λ x. ⌜ x ≡ recordFor r machines going ⌝ }
+fn record_for(r: RunRecord, machines: Machines, queues: Queues, going: bool) -> RunRecord
+    ensures { λ x. ⌜ x ≡ recordFor r machines queues going ⌝ }
 {
     if !going {
         return r;
     }
     let states = machines.starts;
+    let lengths = starting_lengths(queues);
     RunRecord {
         states,
         heads: [0usize; MOST_QUEUES as usize],
-        lengths: [0usize; MOST_QUEUES as usize],
+        lengths,
     }
 }
 
-// The first state; the large tables of the file are read into the arrays that are lent.
+// The queue memory that the file begins with; after a refusal it is as it was.
+fn lay_for(memory: &mut [u8], queues: Queues, going: bool)
+    requires { ⌜ (going ≡ true → Layable queues (now memory)) ⌝ }
+    ensures { λ x. ⌜ LaysFor queues going (now (memory .entry)) (now (memory .exit)) ⌝ }
+{
+    if !going {
+        return;
+    }
+    lay_starting(memory, queues);
+}
+
+// The first state; the large tables of the file are read into the arrays that are lent, and what waits in the queues is laid into the memory.
 pub(crate) fn start(
     r: RunRecord,
     file: &[u8],
     trace: &[u8],
-    bytes: usize,
+    memory: &mut [u8],
     rows: &mut [u8; ROWS],
     finals: &mut [u8; DiagramState::LIMIT],
     arcs: &mut [u8; POOL_ARCS],
 ) -> Begun
     requires { ⌜ Blank (now rows) (now finals) (now arcs) ⌝ }
-    ensures { λ b. ⌜ Begins (now (file .entry)) (now (trace .entry)) bytes r b (tablesIn b (now (rows .exit)) (now (finals .exit)) (now (arcs .exit))) ⌝ }
+    ensures { λ b. ⌜ Begins (now (file .entry)) (now (trace .entry)) (now (memory .entry)) r b (tablesIn b (now (rows .exit)) (now (finals .exit)) (now (arcs .exit))) (now (memory .exit)) ⌝ }
 {
     let head = read_into(file, rows, finals, arcs);
     let answer = head.answer;
@@ -86,8 +103,9 @@ pub(crate) fn start(
     let queues = head.queues;
     let map = head.map;
     let roots = map.roots;
-    let progress = opening(answer, queues.count, trace.len(), bytes);
-    let record = record_for(r, machines, progress.going);
+    let progress = opening(answer, queues.count, trace.len(), memory.len());
+    let record = record_for(r, machines, queues, progress.going);
+    lay_for(memory, queues, progress.going);
     let frame = Frame {
         machines,
         queues,

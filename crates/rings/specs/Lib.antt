@@ -1,5 +1,6 @@
 pub mod Ring
 pub mod Laid
+pub mod Laying
 pub mod Lent
 pub mod Led
 pub mod Laws

@@ -1,20 +1,16 @@
 -- Queues in lent memory while a replay runs: queue q in the `room` bytes from byte room · q, as a ring.
-use Prim.Native.Nat.{ℕ, zero, suc, _+_, _*_, _%_}
+use Prim.Native.Nat.{ℕ, _+_, _*_, _%_}
 use mathlib.Core.Bool.{Bool, true, false}
 use mathlib.Core.Option.{Option, none, some}
 use mathlib.Core.List.{List, [], _∷_}
 use lib.ListN.{getD, set}
+use Rattle.tables.specs.Starting.{each}
 use Rattle.trace.specs.Rules.{room}
 use Rattle.following.specs.Standing.{standing}
 
 -- the n messages that wait in the ring at base, from place i on
 abbrev pub waiting : List ℕ → ℕ → ℕ → ℕ → List ℕ
 waiting mem base i n = standing room mem base i n
-
--- so many values of f, from q on
-abbrev pub each : (ℕ → List ℕ) → ℕ → ℕ → List (List ℕ)
-each f zero q = []
-each f (suc left) q = f q ∷ each f left (q + 1)
 
 -- what waits in queue q
 abbrev pub ringAt : List ℕ → List ℕ → List ℕ → ℕ → List ℕ

@@ -10,7 +10,7 @@ use Rattle.numbers.specs.Number.{readNumber, readBelow}
 use Rattle.model.specs.Model.{Configuration, send}
 use Rattle.model.specs.Diagram.{Pool}
 use Rattle.model.specs.Session.{Session}
-use Rattle.model.specs.Examples.{sessionR}
+use Rattle.model.specs.Examples.{modelR, sessionR}
 use Rattle.trace.specs.Rules.{end, outside, refusal, ended}
 use Rattle.trace.specs.Replay.{turn, replayFrom, replayed}
 
@@ -33,6 +33,22 @@ leaves : (replayed S (0 ∷ 0 ∷ 0 ∷ 99 ∷ []) ≡ ended (outside 2) 3 (wait
 unfolding replayFrom turn readBelow readNumber
 leaves = (refl, refl)
 
+-- the queue starts with these messages: one is received; three are outside at the start, and no step is taken
+abbrev resumed : List ℕ → Session
+resumed q =
+    record {
+      model = record { sizes = modelR .sizes; starts = modelR .starts; queues = modelR .queues; starting = q ∷ []; transitions = modelR .transitions };
+      pool = twoAtMost 0;
+      root = λ c. some 0;
+      bad = [];
+    }
+
+resumes : (replayed (resumed (0 ∷ [])) (1 ∷ []) ≡ ended end 1 (waiting []))
+    × (replayed (resumed (0 ∷ [])) (1 ∷ 1 ∷ []) ≡ ended (refusal 14 1) 1 (waiting []))
+    × (replayed (resumed (0 ∷ 0 ∷ 0 ∷ [])) (1 ∷ []) ≡ ended (outside 2) 0 (waiting (0 ∷ 0 ∷ 0 ∷ [])))
+unfolding replayFrom turn readBelow readNumber
+resumes = (refl, refl, refl)
+
 -- nothing is left to receive; 2 is no transition; 128 0 is no form of a number; the bytes end inside a number
 refuses : (replayed S (0 ∷ 1 ∷ 1 ∷ []) ≡ ended (refusal 14 2) 2 (waiting []))
     × (replayed S (0 ∷ 2 ∷ []) ≡ ended (refusal 5 1) 1 (waiting (0 ∷ [])))
@@ -45,7 +61,7 @@ refuses = (refl, refl, refl, refl)
 abbrev sends : ℕ → Session
 sends n =
     record {
-      model = record { sizes = 1 ∷ []; starts = 0 ∷ []; queues = 1 ∷ []; transitions = record { machine = 0; from = 0; to = 0; action = send 0 (replicate n 0) } ∷ [] };
+      model = record { sizes = 1 ∷ []; starts = 0 ∷ []; queues = 1 ∷ []; starting = [] ∷ []; transitions = record { machine = 0; from = 0; to = 0; action = send 0 (replicate n 0) } ∷ [] };
       pool = twoAtMost 0;
       root = λ c. some 0;
       bad = [];

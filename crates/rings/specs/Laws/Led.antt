@@ -20,7 +20,7 @@ use Rattle.rings.specs.Ring.{ringAt, rings}
 use Rattle.rings.specs.Lent.{Rings}
 use Rattle.rings.specs.Led.{ledTo, Leads, Waits}
 use Rattle.rings.specs.Laws.Waiting.{waiting-length}
-use Rattle.rings.specs.Laws.Each.{each-snoc}
+use Rattle.tables.specs.Laws.Each.{each-snoc}
 use Rattle.rings.specs.declared.follow.Led.{Led}
 use Rattle.rings.specs.declared.follow.Led.the-variants.{To, Lost}
 

@@ -14,11 +14,11 @@ use Rattle.numbers.specs.Laws.Parts.{one-more}
 use Rattle.trace.specs.Rules.{room, fits}
 use Rattle.model.specs.Model.{strip}
 use Rattle.model.specs.Diagram.{word}
-use Rattle.following.specs.Standing.{standing}
-use Rattle.rings.specs.Ring.{waiting, each, ringAt, rings, putRound}
+use Rattle.tables.specs.Starting.{each}
+use Rattle.rings.specs.Ring.{waiting, ringAt, rings, putRound}
 use Rattle.rings.specs.Lent.{Ring, Rings}
 use Rattle.rings.specs.Laws.Waiting.{waiting-length, waiting-round, push-word, put-other, put-length, strip-waiting}
-use Rattle.rings.specs.Laws.Each.{each-length, each-at, each-set, each-same}
+use Rattle.tables.specs.Laws.Each.{each-length, each-at, each-set}
 
 module _ (mem heads lengths : List ℕ) (count : ℕ) where
   pub rings-length : length (rings mem heads lengths count) ≡ count
@@ -26,11 +26,6 @@ module _ (mem heads lengths : List ℕ) (count : ℕ) where
 
   pub rings-at : (q : ℕ) → q < count → getD (rings mem heads lengths count) q [] ≡ ringAt mem heads lengths q
   rings-at q h = each-at (ringAt mem heads lengths) count 0 q h ∙ ap (ringAt mem heads lengths) (let z : 0 + q ≡ q = omega arith in z)
-
-  pub rings-empty : ((q : ℕ) → getD lengths q 0 ≡ 0) → rings mem heads lengths count ≡ each (λ q. []) count 0
-  unfolding standing
-  rings-empty none-wait =
-      each-same (λ q. []) (ringAt mem heads lengths) count 0 (λ q _ _. ap (waiting mem (q * room) (getD heads q 0)) (none-wait q))
 
   -- the messages of the queues from q on
   abbrev pub messagesFrom : ℕ → List ℕ

@@ -8,11 +8,12 @@ use lib.ListN.{length, getD, set, drop, replicate, length-append, length-set, le
 use lib.Seq.{sets, sets-eq, take-at, drop-append-add, getD-append-add, getD-drop, drop-drop}
 use Rattle.numbers.specs.Laws.Put.{Left}
 use Rattle.trace.specs.Rules.{room}
-use Rattle.rings.specs.Ring.{each, ringAt, rings}
+use Rattle.tables.specs.Starting.{each}
+use Rattle.rings.specs.Ring.{ringAt, rings}
 use Rattle.rings.specs.Laid.{laid, laidAll, memoryAfter}
 use Rattle.rings.specs.Lent.{Rings}
 use Rattle.rings.specs.Laws.Waiting.{waiting-length, waiting-same}
-use Rattle.rings.specs.Laws.Each.{each-snoc}
+use Rattle.tables.specs.Laws.Each.{each-snoc}
 use Rattle.rings.specs.Laws.Rings.{rings-length}
 
 -- ONE RING is gathered at the front of a copy

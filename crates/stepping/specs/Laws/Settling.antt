@@ -1,6 +1,6 @@
 -- The form of the end is that of the record's configuration.
-use Prim.Native.Nat.{ℕ, zero, suc, _+_, _-_, _*_, _≤_, _<_}
-use mathlib.Core.Path.{_≡_, refl, sym, ap, ap₂, subst, _∙_}
+use Prim.Native.Nat.{ℕ, zero, suc, _+_, _-_, _≤_}
+use mathlib.Core.Path.{_≡_, refl, sym, ap, ap₂, _∙_}
 use mathlib.Core.List.{List, [], _∷_, _++_, map}
 use native.Mathlib.Omega.{arith}
 use native.Mathlib.Nat.{sub-zero}
@@ -13,7 +13,8 @@ use Rattle.tables.specs.declared.tables.Machines.{Machines}
 use Rattle.tables.specs.declared.tables.Queues.{Queues}
 use Rattle.model.specs.Laws.Controls.{places-number}
 use Rattle.controls.specs.Controls.{sizesOf}
-use Rattle.rings.specs.Ring.{waiting, each, ringAt, rings}
+use Rattle.tables.specs.Starting.{each}
+use Rattle.rings.specs.Ring.{waiting, ringAt, rings}
 use Rattle.rings.specs.Laws.Waiting.{waiting-length}
 use Rattle.stepping.specs.Configurations.{runOf, configOf, Holds}
 use Rattle.stepping.specs.After.{padded, recordAfter}

@@ -146,7 +146,7 @@ module _ {q : Queues} {rows : List ℕ} {row : ℕ} {hs ls mem : List ℕ} (S : 
   word-length : length (wordAt rows row) ≡ lengthAt rows row
   word-length =
       length-take-le (lengthAt rows row) (drop (wordEntry row) rows)
-      (omega (arith, length-drop (wordEntry row) rows, S .action .most, S .within))
+      (omega (arith, length-drop (wordEntry row) rows, S .action .word .most, S .within))
 
   pub send-full : room < getD ls (queueAt rows row) 0 + lengthAt rows row → Shifts q (send (queueAt rows row) (wordAt rows row)) hs ls mem NoRoom hs ls mem
   send-full = sent-full hs ls mem (queueAt rows row) (lengthAt rows row) (wordAt rows row) (S .queues) (S .ringed) (S .enough) (S .action .queue) word-length

@@ -62,7 +62,7 @@ add-begins c = search needs
 -- src/taking.rt:73:9
 begins-requires : tie.Need-begins-requires
 begins-requires c κs = let S = c .before .before .before .before .before .before .pre .shiftable in let k = queueAt (now (c .before .before .before .before .before .before .args .rows)) (c .before .before .before .before .before .before .args .row) in
-    (record { within = queue-room S; placed = S .ringed .placed k; held = S .ringed .held k }, omega (arith, S .within, S .action .most))
+    (record { within = queue-room S; placed = S .ringed .placed k; held = S .ringed .held k }, omega (arith, S .within, S .action .word .most))
 
 -- src/taking.rt:74:9
 returns : tie.Need-returns
@@ -70,7 +70,7 @@ returns c = λ q S. receive-none S (sym (not-true _ (c .if1 .taken)) ∙ c .befo
 
 -- src/taking.rt:76:17
 add-heads : tie.Need-add-heads
-add-heads c = let S = c .before .before .before .before .before .before .before .before .pre .shiftable in let k = queueAt (now (c .before .before .before .before .before .before .before .before .args .rows)) (c .before .before .before .before .before .before .before .before .args .row) in omega (arith, S .ringed .placed k, S .ringed .held k, S .action .most)
+add-heads c = let S = c .before .before .before .before .before .before .before .before .pre .shiftable in let k = queueAt (now (c .before .before .before .before .before .before .before .before .args .rows)) (c .before .before .before .before .before .before .before .before .args .row) in omega (arith, S .ringed .placed k, S .ringed .held k, S .action .word .most)
 
 -- src/taking.rt:76:5
 mul-heads : tie.Need-mul-heads

@@ -43,7 +43,7 @@ element-copy-out-count c = search needs
 
 -- src/taking.rt:50:15
 add-if1 : tie.Need-add-if1
-add-if1 c = let S = c .before .before .before .before .before .pre .shiftable in omega (arith, S .ringed .held (queueAt (now (c .before .before .before .before .before .args .rows)) (c .before .before .before .before .before .args .row)), S .action .most)
+add-if1 c = let S = c .before .before .before .before .before .pre .shiftable in omega (arith, S .ringed .held (queueAt (now (c .before .before .before .before .before .args .rows)) (c .before .before .before .before .before .args .row)), S .action .word .most)
 
 -- src/taking.rt:51:9
 returns : tie.Need-returns
@@ -72,7 +72,7 @@ add-put-word-2 c = search needs
 -- src/taking.rt:53:5
 put-word-requires : tie.Need-put-word-requires
 put-word-requires c κs = let S = c .before .before .before .before .before .before .before .before .pre .shiftable in let k = queueAt (now (c .before .before .before .before .before .before .before .before .args .rows)) (c .before .before .before .before .before .before .before .before .args .row) in
-    (queue-room S, (omega (arith, S .within, S .action .most), omega (arith, S .ringed .placed k, S .ringed .held k)))
+    (queue-room S, (omega (arith, S .within, S .action .word .most), omega (arith, S .ringed .placed k, S .ringed .held k)))
 
 -- src/taking.rt:54:18
 add-lengths : tie.Need-add-lengths
