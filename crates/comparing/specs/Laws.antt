@@ -88,8 +88,12 @@ queues-same q p e =
     let b = and-is (eqb (q .sum) (p .sum)) _ (a .1) in
     let count = eqb-true (q .count) (p .count) (a .0) in
     let sum = eqb-true (q .sum) (p .sum) (b .0) in
-    let messages = same-is (q .messages) (p .messages) (b .1) in
-    λ i. record { count = count i; sum = sum i; messages = messages i }
+    let c = and-is (same (q .messages) (p .messages)) _ (b .1) in
+    let d = and-is (same (q .lengths) (p .lengths)) _ (c .1) in
+    let messages = same-is (q .messages) (p .messages) (c .0) in
+    let lengths = same-is (q .lengths) (p .lengths) (d .0) in
+    let contents = same-is (q .contents) (p .contents) (d .1) in
+    λ i. record { count = count i; sum = sum i; messages = messages i; lengths = lengths i; contents = contents i }
 
 record Larges (T U : Tables) : Type 0 where
   rows : T .transitions .rows ≡ U .transitions .rows
@@ -148,6 +152,8 @@ tables-same T =
       number-same (T .queues .count),
       number-same (T .queues .sum),
       is-same (T .queues .messages),
+      is-same (T .queues .lengths),
+      is-same (T .queues .contents),
       number-same (T .transitions .count),
       number-same (T .pool .count),
       number-same (T .bad .count),

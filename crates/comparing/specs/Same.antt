@@ -18,7 +18,10 @@ sameMachines m n =
     eqb (m .count) (n .count) && (eqb (m .product) (n .product) && (same (m .states) (n .states) && same (m .starts) (n .starts)))
 
 abbrev pub sameQueues : Queues → Queues → Bool
-sameQueues q p = eqb (q .count) (p .count) && (eqb (q .sum) (p .sum) && same (q .messages) (p .messages))
+sameQueues q p =
+    eqb (q .count) (p .count)
+    && (eqb (q .sum) (p .sum)
+    && (same (q .messages) (p .messages) && (same (q .lengths) (p .lengths) && same (q .contents) (p .contents))))
 
 -- all but the large tables: machines, queues, and how many transitions, pool states and bad entries
 abbrev pub sameHeads : Machines → Queues → ℕ → ℕ → ℕ → Machines → Queues → ℕ → ℕ → ℕ → Bool

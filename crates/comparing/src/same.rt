@@ -61,14 +61,24 @@ fn same_queues(q: Queues, p: Queues) -> bool
     ensures { λ r. ⌜ r ≡ sameQueues q p ⌝ }
 {
     let messages = q.messages;
+    let lengths = q.lengths;
+    let contents = q.contents;
     let other_messages = p.messages;
+    let other_lengths = p.lengths;
+    let other_contents = p.contents;
     if q.count != p.count {
         return false;
     }
     if q.sum != p.sum {
         return false;
     }
-    same(&messages, &other_messages)
+    if !same(&messages, &other_messages) {
+        return false;
+    }
+    if !same(&lengths, &other_lengths) {
+        return false;
+    }
+    same(&contents, &other_contents)
 }
 
 // All but the large tables.

@@ -4,8 +4,10 @@ pub mod Here
 pub mod Fronts
 pub mod Numbers
 pub mod Loops
+pub mod Words
 pub mod Machines
 pub mod Queues
+pub mod Starting
 pub mod Transitions
 pub mod Model
 pub mod Arcs

@@ -1,12 +1,15 @@
--- THE BYTES OF A SESSION FILE with these tables (document 01, "The session file"), field by field.
+-- THE BYTES OF A SESSION FILE with these tables (document 01, "The session file"), field by field. Where some queue starts with a message, the
+-- file resumes (document 02, change 8): its first number says so, and what waits stands after field 2.
 use Prim.Native.Nat.{ℕ, zero, suc, _+_, _*_, _/_, _%_}
-use mathlib.Core.Bool.{cond}
+use mathlib.Core.Bool.{Bool, cond}
 use mathlib.Core.Option.{none, some}
 use mathlib.Core.List.{List, [], _∷_, _++_}
 use lib.ListN.{length, getD}
 use lib.Dec.{ltb, eqb}
+use Rattle.tables.specs.Limits.{mostMachines, mostStarting}
 use Rattle.tables.specs.Rows.{rowLength, wordEntry, machineAt, fromAt, toAt, kindAt, queueAt, lengthAt}
 use Rattle.tables.specs.Pool.{arcAt}
+use Rattle.tables.specs.Starting.{waits}
 use Rattle.tables.specs.declared.tables.Machines.{Machines}
 use Rattle.tables.specs.declared.tables.Queues.{Queues}
 use Rattle.tables.specs.declared.tables.Transitions.{Transitions}
@@ -28,13 +31,23 @@ each part (suc left) i = part i ++ each part left (i + 1)
 abbrev pub entries : List ℕ → ℕ → ℕ → List ℕ
 entries table left i = each (λ k. number (getD table k 0)) left i
 
--- field 1: how many; for each its states; for each its starting state
-unfoldable pub machines : Machines → List ℕ
-machines m = number (m .count) ++ (entries (m .states) (m .count) 0 ++ entries (m .starts) (m .count) 0)
+-- field 1: how many, plus the most there may be if the file resumes; for each its states; for each its starting state
+abbrev pub firstNumber : Bool → ℕ → ℕ
+firstNumber resumes count = cond resumes (count + mostMachines) count
 
--- field 2: how many; for each its messages
+unfoldable pub machines : Bool → Machines → List ℕ
+machines resumes m =
+    number (firstNumber resumes (m .count)) ++ (entries (m .states) (m .count) 0 ++ entries (m .starts) (m .count) 0)
+
+-- field 2: how many; for each its messages; if the file resumes, for each how many messages wait in it, and these
+unfoldable pub content : List ℕ → List ℕ → ℕ → List ℕ
+content lengths table i = number (getD lengths i 0) ++ entries table (getD lengths i 0) (i * mostStarting)
+
+unfoldable pub contents : Queues → List ℕ
+contents q = each (content (q .lengths) (q .contents)) (q .count) 0
+
 unfoldable pub queues : Queues → List ℕ
-queues q = number (q .count) ++ entries (q .messages) (q .count) 0
+queues q = number (q .count) ++ (entries (q .messages) (q .count) 0 ++ cond (waits (q .lengths)) (contents q) [])
 
 -- field 3: how many; for each machine, from, to, kind; kinds 1 and 2 go on with queue, word length and the messages
 unfoldable pub action : List ℕ → ℕ → List ℕ
@@ -84,7 +97,7 @@ bad B =
 -- THE FILE: its fields in turn, and nothing after the last
 unfoldable pub spelled : Tables → List ℕ
 spelled T =
-    machines (T .machines)
+    machines (waits (T .queues .lengths)) (T .machines)
     ++ (queues (T .queues)
     ++ (transitions (T .transitions)
     ++ (pool (T .queues .sum) (T .pool) ++ (map (T .machines .product) (T .map) ++ bad (T .bad)))))

@@ -7,6 +7,7 @@ use session::reading::read_into;
 use tables::kinds::DiagramState;
 use tables::tables::BadList;
 use tables::tables::MOST_CONTROLS;
+use tables::tables::MOST_MACHINES;
 use tables::tables::Map;
 use tables::tables::POOL_ARCS;
 use tables::tables::Pool;
@@ -75,6 +76,9 @@ pub fn write_parts(
     ensures { λ r. ⌜ Writes (joined h (now (rows .entry)) (now (finals .entry)) (now (arcs .entry)) (now (roots .entry)) (now (entries .entry))) (now (buffer .entry)) r (now (buffer .exit)) ⌝ }
 {
     let machines = h.machines;
+    if MOST_MACHINES < machines.count {
+        return Written::NotReadable;
+    }
     if MOST_CONTROLS < machines.product {
         return Written::NotReadable;
     }

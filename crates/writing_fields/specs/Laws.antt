@@ -3,4 +3,5 @@ pub mod Texts
 pub mod Numbers
 pub mod Loops
 pub mod Kinds
+pub mod Waiting
 pub mod Arcs

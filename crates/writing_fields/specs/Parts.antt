@@ -7,8 +7,10 @@ use lib.ListN.{length, take, drop}
 use lib.Dec.{eqb, ltb}
 use Rattle.tables.specs.Limits.{mostMessages}
 use Rattle.tables.specs.Rows.{kindAt}
+use Rattle.tables.specs.Starting.{waits}
+use Rattle.tables.specs.declared.tables.Queues.{Queues}
 use Rattle.tables.specs.declared.tables.Tables.{Tables}
-use Rattle.spelling.specs.Spelled.{number, action, arcsOf, pool, map, bad}
+use Rattle.spelling.specs.Spelled.{number, contents, action, arcsOf, pool, map, bad}
 use Rattle.writing_fields.specs.declared.parts.Head.{Head}
 
 -- further than any text goes, and no sum with it passes what a place can hold
@@ -38,6 +40,10 @@ joined h rows finals arcs roots entries =
       map = record { roots = roots };
       bad = record { count = h .bad; rows = entries };
     }
+
+-- field 2 after the queues' messages: what waits, if the file resumes
+unfoldable pub waiting : Queues → List ℕ
+waiting q = cond (waits (q .lengths)) (contents q) []
 
 -- a transition from its kind on
 unfoldable pub kind : List ℕ → ℕ → List ℕ

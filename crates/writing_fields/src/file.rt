@@ -6,8 +6,9 @@ use crate::parts::Head;
 use crate::pool::put_pool;
 use crate::sets::put_bad;
 use crate::sets::put_map;
+use tables::starting::waits;
 ghost use Prim.Native.Nat.{_+_, _≤_};
-ghost use Rattle.tables.specs.Limits.{mostControls};
+ghost use Rattle.tables.specs.Limits.{mostMachines, mostControls};
 ghost use Rattle.numbers.specs.Put.{Put};
 ghost use Rattle.spelling.specs.Spelled.{spelled};
 ghost use Rattle.writing_fields.specs.Parts.{amplePlace, joined, diagrams};
@@ -41,11 +42,14 @@ pub fn put_tables(
     roots: &[u8],
     entries: &[u8],
 ) -> usize
+    requires { ⌜ h .machines .count ≤ mostMachines ⌝ }
     requires { ⌜ h .machines .product ≤ mostControls ⌝ }
     ensures { λ r. ⌜ Put (now (s .entry)) 0 amplePlace (spelled (joined h (now (rows .entry)) (now (finals .entry)) (now (arcs .entry)) (now (roots .entry)) (now (entries .entry)))) (now (s .exit)) r ⌝ }
 {
-    let queues = put_machines(s, 0, h.machines);
-    let transitions = put_queues(s, queues, h.queues);
-    let pool = put_transitions(s, transitions, h.transitions, rows);
-    put_diagrams(s, pool, h, finals, arcs, roots, entries)
+    let queues = h.queues;
+    let lengths = queues.lengths;
+    let second = put_machines(s, 0, waits(lengths), h.machines);
+    let third = put_queues(s, second, queues);
+    let fourth = put_transitions(s, third, h.transitions, rows);
+    put_diagrams(s, fourth, h, finals, arcs, roots, entries)
 }

@@ -6,3 +6,4 @@ mod number;
 pub mod parts;
 mod pool;
 mod sets;
+mod starting;

@@ -1,10 +1,12 @@
 // Fields 1 to 3, what moves, each put into a buffer from a place on.
 use crate::number::put_entries;
 use crate::number::put_number;
+use crate::starting::put_waiting;
 use numbers::number::entry;
 use tables::tables::FROM;
 use tables::tables::KIND;
 use tables::tables::LENGTH;
+use tables::tables::MOST_MACHINES;
 use tables::tables::Machines;
 use tables::tables::QUEUE;
 use tables::tables::Queues;
@@ -12,30 +14,46 @@ use tables::tables::ROW;
 use tables::tables::TO;
 use tables::tables::WORD;
 ghost use Prim.Native.Nat.{_+_, _*_, _≤_};
+ghost use mathlib.Core.Path.{_≡_};
+ghost use Rattle.tables.specs.Limits.{mostMachines};
 ghost use Rattle.numbers.specs.Put.{Put};
-ghost use Rattle.spelling.specs.Spelled.{machines, queues, action, transition, transitions};
+ghost use Rattle.spelling.specs.Spelled.{firstNumber, machines, queues, action, transition, transitions};
 ghost use Rattle.writing_fields.specs.Parts.{amplePlace, kind};
 
-pub(crate) fn put_machines(s: &mut [u8], at: usize, m: Machines) -> usize
+// How many machines there are, and whether the file resumes, in one number.
+fn first_of(resumes: bool, count: u8) -> u8
+    requires { ⌜ count ≤ mostMachines ⌝ }
+    ensures { λ r. ⌜ r ≡ firstNumber resumes count ⌝ }
+{
+    if resumes {
+        return count + MOST_MACHINES;
+    }
+    count
+}
+
+pub(crate) fn put_machines(s: &mut [u8], at: usize, resumes: bool, m: Machines) -> usize
     requires { ⌜ at + 1022 ≤ amplePlace ⌝ }
-    ensures { λ r. ⌜ Put (now (s .entry)) at 1022 (machines m) (now (s .exit)) r ⌝ }
+    requires { ⌜ m .count ≤ mostMachines ⌝ }
+    ensures { λ r. ⌜ Put (now (s .entry)) at 1022 (machines resumes m) (now (s .exit)) r ⌝ }
 {
     let count = m.count as usize;
     let states = m.states;
     let starts = m.starts;
-    let first = put_number(s, at, m.count);
+    let first = put_number(s, at, first_of(resumes, m.count));
     let second = put_entries(s, first, &states, 0, count);
     put_entries(s, second, &starts, 0, count)
 }
 
+// What waits in them stands after their messages.
 pub(crate) fn put_queues(s: &mut [u8], at: usize, q: Queues) -> usize
-    requires { ⌜ at + 512 ≤ amplePlace ⌝ }
-    ensures { λ r. ⌜ Put (now (s .entry)) at 512 (queues q) (now (s .exit)) r ⌝ }
+    requires { ⌜ at + 131072 ≤ amplePlace ⌝ }
+    ensures { λ r. ⌜ Put (now (s .entry)) at 131072 (queues q) (now (s .exit)) r ⌝ }
 {
     let count = q.count as usize;
     let messages = q.messages;
     let first = put_number(s, at, q.count);
-    put_entries(s, first, &messages, 0, count)
+    let second = put_entries(s, first, &messages, 0, count);
+    put_waiting(s, second, q)
 }
 
 // What a row with a queue goes on with: the queue, the word's length and its messages.

@@ -1,4 +1,4 @@
--- VALID TABLES SPELL A FILE of at most 11,664 bytes. One byte is counted for each number, but two for the number of transitions and for the
+-- VALID TABLES SPELL A FILE of at most 11,700 bytes. One byte is counted for each number, but two for the number of transitions and for the
 -- control state of a bad entry: no others pass 127.
 use Prim.Native.Nat.{ℕ, zero, suc, _+_, _-_, _*_, _/_, _%_, _≤_, _<_}
 use mathlib.Core.Path.{_≡_, refl, sym, subst}
@@ -11,7 +11,8 @@ use native.Mathlib.Nat.{mul-suc}
 use native.Mathlib.Omega.{arith}
 use Rattle.tables.specs.Limits.{mostMessages, mostControls}
 use Rattle.tables.specs.Rows.{rowLength, wordEntry, machineAt, fromAt, toAt, kindAt, queueAt, lengthAt}
-use Rattle.tables.specs.Valid.{MachinesValid, QueuesValid, ActionValid, RowValid, TransitionsValid, PoolValid, MapValid, BadValid}
+use Rattle.tables.specs.Starting.{waits}
+use Rattle.tables.specs.Valid.{MachinesValid, WordValid, QueuesValid, ActionValid, RowValid, TransitionsValid, PoolValid, MapValid, BadValid}
 use Rattle.tables.specs.declared.tables.Machines.{Machines}
 use Rattle.tables.specs.declared.tables.Queues.{Queues}
 use Rattle.tables.specs.declared.tables.Transitions.{Transitions}
@@ -21,7 +22,7 @@ use Rattle.tables.specs.declared.tables.BadList.{BadList}
 use Rattle.tables.specs.declared.tables.Tables.{Tables}
 use Rattle.reading_pool.specs.Laws.Arcs.{Ascends}
 use Rattle.session.specs.Valid.{Valid}
-use Rattle.spelling.specs.Spelled.{number, each, entries, machines, queues, action, transition, transitions}
+use Rattle.spelling.specs.Spelled.{number, each, entries, firstNumber, machines, content, contents, queues, action, transition, transitions}
 use Rattle.spelling.specs.Spelled.{arcsOf, arcs, state, pool, map, bad, spelled}
 use Rattle.spelling.specs.Readable.{Bytes}
 use Rattle.spelling.specs.Laws.Arcs.{ascends-few, pool-ascending}
@@ -85,36 +86,64 @@ pub fits-entries : (table : List ℕ) (left i : ℕ) → ((k : ℕ) → i ≤ k 
 fits-entries table left i f = fits-each (λ k. number (getD table k 0)) 1 left i (λ k h g. fits-one (getD table k 0) (f k h g))
 
 -- THE FIELDS
-fits-machines : {m : Machines} → MachinesValid m → Fits 9 (machines m)
+fits-first : (resumes : Bool) {m : Machines} → MachinesValid m → Fits 1 (number (firstNumber resumes (m .count)))
+fits-first true z = fits-one _ (omega (arith, z .most))
+fits-first false z = fits-one _ (omega (arith, z .most))
+
+fits-machines : (resumes : Bool) {m : Machines} → MachinesValid m → Fits 9 (machines resumes m)
 unfolding machines
-fits-machines {m} z =
-    fits-then (omega (arith, z .most)) (fits-one (m .count) (omega (arith, z .most)))
+fits-machines resumes {m} z =
+    fits-then (omega (arith, z .most)) (fits-first resumes z)
     (fits-then {room = 8} (omega (arith, z .most))
     (fits-entries (m .states) (m .count) 0 (λ k h g. omega (arith, z .states k (omega arith) .1)))
     (fits-entries (m .starts) (m .count) 0
     (λ k h g. omega (arith, z .states k (omega arith) .1, z .starts k (omega arith)))))
 
-fits-queues : {q : Queues} → QueuesValid q → Fits 5 (queues q)
-unfolding queues
-fits-queues {q} z =
-    fits-then (omega (arith, z .most)) (fits-one (q .count) (omega (arith, z .most)))
-    (fits-entries (q .messages) (q .count) 0 (λ k h g. omega (arith, z .messages k (omega arith) .1)))
+-- a word of messages
+fits-word : {q : Queues} → QueuesValid q → {room p first : ℕ} (len : ℕ) (table : List ℕ) → WordValid q room p len first table
+    → Fits (1 * len) (entries table len first)
+fits-word z {first = first} len table w = fits-entries table len first messages
+  where
+    messages : (k : ℕ) → first ≤ k → k < first + len → getD table k 0 < 128
+    messages k h g =
+        let e : first + (k - first) ≡ k = omega arith in
+        let l : getD table (first + (k - first)) 0 < 128 = omega (arith, w .below (k - first) (omega arith), z .sumMost) in
+        subst (λ i. getD table i 0 < 128) e l
+
+module _ {q : Queues} (z : QueuesValid q) where
+  fits-content : (i : ℕ) → i < q .count → Fits 9 (content (q .lengths) (q .contents) i)
+  unfolding content
+  fits-content i h =
+      let w = z .starting .words i h in
+      let len = getD (q .lengths) i 0 in
+      fits-then (omega (arith, w .most)) (fits-one len (omega (arith, w .most))) (fits-word z len (q .contents) w)
+
+  fits-contents : Fits 36 (contents q)
+  unfolding contents
+  fits-contents =
+      fits-wider (omega (arith, z .most))
+      (fits-each (content (q .lengths) (q .contents)) 9 (q .count) 0 (λ i h g. fits-content i (omega arith)))
+
+  fits-queues : Fits 41 (queues q)
+  unfolding queues
+  fits-queues =
+      fits-then {n = 40} (omega arith) (fits-one (q .count) (omega (arith, z .most)))
+      (fits-then {m = 4} (omega arith)
+      (fits-wider (omega (arith, z .most))
+      (fits-entries (q .messages) (q .count) 0 (λ k h g. omega (arith, z .messages k (omega arith) .1))))
+      (go (waits (q .lengths))))
+    where
+      go : (b : Bool) → Fits 36 (cond b (contents q) [])
+      go true = fits-contents
+      go false = fits-none 36
 
 module _ {m : Machines} {q : Queues} (vm : MachinesValid m) (vq : QueuesValid q) (rows : List ℕ) where
   fits-action : (row : ℕ) → ActionValid q (queueAt rows row) (lengthAt rows row) (wordEntry row) rows → Fits 18 (action rows row)
   unfolding action
   fits-action row z =
       fits-then {n = 17} (omega arith) (fits-one (queueAt rows row) (omega (arith, z .queue, vq .most)))
-      (fits-then (omega (arith, z .most)) (fits-one (lengthAt rows row) (omega (arith, z .most)))
-      (fits-entries rows (lengthAt rows row) (wordEntry row) word))
-    where
-      word : (k : ℕ) → wordEntry row ≤ k → k < wordEntry row + lengthAt rows row → getD rows k 0 < 128
-      word k h g =
-          let e : wordEntry row + (k - wordEntry row) ≡ k = omega arith in
-          let l : getD rows (wordEntry row + (k - wordEntry row)) 0 < 128 =
-          omega (arith, z .below (k - wordEntry row) (omega arith), vq .sumMost)
-          in
-          subst (λ i. getD rows i 0 < 128) e l
+      (fits-then (omega (arith, z .word .most)) (fits-one (lengthAt rows row) (omega (arith, z .word .most)))
+      (fits-word vq (lengthAt rows row) rows (z .word)))
 
   fits-transition : (row : ℕ) → RowValid m q rows row → Fits 22 (transition rows row)
   unfolding transition
@@ -178,10 +207,10 @@ fits-bad {B = B} h g z =
     (fits-one (getD (B .rows) (b * 2 + 1) 0) (omega (arith, z .root b (omega arith))))))
 
 -- THE FILE
-pub fits-spelled : (T : Tables) → Valid T → Fits 11664 (spelled T)
+pub fits-spelled : (T : Tables) → Valid T → Fits 11700 (spelled T)
 unfolding spelled
 fits-spelled T z =
-    fits-then {n = 11655} (omega arith) (fits-machines (z .machines))
+    fits-then {n = 11691} (omega arith) (fits-machines (waits (T .queues .lengths)) (z .machines))
     (fits-then {n = 11650} (omega arith) (fits-queues (z .queues))
     (fits-then {n = 8832} (omega arith) (fits-transitions (z .machines) (z .queues) (z .transitions))
     (fits-then {n = 449} (omega arith) (fits-pool (z .queues .sumMost) (z .pool))

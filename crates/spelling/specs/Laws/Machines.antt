@@ -1,10 +1,11 @@
 -- The machines that are read are the machines that stand there (field 1).
 use Prim.Native.Nat.{ℕ, zero, suc, _+_, _-_, _*_, _≤_, _<_}
 use mathlib.Core.Path.{_≡_, refl, sym, ap, ap₂, subst, _∙_}
+use mathlib.Core.Bool.{Bool, true, false, cond}
 use mathlib.Core.List.{List, _++_}
 use lib.ListN.{length, getD, replicate}
 use lib.Dec.{leb}
-use borrow.Author.Tests.{le-leb}
+use borrow.Author.Tests.{le-leb, lt-ltb, le-ltb, ltb-true}
 use native.Mathlib.Nat.{zero-add, mul-le-mul}
 use native.Mathlib.Numerals.{add-one}
 use native.Mathlib.Omega.{arith}
@@ -15,14 +16,33 @@ use Rattle.numbers.specs.Part.{got}
 use Rattle.numbers.specs.Number.{readWithin}
 use Rattle.numbers.specs.Laws.Parts.{andThen-got, same-value}
 use Rattle.numbers.specs.Laws.Ranges.{tested-got}
-use Rattle.reading_model.specs.Machines.{readFactor, readSizes, readStarts, countedMachines, readMachines}
+use Rattle.reading_model.specs.Machines.{readFactor, readSizes, readStarts, countedMachines, mostFirst, resumesBy, machinesBy, readMachines}
 use Rattle.reading_model.specs.Laws.Machines.{sizes-rounds, starts-rounds, machines-valid}
 use Rattle.spelling.specs.Readable.{Bytes}
-use Rattle.spelling.specs.Spelled.{number, entries, machines}
+use Rattle.spelling.specs.Spelled.{number, entries, firstNumber, machines}
 use Rattle.spelling.specs.Laws.Here.{Here, here-then, here-part}
 use Rattle.spelling.specs.Laws.Fronts.{begun-all, front-none, front-whole}
 use Rattle.spelling.specs.Laws.Numbers.{here-got, within-forth, within-back, below-forth, below-back}
 use Rattle.spelling.specs.Laws.Loops.{entries-forth, entries-back, table-forth, table-back}
+
+-- THE FIRST NUMBER says whether the file resumes, and how many machines there are
+first-by : (first : ℕ) → firstNumber (resumesBy first) (machinesBy first) ≡ first
+first-by first = go (resumesBy first) refl
+  where
+    go : (b : Bool) → resumesBy first ≡ b → firstNumber b (cond b (first - mostMachines) first) ≡ first
+    go true e = let h = ltb-true mostMachines first e in omega arith
+    go false e = refl
+
+record FirstSays (resumes : Bool) (count : ℕ) : Type 0 where
+  least : 1 ≤ firstNumber resumes count
+  most : firstNumber resumes count ≤ mostFirst
+  resumed : resumesBy (firstNumber resumes count) ≡ resumes
+  counted : cond resumes (firstNumber resumes count - mostMachines) (firstNumber resumes count) ≡ count
+
+first-says : (resumes : Bool) (count : ℕ) → 1 ≤ count → count ≤ mostMachines → FirstSays resumes count
+first-says true count l h =
+    record { least = omega arith; most = omega arith; resumed = lt-ltb mostMachines (count + mostMachines) (omega arith); counted = omega arith }
+first-says false count l h = record { least = l; most = omega arith; resumed = le-ltb mostMachines count h; counted = refl }
 
 product-next : (sizes : List ℕ) (i : ℕ) → productOf sizes (i + 1) ≡ productOf sizes i * getD sizes i 0
 unfolding productOf
@@ -75,12 +95,17 @@ module _ (s : List ℕ) (bytes : Bytes s) where
                 (starts-forth (sized .1) count p₁ (omega (arith, v .most, v .startsLong)) g)),
           )
 
-  pub machines-forth : (at : ℕ) {m : Machines} {next : ℕ} → readMachines s at ≡ got m next → Here s at (machines m) next
+  pub machines-forth : (at : ℕ) {x : Bool × Machines} {next : ℕ} → readMachines s at ≡ got x next → Here s at (machines (x .0) (x .1)) next
   unfolding readMachines machines
-  machines-forth at e =
-      let t = andThen-got (readWithin s at 1 mostMachines) e in
-      let c = counted-forth (t .place) (t .value) (machines-valid s at e) (t .then) in
-      here-then (subst (λ n. Here s at (number n) (t .place)) (c .0) (within-forth s bytes at 1 mostMachines (t .first))) (c .1)
+  machines-forth at {x} e =
+      let t = andThen-got (readWithin s at 1 mostFirst) e in
+      let m = andThen-got (countedMachines s (t .place) (machinesBy (t .value))) (t .then) in
+      let valid = subst (λ y. MachinesValid (y .1)) (sym (same-value (m .then))) (machines-valid s at e) in
+      let c = counted-forth (t .place) (machinesBy (t .value)) valid (m .first) in
+      let first : t .value ≡ firstNumber (resumesBy (t .value)) (m .value .count) =
+      sym (first-by (t .value)) ∙ ap (firstNumber (resumesBy (t .value))) (c .0) in
+      here-got (λ y. machines (y .0) (y .1)) (m .then)
+      (here-then (subst (λ n. Here s at (number n) (t .place)) first (within-forth s bytes at 1 mostFirst (t .first))) (c .1))
 
 module _ (s : List ℕ) where
   factor-back : (at product v : ℕ) {next : ℕ} → 1 ≤ v → v ≤ mostStates → product * v ≤ mostControls → Here s at (number v) next
@@ -130,13 +155,17 @@ module _ (s : List ℕ) where
         (valid .startsRest) (λ i a z p g.
         below-back s a (getD (m .states) i 0) (getD (m .starts) i 0) (valid .starts i g) (omega (arith, valid .states i g .1)))
 
-  pub machines-back : (at : ℕ) (m : Machines) {next : ℕ} → MachinesValid m → Here s at (machines m) next → readMachines s at ≡ got m next
+  pub machines-back : (at : ℕ) (resumes : Bool) (m : Machines) {next : ℕ} → MachinesValid m → Here s at (machines resumes m) next
+      → readMachines s at ≡ got (resumes, m) next
   unfolding readMachines countedMachines machines
-  machines-back at m valid h =
-      let p = here-part (number (m .count)) h in
+  machines-back at resumes m valid h =
+      let p = here-part (number (firstNumber resumes (m .count))) h in
       let q = here-part (entries (m .states) (m .count) 0) (p .second) in
+      let f = first-says resumes (m .count) (valid .least) (valid .most) in
       rw (
-        within-back s at 1 mostMachines (m .count) (valid .least) (valid .most) (omega arith) (p .first),
+        within-back s at 1 mostFirst (firstNumber resumes (m .count)) (f .least) (f .most) (omega arith) (p .first),
+        f .resumed,
+        f .counted,
         sizes-back m valid (p .middle) (q .first),
         starts-back m valid (q .middle) (q .second),
       )

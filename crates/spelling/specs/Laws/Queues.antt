@@ -1,7 +1,7 @@
--- The queues that are read are the queues that stand there (field 2).
+-- The queues that are read are the queues that stand there (field 2), without what waits in them at the start.
 use Prim.Native.Nat.{ℕ, _+_, _≤_, _<_}
 use mathlib.Core.Path.{_≡_, refl, sym, ap, ap₂, subst, _∙_}
-use mathlib.Core.List.{List}
+use mathlib.Core.List.{List, _++_}
 use lib.ListN.{length, getD, replicate}
 use lib.Dec.{leb}
 use borrow.Author.Tests.{le-leb}
@@ -10,6 +10,7 @@ use native.Mathlib.Numerals.{add-one}
 use native.Mathlib.Omega.{arith}
 use Rattle.tables.specs.Limits.{mostQueues, mostMessages}
 use Rattle.tables.specs.Queues.{firstMessage}
+use Rattle.tables.specs.Starting.{startingLength}
 use Rattle.tables.specs.Valid.{QueuesValid}
 use Rattle.tables.specs.Laws.Queues.{first-ascends, first-step}
 use Rattle.tables.specs.declared.tables.Queues.{Queues}
@@ -17,10 +18,10 @@ use Rattle.numbers.specs.Part.{got}
 use Rattle.numbers.specs.Number.{readWithin}
 use Rattle.numbers.specs.Laws.Parts.{andThen-got, same-value}
 use Rattle.numbers.specs.Laws.Ranges.{tested-got}
-use Rattle.reading_model.specs.Queues.{readTerm, readCounts, readQueues}
-use Rattle.reading_model.specs.Laws.Queues.{counts-rounds, queues-valid}
+use Rattle.reading_model.specs.Queues.{readTerm, readCounts, countedQueues, startingWith}
+use Rattle.reading_model.specs.Laws.Queues.{counts-rounds, counted-valid}
 use Rattle.spelling.specs.Readable.{Bytes}
-use Rattle.spelling.specs.Spelled.{number, entries, queues}
+use Rattle.spelling.specs.Spelled.{number, entries}
 use Rattle.spelling.specs.Laws.Here.{Here, here-then, here-part}
 use Rattle.spelling.specs.Laws.Fronts.{begun-all, front-none, front-whole}
 use Rattle.spelling.specs.Laws.Numbers.{here-got, within-forth, within-back}
@@ -39,17 +40,26 @@ module _ (s : List ℕ) (bytes : Bytes s) where
       entries-forth s (counts-rounds s) (λ z. z .1) (λ i v z. refl) count (x .1) long (λ i a z. term-forth a (z .0)) count 0 at
       (0, replicate mostQueues 0) (zero-add count) e (begun-all (x .1) count) .1
 
-  pub queues-forth : (at : ℕ) {q : Queues} {next : ℕ} → readQueues s at ≡ got q next → Here s at (queues q) next
-  unfolding readQueues queues
-  queues-forth at e =
+  pub counted-forth : (at : ℕ) {q : Queues} {next : ℕ} → countedQueues s at ≡ got q next
+      → Here s at (number (q .count) ++ entries (q .messages) (q .count) 0) next
+  unfolding countedQueues
+  counted-forth at e =
       let t = andThen-got (readWithin s at 1 mostQueues) e in
       let a = andThen-got (readCounts s (t .place) 0 (t .value) 0 (replicate mostQueues 0)) (t .then) in
-      let v = subst QueuesValid (sym (same-value (a .then))) (queues-valid s at e) in
-      here-got queues (a .then)
+      let v = subst QueuesValid (sym (same-value (a .then))) (counted-valid s at e) in
+      here-got (λ z. number (z .count) ++ entries (z .messages) (z .count) 0) (a .then)
       (here-then (within-forth s bytes at 1 mostQueues (t .first))
       (counts-forth (t .value) (t .place) (omega (arith, v .most, v .long)) (a .first)))
 
 module _ (s : List ℕ) where
+  -- nothing waits in them
+  pub counted-empty : (at : ℕ) {q : Queues} {next : ℕ} → countedQueues s at ≡ got q next → q .lengths ≡ replicate mostQueues 0
+  unfolding countedQueues
+  counted-empty at e =
+      let t = andThen-got (readWithin s at 1 mostQueues) e in
+      let a = andThen-got (readCounts s (t .place) 0 (t .value) 0 (replicate mostQueues 0)) (t .then) in
+      sym (ap (λ z. z .lengths) (same-value (a .then)))
+
   term-back : (at sum v : ℕ) {next : ℕ} → 1 ≤ v → v ≤ mostMessages → sum + v ≤ mostMessages → Here s at (number v) next
       → readTerm s at sum ≡ got v next
   unfolding readTerm
@@ -79,9 +89,11 @@ module _ (s : List ℕ) where
             let most = first-ascends (q .messages) (i + 1) (q .count) (omega arith) in
             (term-back a (z .0) (getD (q .messages) i 0) (v .0) (v .1) (omega (arith, n, most, valid .sum, valid .sumMost)) f, n)
 
-  pub queues-back : (at : ℕ) (q : Queues) {next : ℕ} → QueuesValid q → Here s at (queues q) next → readQueues s at ≡ got q next
-  unfolding readQueues queues
-  queues-back at q valid h =
+  pub counted-back : (at : ℕ) (q : Queues) {next : ℕ} → QueuesValid q
+      → Here s at (number (q .count) ++ entries (q .messages) (q .count) 0) next
+      → countedQueues s at ≡ got (startingWith q (replicate mostQueues 0, replicate startingLength 0)) next
+  unfolding countedQueues
+  counted-back at q valid h =
       let p = here-part (number (q .count)) h in
       rw (
         within-back s at 1 mostQueues (q .count) (valid .least) (valid .most) (omega arith) (p .first),

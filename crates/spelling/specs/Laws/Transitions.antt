@@ -4,34 +4,36 @@ use mathlib.Core.Path.{_≡_, refl, sym, ap, subst, _∙_}
 use mathlib.Core.Bool.{Bool, true, false, cond}
 use mathlib.Core.List.{List, [], _++_}
 use lib.ListN.{length, getD, set, replicate, length-set, length-replicate}
-use lib.Dec.{ltb, leb, eqb}
-use borrow.Author.Tests.{lt-ltb, le-leb, eqb-true, ltb-true}
+use lib.Dec.{ltb, eqb}
+use borrow.Author.Tests.{eqb-true, ltb-true}
 use native.Mathlib.Nat.{zero-add, add-zero}
 use native.Mathlib.Omega.{arith}
 use Rattle.tables.specs.Limits.{mostTransitions, mostWord}
 use Rattle.tables.specs.Rows.{rowLength, rowsLength, fromEntry, toEntry, kindEntry, queueEntry, lengthEntry, wordEntry}
 use Rattle.tables.specs.Rows.{machineAt, fromAt, toAt, kindAt, queueAt, lengthAt}
-use Rattle.tables.specs.Queues.{firstMessage, OfQueue}
+use Rattle.tables.specs.Queues.{firstMessage}
 use Rattle.tables.specs.Valid.{MachinesValid, QueuesValid, RowValid, TransitionsValid}
-use Rattle.tables.specs.Laws.Queues.{of-queue-below-sum}
 use Rattle.tables.specs.declared.tables.Machines.{Machines}
 use Rattle.tables.specs.declared.tables.Queues.{Queues}
 use Rattle.tables.specs.declared.tables.Transitions.{Transitions}
 use Rattle.numbers.specs.Part.{Part, got, andThen}
 use Rattle.numbers.specs.Number.{readWithin, readBelow, readTwo}
-use Rattle.numbers.specs.Laws.Parts.{provided-got, andThen-got, same-value, same-place}
+use Rattle.numbers.specs.Laws.Parts.{andThen-got, same-value, same-place}
 use Rattle.numbers.specs.Laws.Ranges.{within-range}
 use Rattle.numbers.specs.Laws.Rounds.{rounds-keep}
 use Rattle.numbers.specs.Laws.Written.{at-or-other}
-use Rattle.reading_model.specs.Transitions.{readMessage, readWord, readAction, readTransition, readRows, readTransitions}
-use Rattle.reading_model.specs.Laws.Transitions.{moved, word-rounds, rows-rounds}
+use Rattle.reading_model.specs.Words.{readWord}
+use Rattle.reading_model.specs.Transitions.{readAction, readTransition, readRows, readTransitions}
+use Rattle.reading_model.specs.Laws.Words.{word-rounds}
+use Rattle.reading_model.specs.Laws.Transitions.{moved, rows-rounds}
 use Rattle.spelling.specs.Readable.{Bytes}
 use Rattle.spelling.specs.Spelled.{number, each, entries, action, transition, transitions}
 use Rattle.spelling.specs.Laws.Here.{Here, here-none, here-then, here-part}
 use Rattle.spelling.specs.Laws.Fronts.{Begun, begun-all, begun-less, begun-before}
 use Rattle.spelling.specs.Laws.Fronts.{Front, front-none, front-set, front-zeros, front-whole}
 use Rattle.spelling.specs.Laws.Numbers.{here-got, within-forth, within-back, below-forth, below-back, two-forth, two-back}
-use Rattle.spelling.specs.Laws.Loops.{Round, entries-forth, entries-back, loop-forth, loop-back}
+use Rattle.spelling.specs.Laws.Loops.{Round, loop-forth, loop-back}
+use Rattle.spelling.specs.Laws.Words.{word-forth, Word, word-of, word-rest, word-back}
 
 moved-long : (rows : List ℕ) (row a b c d : ℕ) → length (moved rows row a b c d) ≡ length rows
 moved-long rows row a b c d =
@@ -82,14 +84,6 @@ here-two : {s u : List ℕ} {at a b v w p next : ℕ} → v ≡ a → w ≡ b �
 here-two {a = a} d e h g =
     let r = here-part (number a) h in here-then (here-number d (r .first)) (here-then (here-number e (r .second)) g)
 
-message-forth : (s : List ℕ) → Bytes s → (at sum lo hi v next : ℕ) → readMessage s at sum lo hi ≡ got v next → Here s at (number v) next
-unfolding readMessage
-message-forth s bytes at sum lo hi v next e =
-    let t = andThen-got (readBelow s at sum) e in
-    let g = provided-got (leb lo (t .value)) 7 at _ (t .then) in
-    let h = provided-got (ltb (t .value) hi) 7 at (got (t .value) (t .place)) (g .1) in
-    below-forth s bytes at sum (t .first ∙ h .1)
-
 -- A row from its end back, as the last table has it.
 module _ (s : List ℕ) (bytes : Bytes s) (last : List ℕ) (row : ℕ) (long : row + rowLength ≤ length last) where
   -- entry k of a row was set: `kindEntry 0` is the kind's
@@ -116,8 +110,7 @@ module _ (s : List ℕ) (bytes : Bytes s) (last : List ℕ) (row : ℕ) (long : 
           let lo = firstMessage (q .messages) queue in
           let hi = firstMessage (q .messages) (suc queue) in
           let c =
-          entries-forth s (word-rounds s (q .sum) lo hi) (λ z. z) (λ i v z. refl) (wordEntry row + len) last (omega arith)
-          (λ i a z. message-forth s bytes a (q .sum) lo hi) len (wordEntry row) p₂ _ refl w
+          word-forth s bytes (q .sum) lo hi last len (wordEntry row) (omega arith) p₂ _ w
           (begun-less (wordEntry row + len) (omega arith) b)
           in
           let c₅ = entry-forth (lengthEntry 0) len refl (c .0) in
@@ -193,11 +186,6 @@ module _ (s : List ℕ) (bytes : Bytes s) (m : Machines) (q : Queues) where
       (here-then (within-forth s bytes at 0 mostTransitions (t .first))
       (rows-forth (t .value) (t .place) (within-range s at 0 mostTransitions (t .first) .1) (a .first)))
 
-message-back : (s : List ℕ) (at sum lo hi v : ℕ) {next : ℕ} → v < sum → sum ≤ 16384 → lo ≤ v → v < hi → Here s at (number v) next
-    → readMessage s at sum lo hi ≡ got v next
-unfolding readMessage
-message-back s at sum lo hi v a b c d h = rw (below-back s at sum v a b h, le-leb lo v c, lt-ltb v hi d)
-
 -- A row forwards, as the last table has it.
 module _ (s : List ℕ) (m : Machines) (q : Queues) (sizes : MachinesValid m) (counts : QueuesValid q) (last : List ℕ) (row : ℕ)
     (long : row + rowLength ≤ length last) (valid : RowValid m q last row) where
@@ -210,37 +198,9 @@ module _ (s : List ℕ) (m : Machines) (q : Queues) (sizes : MachinesValid m) (c
       → Front last (row + suc k) (set t (row + k) (getD last (row + k) 0))
   entry-back k l = let h = ltb-true k rowLength l in front-set (row + k) (omega arith) (omega arith)
 
-  -- the entries of a row after its word
-  word-rest : (k : ℕ) → wordEntry row + lengthAt last row ≤ k → k < row + rowLength → getD last k 0 ≡ 0
-  word-rest k l h =
-      subst (λ j. getD last j 0 ≡ 0) (omega arith) (valid .action .rest (k - wordEntry row) (omega arith) (omega arith))
-
-  -- the messages of its queue
-  abbrev lo : ℕ
-  lo = firstMessage (q .messages) (queueAt last row)
-
-  abbrev hi : ℕ
-  hi = firstMessage (q .messages) (suc (queueAt last row))
-
-  word-message : (i at : ℕ) {next : ℕ} → wordEntry row ≤ i → i < wordEntry row + lengthAt last row → Here s at (number (getD last i 0)) next
-      → readMessage s at (q .sum) lo hi ≡ got (getD last i 0) next
-  word-message i at l h =
-      let same : wordEntry row + (i - wordEntry row) ≡ i = omega arith in
-      let o = subst (λ k. OfQueue q (queueAt last row) (getD last k 0)) same (valid .action .word (i - wordEntry row) (omega arith)) in
-      let b = of-queue-below-sum q (queueAt last row) (getD last i 0) counts o in
-      message-back s at (q .sum) lo hi (getD last i 0) b (omega (arith, counts .sumMost)) (o .from) (o .below)
-
-  word-back : (at : ℕ) (rows : List ℕ) {next : ℕ} → Front last (wordEntry row) rows
-      → Here s at (entries last (lengthAt last row) (wordEntry row)) next
-      → Reads (readWord s at (q .sum) lo hi (lengthAt last row) (wordEntry row) rows) next
-  word-back at rows f h =
-      let few = valid .action .most in
-      let w =
-      entries-back s (word-rounds s (q .sum) lo hi) (λ z. z) (λ i v z. refl) (wordEntry row + lengthAt last row) last (omega arith)
-      (λ i z. wordEntry row ≤ i) (λ i a z p l g e. (word-message i a g l e, omega arith)) (lengthAt last row) (wordEntry row) at rows refl f
-      (omega arith) h
-      in
-      (w .last, w .reads, front-zeros {t = w .last} (row + rowLength) (omega arith) word-rest (w .holds .0))
+  its-word : Word last (q .sum) (firstMessage (q .messages) (queueAt last row)) (firstMessage (q .messages) (suc (queueAt last row))) mostWord
+      (lengthAt last row) (wordEntry row)
+  its-word = word-of q (lengthAt last row) last (valid .action .word)
 
   action-back : (at : ℕ) (rows : List ℕ) {next : ℕ} → Front last (queueEntry row) rows → Here s at (action last row) next
       → Reads (readAction s at q row rows) next
@@ -249,11 +209,14 @@ module _ (s : List ℕ) (m : Machines) (q : Queues) (sizes : MachinesValid m) (c
       let p = here-part (number (queueAt last row)) h in
       let r = here-part (number (lengthAt last row)) (p .second) in
       let g = entry-back (lengthEntry 0) refl (entry-back (queueEntry 0) refl f) in
-      let w = word-back (r .middle) _ g (r .second) in (
+      let few : q .sum ≤ 16384 = omega (arith, counts .sumMost) in
+      let w =
+      word-back s last few (lengthAt last row) (wordEntry row) (omega arith) its-word (row + rowLength) (r .middle) _ (omega arith) g
+      (r .second) in (
         w .0,
         rw (
           below-back s at (q .count) (queueAt last row) (valid .action .queue) (omega (arith, counts .most)) (p .first),
-          within-back s (p .middle) 0 mostWord (lengthAt last row) (omega arith) (valid .action .most) (omega arith) (r .first),
+          within-back s (p .middle) 0 mostWord (lengthAt last row) (omega arith) (valid .action .word .most) (omega arith) (r .first),
         ) (w .1),
         w .2,
       )
@@ -265,7 +228,7 @@ module _ (s : List ℕ) (m : Machines) (q : Queues) (sizes : MachinesValid m) (c
       λ k.
       at-or-other (λ j. queueEntry row ≤ j → j < row + rowLength → getD last j 0 ≡ 0) (queueEntry row) k (λ _ _. z .0)
       (λ d. at-or-other (λ j. queueEntry row ≤ j → j < row + rowLength → getD last j 0 ≡ 0) (lengthEntry row) k (λ _ _. z .1)
-      (λ d′ l h. word-rest k (omega (arith, z .1)) h))
+      (λ d′ l h. word-rest its-word k (omega (arith, z .1)) (omega arith)))
 
   kinds-back : (b : Bool) (at : ℕ) (rows : List ℕ) {next : ℕ} → eqb (kindAt last row) 0 ≡ b → Front last (queueEntry row) rows
       → Here s at (cond b [] (action last row)) next → Reads (cond b (got rows at) (readAction s at q row rows)) next

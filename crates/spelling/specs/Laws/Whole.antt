@@ -8,6 +8,7 @@ use lib.ListN.{length}
 use native.Mathlib.Omega.{arith}
 use Rattle.numbers.specs.Limits.{mostBytes}
 use Rattle.numbers.specs.Part.{got}
+use Rattle.tables.specs.Starting.{waits}
 use Rattle.tables.specs.declared.tables.Tables.{Tables}
 use Rattle.queue_order.specs.Laws.Order.{ordered-is}
 use Rattle.session.specs.File.{readFile, modelTables, setTables}
@@ -17,14 +18,14 @@ use Rattle.session.specs.Laws.Valid.{FieldsValid, fields-valid, valid}
 use Rattle.spelling.specs.Spelled.{machines, queues, transitions, pool, map, bad, spelled}
 use Rattle.spelling.specs.Readable.{Bytes, Readable}
 use Rattle.spelling.specs.Laws.Here.{Here, here-then, here-part, whole-here, here-whole}
-use Rattle.spelling.specs.Laws.Model.{model-forth, model-back}
+use Rattle.spelling.specs.Laws.Model.{modelText, model-forth, model-back}
 use Rattle.spelling.specs.Laws.Pool.{pool-forth, pool-back}
 use Rattle.spelling.specs.Laws.Sets.{sets-forth, sets-back}
 use Rattle.spelling.specs.Laws.Fits.{fits-spelled}
 
 -- the three parts that are read one after the other
 abbrev modelBytes : Tables → List ℕ
-modelBytes T = machines (T .machines) ++ (queues (T .queues) ++ transitions (T .transitions))
+modelBytes T = modelText (modelTables T)
 
 abbrev setsBytes : Tables → List ℕ
 setsBytes T = map (T .machines .product) (T .map) ++ bad (T .bad)
@@ -32,7 +33,7 @@ setsBytes T = map (T .machines .product) (T .map) ++ bad (T .bad)
 spelled-parts : (T : Tables) → spelled T ≡ modelBytes T ++ (pool (T .queues .sum) (T .pool) ++ setsBytes T)
 unfolding spelled
 spelled-parts T =
-    let m = machines (T .machines) in
+    let m = machines (waits (T .queues .lengths)) (T .machines) in
     let q = queues (T .queues) in
     let rest = pool (T .queues .sum) (T .pool) ++ setsBytes T in
     ap (λ l. m ++ l) (sym (append-assoc q (transitions (T .transitions)) rest))
@@ -105,9 +106,9 @@ readable-exactly T = (
   λ v. record { file = spelled T; bytes = fits-spelled T v .bytes; end = length (spelled T); read = written-then-read T v },
 )
 
--- No file that is read has more than 11,664 bytes.
-pub read-short : (s : List ℕ) → Bytes s → {T : Tables} {next : ℕ} → readFile s ≡ got T next → length s ≤ 11664
-read-short s b {T} e = subst (λ u. length u ≤ 11664) (sym (read-then-written s b e)) (fits-spelled T (valid s e) .short)
+-- No file that is read has more than 11,700 bytes.
+pub read-short : (s : List ℕ) → Bytes s → {T : Tables} {next : ℕ} → readFile s ≡ got T next → length s ≤ 11700
+read-short s b {T} e = subst (λ u. length u ≤ 11700) (sym (read-then-written s b e)) (fits-spelled T (valid s e) .short)
 
 -- Two files with the same tables are the same bytes.
 pub same-tables-same-bytes : (s u : List ℕ) → Bytes s → Bytes u → {T : Tables} {p q : ℕ} → readFile s ≡ got T p → readFile u ≡ got T q → s ≡ u

@@ -9,6 +9,7 @@ use lib.Dec.{leb}
 use borrow.Author.Tests.{le-leb}
 use native.Mathlib.Omega.{arith}
 use Rattle.numbers.specs.Part.{got}
+use Rattle.tables.specs.Valid.{StartingValid}
 use Rattle.tables.specs.declared.tables.Tables.{Tables}
 use Rattle.session.specs.File.{readFile}
 use Rattle.spelling.specs.Spelled.{spelled}
@@ -53,3 +54,8 @@ written-read T buffer {exit = exit} {n} w e =
     ∙ take-append-seam (spelled T) (drop n buffer)
     in
     ap readFile front ∙ written-then-read T (readable-exactly T .0 (restored-exactly T .0 again)) ∙ ap (got T) long
+
+-- 16 FOR STARTING CONTENTS THAT NO FILE HAS
+pub starting-refused : (T : Tables) (buffer : List ℕ) {r : Written} {exit : List ℕ} → Writes T buffer r exit → (StartingValid (T .queues) → ⊥)
+    → saidWritten r ≡ refusal 16 0
+starting-refused T buffer w h = w .unread .1 (λ x. h (readable-exactly T .0 x .queues .starting))

@@ -11,7 +11,7 @@ use Rattle.numbers.specs.Limits.{mostBytes}
 use Rattle.numbers.specs.Part.{Part, got, refused, provided}
 use Rattle.numbers.specs.Put.{Put}
 use Rattle.numbers.specs.Laws.Put.{put-front}
-use Rattle.tables.specs.Limits.{mostControls}
+use Rattle.tables.specs.Limits.{mostMachines, mostControls}
 use Rattle.tables.specs.declared.tables.Tables.{Tables}
 use Rattle.model.specs.Laws.Basics.{byTest, false-not-true}
 use Rattle.session.specs.Said.{read, refusal, saidAnswer}
@@ -45,6 +45,10 @@ restored-read T e = gives-got (readFile (spelled T)) T e
 module _ (T : Tables) where
   not-restored : (restored T ≡ true → ⊥) → restored T ≡ false
   not-restored h = byTest (restored T) (λ e. absurd (h e)) (λ e. e)
+
+  -- more machines than a file has
+  pub unread-machines : mostMachines < T .machines .count → restored T ≡ false
+  unread-machines h = not-restored (λ e. absurd (omega (arith, valid (spelled T) (restored-read T e .1) .machines .most)))
 
   -- a product that passes its limit
   pub unread-product : mostControls < T .machines .product → restored T ≡ false

@@ -5,15 +5,19 @@ use Rattle.writing.proofs.write.write_parts.Reads as reads
 use Rattle.writing.proofs.write.write_parts.Lts as lts
 use native.Mathlib.Omega.{arith}
 use borrow.Author.Tests.{not-true, not-false}
-use Rattle.writing.specs.Laws.Writing.{fronted, unread-product, unread-long, restored-by}
+use Rattle.writing.specs.Laws.Writing.{fronted, unread-machines, unread-product, unread-long, restored-by}
 use Rattle.writing.specs.Laws.Promises.{writes-unread, writes-short, writes-whole}
 use Rattle.numbers.proofs.put.put_word.Reads as put-word-reads
 use Rattle.writing.proofs.write.gives.Reads as gives-reads
 use Rattle.writing_fields.proofs.file.put_tables.Reads as put-tables-reads
 
--- src/write.rt:75:9
+-- src/write.rt:77:9
 returns : tie.Need-returns
-returns c = writes-unread _ _ (unread-product _ (c .if1 .taken))
+returns c = writes-unread _ _ (unread-machines _ (c .if1 .taken))
+
+-- src/write.rt:80:9
+returns-2 : tie.Need-returns-2
+returns-2 c = writes-unread _ _ (unread-product _ (c .if2 .taken))
 
 -- src/write.rt:78:24
 slice-aggregate-put-tables : tie.Need-slice-aggregate-put-tables
@@ -24,8 +28,8 @@ put-tables-requires : tie.Need-put-tables-requires
 put-tables-requires c κs = search needs
 
 -- src/write.rt:80:9
-returns-2 : tie.Need-returns-2
-returns-2 c = writes-unread _ _ (unread-long _ (omega (arith, c .before .before .put-tables .ensures .next, c .if2 .taken)))
+returns-3 : tie.Need-returns-3
+returns-3 c = writes-unread _ _ (unread-long _ (omega (arith, c .before .before .put-tables .ensures .next, c .if3 .taken)))
 
 -- src/write.rt:82:15
 array-share-prefix-bytes : tie.Need-array-share-prefix-bytes
@@ -33,19 +37,19 @@ array-share-prefix-bytes c = search needs
 
 -- src/write.rt:82:15
 slice-aggregate-gives : tie.Need-slice-aggregate-gives
-slice-aggregate-gives c = (fronted _ (c .before .before .before .put-tables .ensures) (c .before .if2 .left)) .long
+slice-aggregate-gives c = (fronted _ (c .before .before .before .put-tables .ensures) (c .before .if3 .left)) .long
 
 -- src/write.rt:82:9
 gives-requires : tie.Need-gives-requires
 gives-requires c κs = search needs
 
 -- src/write.rt:83:9
-returns-3 : tie.Need-returns-3
-returns-3 c = writes-unread _ _ (restored-by _ (fronted _ (c .before .before .before .before .before .put-tables .ensures) (c .before .before .before .if2 .left)) (c .before .gives .ensures) (not-true _ (c .if3 .taken)))
+returns-4 : tie.Need-returns-4
+returns-4 c = writes-unread _ _ (restored-by _ (fronted _ (c .before .before .before .before .before .put-tables .ensures) (c .before .before .before .if3 .left)) (c .before .gives .ensures) (not-true _ (c .if4 .taken)))
 
 -- src/write.rt:86:9
-returns-4 : tie.Need-returns-4
-returns-4 c = writes-short _ _ (fronted _ (c .before .before .before .before .before .before .put-tables .ensures) (c .before .before .before .before .if2 .left)) (restored-by _ (fronted _ (c .before .before .before .before .before .before .put-tables .ensures) (c .before .before .before .before .if2 .left)) (c .before .before .gives .ensures) (not-false _ (c .before .if3 .left))) (c .if4 .taken)
+returns-5 : tie.Need-returns-5
+returns-5 c = writes-short _ _ (fronted _ (c .before .before .before .before .before .before .put-tables .ensures) (c .before .before .before .before .if3 .left)) (restored-by _ (fronted _ (c .before .before .before .before .before .before .put-tables .ensures) (c .before .before .before .before .if3 .left)) (c .before .before .gives .ensures) (not-false _ (c .before .if4 .left))) (c .if5 .taken)
 
 -- src/write.rt:88:41
 array-share-prefix-bytes-2 : tie.Need-array-share-prefix-bytes-2
@@ -53,35 +57,36 @@ array-share-prefix-bytes-2 c = search needs
 
 -- src/write.rt:88:41
 slice-aggregate-put-word : tie.Need-slice-aggregate-put-word
-slice-aggregate-put-word c = (fronted _ (c .before .before .before .before .before .before .before .before .put-tables .ensures) (c .before .before .before .before .before .before .if2 .left)) .long
+slice-aggregate-put-word c = (fronted _ (c .before .before .before .before .before .before .before .before .put-tables .ensures) (c .before .before .before .before .before .before .if3 .left)) .long
 
 -- src/write.rt:88:21
 put-word-requires : tie.Need-put-word-requires
-put-word-requires c κs = omega (arith, (fronted _ (c .before .before .before .before .before .before .before .before .put-tables .ensures) (c .before .before .before .before .before .before .if2 .left)) .long, c .before .before .if4 .left)
+put-word-requires c κs = omega (arith, (fronted _ (c .before .before .before .before .before .before .before .before .put-tables .ensures) (c .before .before .before .before .before .before .if3 .left)) .long, c .before .before .if5 .left)
 
 -- src/write.rt:62:1
 same-length : tie.Need-same-length
 same-length c = search needs
 
 -- src/write.rt:62:1
-returns-5 : tie.Need-returns-5
-returns-5 c = writes-whole _ _ (fronted _ (c .before .before .before .before .before .before .before .before .before .before .before .put-tables .ensures) (c .before .before .before .before .before .before .before .before .before .if2 .left)) (restored-by _ (fronted _ (c .before .before .before .before .before .before .before .before .before .before .before .put-tables .ensures) (c .before .before .before .before .before .before .before .before .before .if2 .left)) (c .before .before .before .before .before .before .before .gives .ensures) (not-false _ (c .before .before .before .before .before .before .if3 .left))) (c .before .before .before .before .before .if4 .left) (c .before .before .put-word .ensures)
+returns-6 : tie.Need-returns-6
+returns-6 c = writes-whole _ _ (fronted _ (c .before .before .before .before .before .before .before .before .before .before .before .put-tables .ensures) (c .before .before .before .before .before .before .before .before .before .if3 .left)) (restored-by _ (fronted _ (c .before .before .before .before .before .before .before .before .before .before .before .put-tables .ensures) (c .before .before .before .before .before .before .before .before .before .if3 .left)) (c .before .before .before .before .before .before .before .gives .ensures) (not-false _ (c .before .before .before .before .before .before .if4 .left))) (c .before .before .before .before .before .if5 .left) (c .before .before .put-word .ensures)
 
 pub write-parts-spec : {M : Type 1} → statement M
 write-parts-spec =
     tie.close
     (tie.spec
     returns
+    returns-2
     slice-aggregate-put-tables
     put-tables-requires
-    returns-2
+    returns-3
     array-share-prefix-bytes
     slice-aggregate-gives
     gives-requires
-    returns-3
     returns-4
+    returns-5
     array-share-prefix-bytes-2
     slice-aggregate-put-word
     put-word-requires
     same-length
-    returns-5)
+    returns-6)
