@@ -24,9 +24,9 @@ use Rattle.expression.specs.Expression.{expression}
 use Rattle.telling_drawn.specs.Drawn.{toldDrawn, poolLeast, poolAfter}
 
 -- THE NUMBER OF THE LAYOUT: a layout of tables that differs in any entry, or another reply, has another. 1 had words of four messages, 2 replies of three
--- numbers
+-- numbers, 3 no starting contents
 abbrev pub layout : ℕ
-layout = 3
+layout = 4
 
 -- is there space for a reply?
 abbrev pub replyFits : List ℕ → Bool

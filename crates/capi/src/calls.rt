@@ -31,7 +31,7 @@ ghost use mathlib.Core.Path.{_≡_};
 ghost use Rattle.capi.specs.Calls.{layout, ReadCall, WriteCall, MemberCall, CheckCall, ReplayCall, ExpressionCall};
 
 // The number of the layout.
-const LAYOUT: usize = 3;
+const LAYOUT: usize = 4;
 
 // The number of the library's layout, for a program to compare with that of the header it was built with.
 #[no_mangle]

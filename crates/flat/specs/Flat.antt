@@ -5,6 +5,7 @@ use Rattle.numbers.specs.Put.{four}
 use Rattle.tables.specs.Limits.{mostMachines, mostControls, mostQueues, mostPool, mostBad}
 use Rattle.tables.specs.Rows.{rowsLength}
 use Rattle.tables.specs.Pool.{poolArcs}
+use Rattle.tables.specs.Starting.{startingLength}
 use Rattle.tables.specs.declared.tables.Tables.{Tables}
 
 -- machines, queues, messages in all, transitions, pool states, bad entries
@@ -16,13 +17,17 @@ countsOf T =
 abbrev pub small : Tables → List ℕ
 small T = four (countsOf T) (T .machines .states) (T .machines .starts) (T .queues .messages)
 
+-- how many messages each queue starts with, and these
+abbrev pub starting : Tables → List ℕ
+starting T = T .queues .lengths ++ T .queues .contents
+
 -- transitions, final marks, arcs, roots
 abbrev pub large : Tables → List ℕ
 large T = four (T .transitions .rows) (T .pool .finals) (T .pool .arcs) (T .map .roots)
 
 -- and bad entries
 abbrev pub flat : Tables → List ℕ
-flat T = (small T ++ large T) ++ T .bad .rows
+flat T = ((small T ++ starting T) ++ large T) ++ T .bad .rows
 
 -- so many bytes
 abbrev pub countsLong : ℕ
@@ -31,8 +36,11 @@ countsLong = 6
 abbrev pub smallLong : ℕ
 smallLong = countsLong + 2 * mostMachines + mostQueues
 
+abbrev pub startingLong : ℕ
+startingLong = mostQueues + startingLength
+
 abbrev pub largeLong : ℕ
 largeLong = rowsLength + mostPool + poolArcs + mostControls
 
 abbrev pub tablesLeast : ℕ
-tablesLeast = smallLong + largeLong + mostBad * 2
+tablesLeast = smallLong + startingLong + largeLong + mostBad * 2

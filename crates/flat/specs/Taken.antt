@@ -5,6 +5,7 @@ use lib.ListN.{getD, take, drop}
 use Rattle.tables.specs.Limits.{mostMachines, mostControls, mostQueues, mostPool, mostBad}
 use Rattle.tables.specs.Rows.{rowsLength}
 use Rattle.tables.specs.Pool.{poolArcs}
+use Rattle.tables.specs.Starting.{startingLength}
 use Rattle.tables.specs.Valid.{productOf}
 use Rattle.tables.specs.declared.tables.Machines.{Machines}
 use Rattle.tables.specs.declared.tables.Queues.{Queues}
@@ -46,8 +47,14 @@ startsPlace = statesPlace + mostMachines
 abbrev pub messagesPlace : ℕ
 messagesPlace = startsPlace + mostMachines
 
+abbrev pub lengthsPlace : ℕ
+lengthsPlace = messagesPlace + mostQueues
+
+abbrev pub contentsPlace : ℕ
+contentsPlace = lengthsPlace + mostQueues
+
 abbrev pub rowsPlace : ℕ
-rowsPlace = messagesPlace + mostQueues
+rowsPlace = contentsPlace + startingLength
 
 abbrev pub finalsPlace : ℕ
 finalsPlace = rowsPlace + rowsLength
@@ -72,7 +79,14 @@ machinesAt f =
     }
 
 abbrev pub queuesAt : List ℕ → Queues
-queuesAt f = record { count = getD f queuesPlace 0; sum = getD f sumPlace 0; messages = part messagesPlace mostQueues f }
+queuesAt f =
+    record {
+      count = getD f queuesPlace 0;
+      sum = getD f sumPlace 0;
+      messages = part messagesPlace mostQueues f;
+      lengths = part lengthsPlace mostQueues f;
+      contents = part contentsPlace startingLength f;
+    }
 
 -- machines and queues, and the counts of what is large
 abbrev pub headAt : List ℕ → Head

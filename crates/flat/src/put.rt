@@ -2,10 +2,10 @@
 use numbers::put::put_four;
 use numbers::put::put_word;
 use tables::tables::Tables;
-ghost use Prim.Native.Nat.{_≤_};
+ghost use Prim.Native.Nat.{_+_, _≤_};
 ghost use lib.ListN.{length};
 ghost use Rattle.numbers.specs.Put.{Put};
-ghost use Rattle.flat.specs.Flat.{smallLong, largeLong, tablesLeast, small, large, flat};
+ghost use Rattle.flat.specs.Flat.{smallLong, startingLong, largeLong, tablesLeast, small, starting, large, flat};
 ghost use Rattle.session.specs.Valid.{Valid};
 
 // The counts, and the tables of four entries.
@@ -33,10 +33,24 @@ fn put_small(space: &mut [u8], t: Tables) -> usize
     put_four(space, 0, &counts, &states, &starts, &messages)
 }
 
+// How many messages each queue starts with, and these.
+fn put_starting(space: &mut [u8], at: usize, t: Tables) -> usize
+    requires { ⌜ Valid t ⌝ }
+    requires { ⌜ at ≤ smallLong ⌝ }
+    requires { ⌜ tablesLeast ≤ length (now space) ⌝ }
+    ensures { λ r. ⌜ Put (now (space .entry)) at startingLong (starting t) (now (space .exit)) r ⌝ }
+{
+    let queues = t.queues;
+    let lengths = queues.lengths;
+    let contents = queues.contents;
+    let next = put_word(space, at, &lengths);
+    put_word(space, next, &contents)
+}
+
 // Transitions, final marks, arcs and roots, from a place on.
 fn put_large(space: &mut [u8], at: usize, t: Tables) -> usize
     requires { ⌜ Valid t ⌝ }
-    requires { ⌜ at ≤ smallLong ⌝ }
+    requires { ⌜ at ≤ smallLong + startingLong ⌝ }
     requires { ⌜ tablesLeast ≤ length (now space) ⌝ }
     ensures { λ r. ⌜ Put (now (space .entry)) at largeLong (large t) (now (space .exit)) r ⌝ }
 {
@@ -59,6 +73,7 @@ pub fn put_tables(space: &mut [u8], t: Tables) -> usize
     let bad = t.bad;
     let entries = bad.rows;
     let second = put_small(space, t);
-    let third = put_large(space, second, t);
-    put_word(space, third, &entries)
+    let third = put_starting(space, second, t);
+    let fourth = put_large(space, third, t);
+    put_word(space, fourth, &entries)
 }

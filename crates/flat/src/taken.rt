@@ -1,24 +1,30 @@
 // The small tables of flat bytes, by value.
 use crate::places::BAD_PLACE;
+use crate::places::CONTENTS_PLACE;
+use crate::places::LENGTHS_PLACE;
 use crate::places::MACHINES_PLACE;
 use crate::places::MESSAGES_PLACE;
 use crate::places::POOL_PLACE;
 use crate::places::QUEUES_PLACE;
+use crate::places::ROWS_PLACE;
 use crate::places::STARTS_PLACE;
 use crate::places::STATES_PLACE;
 use crate::places::SUM_PLACE;
 use crate::places::TRANSITIONS_PLACE;
 use numbers::number::wide;
+use numbers::put::put_word;
 use tables::tables::Machines;
 use tables::tables::Queues;
+use tables::tables::STARTING;
 use writing_fields::parts::Head;
 ghost use mathlib.Core.Path.{_≡_};
 ghost use Prim.Native.Nat.{_+_, _≤_};
 ghost use lib.ListN.{length, getD};
 ghost use Rattle.tables.specs.Limits.{mostMachines};
+ghost use Rattle.tables.specs.Starting.{startingLength};
 ghost use Rattle.tables.specs.Valid.{productOf};
 ghost use Rattle.flat.specs.Flat.{tablesLeast};
-ghost use Rattle.flat.specs.Taken.{part, machinesPlace, machinesAt, queuesAt, headAt};
+ghost use Rattle.flat.specs.Taken.{part, machinesPlace, contentsPlace, machinesAt, queuesAt, headAt};
 
 // Four bytes from a place on.
 fn four_at(tables: &[u8], at: usize) -> [u8; 4]
@@ -60,15 +66,29 @@ fn machines_at(tables: &[u8]) -> Machines
     }
 }
 
+// What waits in the queues at the start.
+fn contents_at(tables: &[u8]) -> [u8; STARTING]
+    requires { ⌜ tablesLeast ≤ length (now tables) ⌝ }
+    ensures { λ r. ⌜ r ≡ part contentsPlace startingLength (now (tables .entry)) ⌝ }
+{
+    let mut contents = [0u8; STARTING];
+    put_word(&mut contents, 0, &tables[CONTENTS_PLACE..ROWS_PLACE]);
+    contents
+}
+
 fn queues_at(tables: &[u8]) -> Queues
     requires { ⌜ tablesLeast ≤ length (now tables) ⌝ }
     ensures { λ r. ⌜ r ≡ queuesAt (now (tables .entry)) ⌝ }
 {
     let messages = four_at(tables, MESSAGES_PLACE);
+    let lengths = four_at(tables, LENGTHS_PLACE);
+    let contents = contents_at(tables);
     Queues {
         count: tables[QUEUES_PLACE],
         sum: tables[SUM_PLACE],
         messages,
+        lengths,
+        contents,
     }
 }
 

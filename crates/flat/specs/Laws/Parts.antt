@@ -1,12 +1,13 @@
 -- Parts of a list: which stand one after the other, and which make up another.
 use Prim.Native.Nat.{ℕ, _+_, _≤_}
 use mathlib.Core.Path.{_≡_, refl, sym, ap, _∙_}
-use mathlib.Core.List.{List, [], _∷_, _++_}
-use lib.ListN.{length, getD, take, drop, length-drop}
+use mathlib.Core.List.{List, [], _∷_, _++_, append-nil}
+use lib.ListN.{length, getD, take, drop, replicate, length-take, length-drop, length-replicate, drop-of-length-le}
 use lib.Seq.{take-at, drop-at, drop-drop, take-add, getD-drop}
 use native.Mathlib.Omega.{arith}
 use native.Mathlib.Nat.{add-zero}
-use Rattle.numbers.specs.Put.{four}
+use Rattle.numbers.specs.Put.{Put, four}
+use Rattle.numbers.specs.Laws.Put.{put-front}
 use Rattle.flat.specs.Taken.{part}
 
 -- b stands from the place on, and s after it
@@ -32,6 +33,15 @@ part-four at a b c d f =
     part-add at (a + b + c) d f
     ∙ ap (λ (l : List ℕ). l ++ part (at + (a + b + c)) d f)
     (part-add at (a + b) c f ∙ ap (λ (l : List ℕ). l ++ part (at + (a + b)) c f) (part-add at a b f))
+
+-- a part that is put into as many zeros
+pub part-copied : (f : List ℕ) (at n : ℕ) {exit : List ℕ} {most r : ℕ} → at + n ≤ length f → Put (replicate n 0) 0 most (part at n f) exit r
+    → exit ≡ part at n f
+part-copied f at n h w =
+    let long : length (part at n f) ≡ n = omega (arith, length-take n (drop at f), length-drop at f) in
+    let room = length-replicate {A = ℕ} n 0 in
+    let all : length {A = ℕ} (replicate n 0) ≤ length (part at n f) = omega arith in
+    put-front w (omega arith) ∙ ap (λ (l : List ℕ). part at n f ++ l) (drop-of-length-le (replicate n 0) all) ∙ append-nil (part at n f)
 
 -- four entries, and six
 first-four : (l : List ℕ) → 4 ≤ length l → take 4 l ≡ getD l 0 0 ∷ getD l 1 0 ∷ getD l 2 0 ∷ getD l 3 0 ∷ []

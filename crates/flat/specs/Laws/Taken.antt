@@ -8,21 +8,23 @@ use Rattle.numbers.specs.Put.{four}
 use Rattle.tables.specs.Limits.{mostMachines, mostControls, mostQueues, mostPool, mostBad}
 use Rattle.tables.specs.Rows.{rowsLength}
 use Rattle.tables.specs.Pool.{poolArcs}
+use Rattle.tables.specs.Starting.{startingLength}
 use Rattle.tables.specs.Valid.{productOf}
-use Rattle.tables.specs.declared.tables.Machines.{Machines}
 use Rattle.tables.specs.declared.tables.Tables.{Tables}
 use Rattle.session.specs.Valid.{Valid}
 use Rattle.spelling.specs.Readable.{Readable}
 use Rattle.spelling.specs.Laws.Whole.{readable-exactly}
-use Rattle.flat.specs.Flat.{countsOf, small, large, flat, countsLong, smallLong, largeLong, tablesLeast}
-use Rattle.flat.specs.Taken.{part, statesPlace, startsPlace, messagesPlace, rowsPlace, finalsPlace, arcsPlace, rootsPlace, entriesPlace, tablesAt}
+use Rattle.flat.specs.Flat.{countsOf, small, starting, large, flat, countsLong, smallLong, startingLong, largeLong, tablesLeast}
+use Rattle.flat.specs.Taken.{part, statesPlace, startsPlace, messagesPlace, lengthsPlace, contentsPlace}
+use Rattle.flat.specs.Taken.{rowsPlace, finalsPlace, arcsPlace, rootsPlace, entriesPlace, tablesAt}
 use Rattle.flat.specs.Laws.Put.{flat-long}
 use Rattle.flat.specs.Laws.Parts.{Stands, stands, part-add, part-four, first-six}
 
 -- the brackets of `flat`, all to the right
-to-the-right : (a b c d e f g h i rest : List ℕ)
-    → ((four a b c d ++ four e f g h) ++ i) ++ rest ≡ a ++ (b ++ (c ++ (d ++ (e ++ (f ++ (g ++ (h ++ (i ++ rest))))))))
-to-the-right a b c d e f g h i rest = simp append-assoc
+to-the-right : (a b c d e f g h i j k rest : List ℕ)
+    → (((four a b c d ++ (e ++ f)) ++ four g h i j) ++ k) ++ rest
+    ≡ a ++ (b ++ (c ++ (d ++ (e ++ (f ++ (g ++ (h ++ (i ++ (j ++ (k ++ rest))))))))))
+to-the-right a b c d e f g h i j k rest = simp append-assoc
 
 -- WHERE EACH TABLE STANDS
 module _ (T : Tables) (v : Valid T) (rest : List ℕ) where
@@ -35,25 +37,34 @@ module _ (T : Tables) (v : Valid T) (rest : List ℕ) where
   abbrev fromRows : List ℕ
   fromRows = T .transitions .rows ++ (T .pool .finals ++ (T .pool .arcs ++ fromRoots))
 
+  abbrev fromLengths : List ℕ
+  fromLengths = T .queues .lengths ++ (T .queues .contents ++ fromRows)
+
   abbrev fromStates : List ℕ
-  fromStates = T .machines .states ++ (T .machines .starts ++ (T .queues .messages ++ fromRows))
+  fromStates = T .machines .states ++ (T .machines .starts ++ (T .queues .messages ++ fromLengths))
 
   whole : bytes ≡ countsOf T ++ fromStates
   whole =
-      to-the-right (countsOf T) (T .machines .states) (T .machines .starts) (T .queues .messages) (T .transitions .rows) (T .pool .finals)
-      (T .pool .arcs) (T .map .roots) (T .bad .rows) rest
+      to-the-right (countsOf T) (T .machines .states) (T .machines .starts) (T .queues .messages) (T .queues .lengths) (T .queues .contents)
+      (T .transitions .rows) (T .pool .finals) (T .pool .arcs) (T .map .roots) (T .bad .rows) rest
 
-  states-stand : Stands bytes statesPlace mostMachines (T .machines .states) (T .machines .starts ++ (T .queues .messages ++ fromRows))
+  states-stand : Stands bytes statesPlace mostMachines (T .machines .states) (T .machines .starts ++ (T .queues .messages ++ fromLengths))
   states-stand = stands mostMachines _ _ (ap (drop statesPlace) whole) (v .machines .statesLong)
 
-  starts-stand : Stands bytes startsPlace mostMachines (T .machines .starts) (T .queues .messages ++ fromRows)
+  starts-stand : Stands bytes startsPlace mostMachines (T .machines .starts) (T .queues .messages ++ fromLengths)
   starts-stand = stands mostMachines _ _ (states-stand .after) (v .machines .startsLong)
 
-  messages-stand : Stands bytes messagesPlace mostQueues (T .queues .messages) fromRows
+  messages-stand : Stands bytes messagesPlace mostQueues (T .queues .messages) fromLengths
   messages-stand = stands mostQueues _ _ (starts-stand .after) (v .queues .long)
 
+  lengths-stand : Stands bytes lengthsPlace mostQueues (T .queues .lengths) (T .queues .contents ++ fromRows)
+  lengths-stand = stands mostQueues _ _ (messages-stand .after) (v .queues .starting .lengthsLong)
+
+  contents-stand : Stands bytes contentsPlace startingLength (T .queues .contents) fromRows
+  contents-stand = stands startingLength _ _ (lengths-stand .after) (v .queues .starting .contentsLong)
+
   rows-stand : Stands bytes rowsPlace rowsLength (T .transitions .rows) (T .pool .finals ++ (T .pool .arcs ++ fromRoots))
-  rows-stand = stands rowsLength _ _ (messages-stand .after) (v .transitions .long)
+  rows-stand = stands rowsLength _ _ (contents-stand .after) (v .transitions .long)
 
   finals-stand : Stands bytes finalsPlace mostPool (T .pool .finals) (T .pool .arcs ++ fromRoots)
   finals-stand = stands mostPool _ _ (rows-stand .after) (v .pool .finalsLong)
@@ -82,7 +93,13 @@ module _ (T : Tables) (v : Valid T) (rest : List ℕ) where
           states = states-stand .here i;
           starts = starts-stand .here i;
         };
-        queues = record { count = T .queues .count; sum = T .queues .sum; messages = messages-stand .here i };
+        queues = record {
+          count = T .queues .count;
+          sum = T .queues .sum;
+          messages = messages-stand .here i;
+          lengths = lengths-stand .here i;
+          contents = contents-stand .here i;
+        };
         transitions = record { count = T .transitions .count; rows = rows-stand .here i };
         pool = record { count = T .pool .count; finals = finals-stand .here i; arcs = arcs-stand .here i };
         map = record { roots = roots-stand .here i };
@@ -98,15 +115,20 @@ module _ (f : List ℕ) where
       (first-six f (omega arith))
       ∙ sym (part-four 0 countsLong mostMachines mostMachines mostQueues f)
 
-  large-taken : large (tablesAt f) ≡ part smallLong largeLong f
+  starting-taken : starting (tablesAt f) ≡ part smallLong startingLong f
   unfolding tablesAt
-  large-taken = sym (part-four smallLong rowsLength mostPool poolArcs mostControls f)
+  starting-taken = sym (part-add smallLong mostQueues startingLength f)
+
+  large-taken : large (tablesAt f) ≡ part rowsPlace largeLong f
+  unfolding tablesAt
+  large-taken = sym (part-four rowsPlace rowsLength mostPool poolArcs mostControls f)
 
   pub flat-taken : tablesLeast ≤ length f → flat (tablesAt f) ≡ take tablesLeast f
   unfolding tablesAt
   flat-taken h =
-      ap₂ (λ (s l : List ℕ). (s ++ l) ++ part entriesPlace (mostBad * 2) f) (small-taken h) large-taken
-      ∙ ap (λ (l : List ℕ). l ++ part entriesPlace (mostBad * 2) f) (sym (part-add 0 smallLong largeLong f))
+      let front = ap₂ (λ (s l : List ℕ). s ++ l) (small-taken h) starting-taken ∙ sym (part-add 0 smallLong startingLong f) in
+      ap₂ (λ (s l : List ℕ). (s ++ l) ++ part entriesPlace (mostBad * 2) f) front large-taken
+      ∙ ap (λ (l : List ℕ). l ++ part entriesPlace (mostBad * 2) f) (sym (part-add 0 rowsPlace largeLong f))
       ∙ sym (part-add 0 entriesPlace (mostBad * 2) f)
 
 -- FLAT BYTES STAND FOR TABLES OF A FILE exactly if such tables were put there.

@@ -13,13 +13,12 @@ use Rattle.tables.specs.Rows.{rowsLength}
 use Rattle.tables.specs.Pool.{poolArcs}
 use Rattle.tables.specs.declared.tables.Tables.{Tables}
 use Rattle.model.specs.Laws.Basics.{false-not-true}
-use Rattle.session.specs.Laws.Valid.{valid}
 use Rattle.spelling.specs.Spelled.{spelled}
 use Rattle.spelling.specs.Readable.{Readable}
 use Rattle.writing_fields.specs.Parts.{joined}
 use Rattle.writing_fields.specs.declared.parts.Head.{Head}
 use Rattle.writing.specs.Write.{restored, writeReply, bufferAfter, saidWritten, Writes}
-use Rattle.writing.specs.Laws.Writing.{restored-read}
+use Rattle.writing.specs.Laws.Writing.{unread-machines}
 use Rattle.writing.specs.Laws.Restored.{restored-exactly}
 use Rattle.writing.specs.Laws.Promises.{sixteen-exactly, writes-unread}
 use Rattle.writing.specs.declared.write.Written.{Written}
@@ -76,19 +75,9 @@ module _ (f buffer : List ℕ) where
   unfolding tablesAt
   count-is = refl
 
-  machines-few : restored (tablesAt f) ≡ true → getD f machinesPlace 0 ≤ mostMachines
-  machines-few e = omega (arith, count-is, valid (spelled (tablesAt f)) (restored-read (tablesAt f) e .1) .machines .most)
-
-  too-many : mostMachines < getD f machinesPlace 0 → restored (tablesAt f) ≡ false
-  too-many h = go (restored (tablesAt f)) refl
-    where
-      go : (b : Bool) → restored (tablesAt f) ≡ b → b ≡ false
-      go true e = absurd (omega (arith, machines-few e))
-      go false e = refl
-
   -- more machines than a file has
   pub flat-machines : tablesLeast ≤ length f → mostMachines < getD f machinesPlace 0 → WritesFlat f buffer NotReadable buffer
-  flat-machines h g = flat-writes h refl (writes-unread (tablesAt f) buffer (too-many g))
+  flat-machines h g = flat-writes h refl (writes-unread (tablesAt f) buffer (unread-machines (tablesAt f) (omega (arith, count-is))))
 
   -- the parts that are lent are those of the tables
   pub flat-parts : {h : Head} {r : Written} {exit : List ℕ} → tablesLeast ≤ length f → h ≡ headAt f
