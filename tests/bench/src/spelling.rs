@@ -5,12 +5,12 @@
 //! given. Where a count passes its table, the table ends it: reading refuses the count.
 
 use reference_checker::flat::{
-    AT_ARCS, AT_BAD, AT_FINALS, AT_MESSAGES, AT_ROOTS, AT_STARTS, AT_STATES, AT_TRANSITIONS, BAD_ROW, KIND, LENGTH,
-    QUEUE, ROW, SPACE, WORD,
+    AT_ARCS, AT_BAD, AT_FINALS, AT_MESSAGES, AT_ROOTS, AT_STARTING, AT_STARTING_LENGTHS, AT_STARTS, AT_STATES,
+    AT_TRANSITIONS, BAD_ROW, KIND, LENGTH, QUEUE, ROW, SPACE, WORD,
 };
 use reference_checker::read::{
     read_asking, Refusal, Tables, BAD_ENTRIES, CONTROL_STATES, LONGEST_FILE, MACHINES, MESSAGES, POOL_STATES, QUEUES,
-    TRANSITIONS, WORD_LENGTH,
+    STARTING, TRANSITIONS, WORD_LENGTH,
 };
 use reference_checker::write::{BUFFER_TOO_SHORT, NO_FILE};
 
@@ -52,11 +52,16 @@ fn spelled(flat: &[u8; SPACE]) -> Vec<u8> {
     let mut file = Vec::with_capacity(LONGEST_FILE);
     let [machines, queues, sum, transitions, pool_states, bad_entries] = [0, 1, 2, 3, 4, 5].map(|place| flat[place]);
     let used = |at: usize, count: u8, most: usize| &flat[at..at + usize::from(count).min(most)];
-    put(&mut file, machines);
+    let lengths = used(AT_STARTING_LENGTHS, queues, QUEUES);
+    let resumes = lengths.iter().any(|&length| length > 0);
+    put(&mut file, if resumes { machines.saturating_add(MACHINES as u8) } else { machines });
     put_all(&mut file, used(AT_STATES, machines, MACHINES));
     put_all(&mut file, used(AT_STARTS, machines, MACHINES));
     put(&mut file, queues);
     put_all(&mut file, used(AT_MESSAGES, queues, QUEUES));
+    if resumes {
+        spell_starting(&mut file, lengths, &flat[AT_STARTING..AT_TRANSITIONS]);
+    }
     put(&mut file, transitions);
     for row in flat[AT_TRANSITIONS..AT_FINALS].chunks_exact(ROW).take(usize::from(transitions)) {
         spell_transition(&mut file, row);
@@ -73,6 +78,13 @@ fn spelled(flat: &[u8; SPACE]) -> Vec<u8> {
     put(&mut file, bad_entries);
     put_all(&mut file, &flat[AT_BAD..][..BAD_ROW * usize::from(bad_entries).min(BAD_ENTRIES)]);
     file
+}
+
+fn spell_starting(file: &mut Vec<u8>, lengths: &[u8], messages: &[u8]) {
+    for (&length, room) in lengths.iter().zip(messages.chunks_exact(STARTING)) {
+        put(file, length);
+        put_all(file, &room[..usize::from(length).min(STARTING)]);
+    }
 }
 
 fn spell_transition(file: &mut Vec<u8>, row: &[u8]) {
@@ -107,7 +119,9 @@ fn is_same(flat: &[u8; SPACE], tables: &Tables) -> bool {
     flat[..COUNTS] == counts.map(|count| count as u8)
         && flat[AT_STATES..AT_STARTS] == tables.states
         && flat[AT_STARTS..AT_MESSAGES] == tables.starts
-        && flat[AT_MESSAGES..AT_TRANSITIONS] == tables.messages
+        && flat[AT_MESSAGES..AT_STARTING_LENGTHS] == tables.messages
+        && flat[AT_STARTING_LENGTHS..AT_STARTING] == tables.starting_lengths
+        && flat[AT_STARTING..AT_TRANSITIONS] == tables.starting_messages
         && are_same_transitions(&flat[AT_TRANSITIONS..AT_FINALS], tables)
         && flat[AT_FINALS..AT_ARCS] == tables.finals.map(u8::from)
         && flat[AT_ARCS..AT_ROOTS] == tables.arcs

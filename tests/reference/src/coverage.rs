@@ -9,27 +9,32 @@ use crate::expression_features;
 use crate::expression_traps::{expression_with, ExpressionTrap};
 use crate::far_features;
 use crate::far_traps::{far_of_contents, far_of_replay, far_of_step, FarTrap};
+use crate::flat::Flat;
+use crate::form_traps::FormTrap;
 use crate::generate::draft::Role;
 use crate::generate::expression as texts;
 use crate::generate::membership::{Purpose, ABOUT_ORDER};
 use crate::generate::reading::{Expected, Generator};
 use crate::generate::replay as replays;
+use crate::generate::resuming_files;
 use crate::generate::row_9;
 use crate::generate::verdicts;
 use crate::generate::writing as writings;
 use crate::long_words::{self, has_long_word};
-use crate::membership::{membership, membership_line, Member};
+use crate::membership::{member_of, membership, membership_line, Member};
 use crate::order_features::{self, OrderHits};
 use crate::positions::pool_of;
 use crate::read::{read, Kind, Refusal, Tables, WORD_LENGTH};
 use crate::replay::{replay, Answer, Reply};
 use crate::replay_features::{self, Retaken};
 use crate::replay_traps::{self, replay_with, ReplayTrap};
-use crate::rings::replay_in_rings;
+use crate::rings::{replay_as_read, replay_in_rings};
+use crate::start_features::{self, FormHits};
+use crate::starting::{member_with, MemberTrap};
 use crate::stream::{Question, Replay, Writing};
 use crate::traps::{self, Trap};
 use crate::verdict::{line, Verdict};
-use crate::walk::{check, Scratch};
+use crate::walk::{check, check_tables, Scratch};
 use crate::write::write;
 use crate::writing_features;
 use crate::writing_traps::{ReadBack, WritingTrap};
@@ -43,7 +48,6 @@ pub struct Coverage {
 }
 
 /// What the files for reading hit.
-#[derive(Default)]
 struct ReadingHits<'c> {
     were_read: usize,
     /// Refusals by number.
@@ -52,14 +56,23 @@ struct ReadingHits<'c> {
     kinds: BTreeMap<&'c str, usize>,
     /// Files that are read and have a word of this length.
     word_lengths: [usize; WORD_LENGTH + 1],
+    of_form: FormHits,
     of_order: OrderHits,
 }
 
 pub fn reading_coverage(generator: &Generator) -> Coverage {
-    let mut hits = ReadingHits::default();
+    let mut hits = ReadingHits {
+        were_read: 0,
+        rows: BTreeMap::new(),
+        kinds: BTreeMap::new(),
+        word_lengths: [0; WORD_LENGTH + 1],
+        of_form: FormHits::new(FormTrap::all()),
+        of_order: OrderHits::default(),
+    };
     let mut complaints = Vec::new();
     for (index, case) in generator.cases.iter().enumerate() {
         let reply = read(&case.bytes);
+        hits.of_form.add(&case.bytes, |read| read.clone());
         hits.of_order.add(&case.bytes);
         match &reply {
             Ok(tables) => hits.add_tables(tables),
@@ -78,7 +91,7 @@ pub fn reading_coverage(generator: &Generator) -> Coverage {
         }
     }
     complaints.extend(hits.complaints());
-    for role in Role::ALL {
+    for role in Role::all() {
         for end in ["least", "most"] {
             if !generator.at_limit.contains_key(&(role, end)) {
                 complaints.push(format!("no valid file has {role} at its {end}"));
@@ -127,7 +140,7 @@ impl ReadingHits<'_> {
             }
         };
         ask("row 1".to_string(), self.rows.get(&1).copied(), 1);
-        for row in 3..=10 {
+        for row in (3..=10).chain([23]) {
             ask(format!("row {row}"), self.rows.get(&row).copied(), ENOUGH);
         }
         for (length, &files) in self.word_lengths.iter().enumerate() {
@@ -136,10 +149,14 @@ impl ReadingHits<'_> {
         for (kind, enough) in LONG_WORD_DAMAGE {
             ask(kind.to_string(), self.kinds.get(kind).copied(), enough);
         }
+        for (kind, enough) in resuming_files::KINDS {
+            ask(kind.to_string(), self.kinds.get(kind).copied(), enough);
+        }
         for kind in row_9::kinds() {
             let files = self.kinds.get(&kind[..]).copied();
             ask(kind, files, ENOUGH_OF_ROW_9);
         }
+        complaints.extend(self.of_form.complaints("files"));
         complaints.extend(self.of_order.complaints(ENOUGH_OF_ROW_9));
         complaints
     }
@@ -155,7 +172,7 @@ impl ReadingHits<'_> {
         for (length, hits) in self.word_lengths.iter().enumerate() {
             report += &format!("read with a word of {length}: {hits}\n");
         }
-        report + &self.of_order.report()
+        report + &self.of_form.report("files") + &self.of_order.report()
     }
 }
 
@@ -213,13 +230,14 @@ struct VerdictHits<'c> {
     asked_features: BTreeMap<String, usize>,
     told: BTreeMap<Trap, usize>,
     far: FarHits,
+    of_form: FormHits,
     of_order: OrderHits,
 }
 
 /// The features that files for checking must have, each with how many files.
 fn asked_of_verdicts() -> BTreeMap<String, usize> {
     let others = order_features::asked().into_iter().chain(far_features::asked_of_verdicts());
-    long_words::asked().into_iter().chain(others).collect()
+    long_words::asked().into_iter().chain(others).chain(start_features::asked_of_verdicts()).collect()
 }
 
 pub fn verdict_coverage(cases: &[verdicts::Case]) -> Coverage {
@@ -231,6 +249,7 @@ pub fn verdict_coverage(cases: &[verdicts::Case]) -> Coverage {
         asked_features: asked_of_verdicts().into_keys().map(|feature| (feature, 0)).collect(),
         told: Trap::all().map(|trap| (trap, 0)).collect(),
         far: FarHits::new(FarTrap::of_verdicts()),
+        of_form: FormHits::new(FormTrap::OF_FORM.into_iter()),
         of_order: OrderHits::default(),
     };
     for case in cases {
@@ -238,6 +257,12 @@ pub fn verdict_coverage(cases: &[verdicts::Case]) -> Coverage {
         *hits.lines.entry(line_kind(&line(&reply))).or_default() += 1;
         *hits.kinds.entry(&case.kind).or_default() += 1;
         hits.of_order.add(&case.bytes);
+        if case.bytes.len() <= SMALL_FILE {
+            hits.of_form.add(&case.bytes, |read| match read {
+                Ok(tables) => Ok(check_tables(tables, &mut scratch)),
+                Err(refusal) => Err(*refusal),
+            });
+        }
         if let (Ok(tables), Ok(verdict)) = (read(&case.bytes), &reply) {
             hits.add_verdict(&tables, verdict, case.bytes.len() <= SMALL_FILE);
         }
@@ -254,6 +279,7 @@ impl VerdictHits<'_> {
         }
         let mut features = long_words::features(tables, verdict);
         features.extend(far_features::of_verdict(tables, verdict));
+        features.extend(start_features::of_verdict(tables, verdict));
         if let Verdict::Leaves { control_state, transition, contents, far } = verdict {
             let step = &tables.transitions[*transition];
             self.far.add(&verdict.to_string(), *far, |trap| far_of_step(tables, *control_state, step, contents, trap));
@@ -265,7 +291,7 @@ impl VerdictHits<'_> {
             self.asked_features.entry(feature).and_modify(|files| *files += 1);
         }
         if is_small {
-            for (&trap, count) in &mut self.told {
+            for (&trap, count) in self.told.iter_mut().filter(|(trap, _)| tables.resumes() || !trap.is_of_starting()) {
                 *count += usize::from(traps::tells(tables, verdict, trap));
             }
         }
@@ -274,9 +300,11 @@ impl VerdictHits<'_> {
     fn complaints(&self) -> Vec<String> {
         let mut complaints = Vec::new();
         let wanted = ["closed", "outside", "leaves", "bad"].map(String::from);
-        for wanted in wanted.into_iter().chain((3..=10).map(|row| format!("refused {row}"))) {
+        let rows =
+            (3..=10).map(|row| (format!("refused {row}"), ENOUGH_VERDICTS)).chain([("refused 23".to_string(), 10)]);
+        for (wanted, enough) in wanted.map(|verdict| (verdict, ENOUGH_VERDICTS)).into_iter().chain(rows) {
             let hits = self.lines.get(&wanted).copied().unwrap_or(0);
-            if hits < ENOUGH_VERDICTS {
+            if hits < enough {
                 complaints.push(format!("{wanted} is hit only {hits} times"));
             }
         }
@@ -287,11 +315,12 @@ impl VerdictHits<'_> {
             }
         }
         for (trap, &count) in &self.told {
-            if count < ENOUGH_TOLD {
+            if count < if trap.is_of_starting() { start_features::ENOUGH_TOLD } else { ENOUGH_TOLD } {
                 complaints.push(format!("only {count} files tell {trap:?}"));
             }
         }
         complaints.extend(self.far.complaints("files"));
+        complaints.extend(self.of_form.complaints("files"));
         complaints.extend(self.of_order.complaints(ENOUGH_OF_ORDER));
         complaints
     }
@@ -313,7 +342,7 @@ impl VerdictHits<'_> {
         for (trap, count) in &self.told {
             report += &format!("files whose line would change by {trap:?}: {count}\n");
         }
-        report + &self.far.report("files") + &self.of_order.report()
+        report + &self.far.report("files") + &self.of_form.report("files") + &self.of_order.report()
     }
 }
 
@@ -350,9 +379,12 @@ pub fn membership_coverage(questions: &[(Purpose, Question)]) -> Coverage {
     let mut replies: BTreeMap<String, usize> = BTreeMap::new();
     let mut about_order: BTreeMap<&str, usize> = ABOUT_ORDER.map(|kind| (kind, 0)).into();
     let mut of_order = OrderHits::default();
-    let asked = far_features::asked_of_questions();
+    let mut asked = far_features::asked_of_questions();
+    asked.extend(start_features::asked_of_questions());
     let mut features: BTreeMap<String, usize> = asked.keys().map(|feature| (feature.clone(), 0)).collect();
     let mut far = FarHits::new(FarTrap::of_questions());
+    let mut of_form = FormHits::new(FormTrap::OF_FORM.into_iter());
+    let mut told = BTreeMap::from(MemberTrap::ALL.map(|trap| (trap, 0)));
     let mut complaints = Vec::new();
     for (index, (purpose, question)) in questions.iter().enumerate() {
         let reply = membership(&question.file, question.control_state, &question.contents);
@@ -369,6 +401,8 @@ pub fn membership_coverage(questions: &[(Purpose, Question)]) -> Coverage {
             Purpose::OnTheWay | Purpose::InOrder | Purpose::Harmless => reply.is_ok(),
             Purpose::Long => reply == Ok(Member { belongs: true, far: question.contents.len() }),
             Purpose::Far(far) => reply.is_ok_and(|member| member.far == far),
+            Purpose::Waiting | Purpose::OfEitherForm(None) => reply.is_ok(),
+            Purpose::OfEitherForm(Some(refusal)) => reply == Err(refusal),
             Purpose::Document => true,
         };
         if !as_made {
@@ -379,10 +413,20 @@ pub fn membership_coverage(questions: &[(Purpose, Question)]) -> Coverage {
             far.add(&format!("question {index}"), member.far, |trap| {
                 far_of_contents(&tables, *control_state, contents, trap)
             });
-            for feature in far_features::of_question(&tables, *control_state, contents, member) {
+            let of_start = start_features::of_question(&tables, contents, member);
+            for feature in
+                far_features::of_question(&tables, *control_state, contents, member).into_iter().chain(of_start)
+            {
                 features.entry(feature).and_modify(|count| *count += 1);
             }
+            for (&trap, count) in &mut told {
+                *count += usize::from(member_with(&tables, *control_state, contents, Some(trap)) != member);
+            }
         }
+        of_form.add(&question.file, |read| match read {
+            Ok(tables) => member_of(tables, question.control_state, &question.contents),
+            Err(refusal) => Err(*refusal),
+        });
         *replies.entry(line_kind(&membership_line(&reply))).or_default() += 1;
         of_order.add(&question.file);
         if let Some(kind) = purpose.about_order(&reply) {
@@ -404,7 +448,11 @@ pub fn membership_coverage(questions: &[(Purpose, Question)]) -> Coverage {
             complaints.push(format!("only {count} questions have: {feature}"));
         }
     }
+    for (trap, count) in told.iter().filter(|(_, &count)| count < start_features::ENOUGH_TOLD) {
+        complaints.push(format!("only {count} questions tell {trap:?}"));
+    }
     complaints.extend(far.complaints("questions"));
+    complaints.extend(of_form.complaints("questions"));
     complaints.extend(of_order.complaints(ENOUGH_OF_ORDER));
     let mut report = format!("{} questions\n", questions.len());
     for (reply, count) in &replies {
@@ -416,7 +464,11 @@ pub fn membership_coverage(questions: &[(Purpose, Question)]) -> Coverage {
     for (feature, count) in &features {
         report += &format!("{feature}: {count}\n");
     }
-    Coverage { report: report + &far.report("questions") + &of_order.report(), complaints }
+    for (trap, count) in &told {
+        report += &format!("questions whose line would change by {trap:?}: {count}\n");
+    }
+    report += &far.report("questions");
+    Coverage { report: report + &of_form.report("questions") + &of_order.report(), complaints }
 }
 
 /// Each mistake changes the line of at least this many replays.
@@ -434,8 +486,10 @@ fn in_rings(asked: &Replay) -> Answer {
 pub fn replay_coverage(cases: &[replays::Case]) -> Coverage {
     let asked = replay_features::asked();
     let mut features: BTreeMap<String, usize> = asked.keys().map(|feature| (feature.clone(), 0)).collect();
-    let mut told = BTreeMap::from(ReplayTrap::ALL.map(|trap| (trap, 0)));
+    let mut told: BTreeMap<ReplayTrap, usize> =
+        ReplayTrap::ALL.into_iter().chain(ReplayTrap::of_starting()).map(|trap| (trap, 0)).collect();
     let mut far_hits = FarHits::new(FarTrap::of_replays());
+    let mut of_form = FormHits::new(FormTrap::OF_FORM.into_iter());
     let mut of_order = OrderHits::default();
     let mut complaints = Vec::new();
     let mut bytes = 0;
@@ -457,7 +511,16 @@ pub fn replay_coverage(cases: &[replays::Case]) -> Coverage {
             features.entry(feature).and_modify(|count| *count += 1);
         }
         let is_short = asked.trace.len() <= SHORT_TRACE;
-        for (&trap, count) in told.iter_mut().filter(|(trap, _)| is_short || trap.is_of_long_traces()) {
+        if is_short {
+            of_form.add(&asked.file, |read| {
+                let mut lent = asked.lent();
+                let reply = replay_as_read(&mut lent.record, read, &asked.trace, &mut lent.memory);
+                (reply, lent)
+            });
+        }
+        let resumes = read(&asked.file).is_ok_and(|tables| tables.resumes());
+        let is_tried = |trap: ReplayTrap| (is_short || trap.is_of_long_traces()) && (resumes || !trap.is_of_starting());
+        for (&trap, count) in told.iter_mut().filter(|(&trap, _)| is_tried(trap)) {
             *count += usize::from(replay_traps::tells(&asked.file, &asked.trace, &lent, &answer, trap));
         }
         if let (Ok(tables), Reply::Outside { steps, far }) = (read(&asked.file), answer.reply) {
@@ -474,11 +537,12 @@ pub fn replay_coverage(cases: &[replays::Case]) -> Coverage {
         }
     }
     for (trap, &count) in &told {
-        if count < ENOUGH_REPLAYS_TOLD {
+        if count < if trap.is_of_starting() { start_features::ENOUGH_TOLD } else { ENOUGH_REPLAYS_TOLD } {
             complaints.push(format!("only {count} replays tell {trap:?}"));
         }
     }
     complaints.extend(far_hits.complaints("replays"));
+    complaints.extend(of_form.complaints("replays"));
     complaints.extend(of_order.complaints(ENOUGH_OF_ORDER));
     let mut report = format!("{} replays, {bytes} bytes of files and traces\n", cases.len());
     for (feature, count) in &features {
@@ -487,7 +551,8 @@ pub fn replay_coverage(cases: &[replays::Case]) -> Coverage {
     for (trap, count) in &told {
         report += &format!("replays whose line would change by {trap:?}: {count}\n");
     }
-    Coverage { report: report + &far_hits.report("replays") + &of_order.report(), complaints }
+    report += &far_hits.report("replays");
+    Coverage { report: report + &of_form.report("replays") + &of_order.report(), complaints }
 }
 
 /// Each mistake changes the line of at least this many writings.
@@ -524,6 +589,7 @@ pub fn writing_coverage(cases: &[writings::Case]) -> Coverage {
     let asked = writing_features::asked();
     let mut features: BTreeMap<String, usize> = asked.keys().map(|feature| (feature.clone(), 0)).collect();
     let mut told: BTreeMap<WritingTrap, usize> = WritingTrap::all().map(|trap| (trap, 0)).collect();
+    let mut of_form = FormHits::new(FormTrap::of_tables());
     let mut kinds: BTreeMap<&str, usize> = BTreeMap::new();
     let mut complaints = Vec::new();
     for (index, case) in cases.iter().enumerate() {
@@ -542,6 +608,13 @@ pub fn writing_coverage(cases: &[writings::Case]) -> Coverage {
         for feature in writing_features::features(writing, answer.0) {
             features.entry(feature).and_modify(|count| *count += 1);
         }
+        if writing.file.len() <= SMALL_FILE {
+            of_form.add(&writing.file, |read| {
+                let read = read.as_ref().map_or_else(|_| Flat::zero(), Flat::of);
+                let (flat, product) = writing.edited(read);
+                lent(writing, |buffer| write(&flat, product, buffer))
+            });
+        }
         if writing.file.len() <= SHORT_FILE {
             let is_small = writing.file.len() <= SMALL_FILE;
             for (&trap, count) in told.iter_mut().filter(|(trap, _)| is_small || !trap.is_about_order()) {
@@ -558,6 +631,7 @@ pub fn writing_coverage(cases: &[writings::Case]) -> Coverage {
     for (trap, &count) in told.iter().filter(|(_, &count)| count < ENOUGH_WRITINGS_TOLD) {
         complaints.push(format!("only {count} writings tell {trap:?}"));
     }
+    complaints.extend(of_form.complaints("writings"));
     let bytes: usize = cases.iter().map(|case| case.writing.file.len()).sum();
     let mut report = format!("{} writings, {bytes} bytes of files\n", cases.len());
     for (kind, count) in &kinds {
@@ -569,7 +643,7 @@ pub fn writing_coverage(cases: &[writings::Case]) -> Coverage {
     for (trap, count) in &told {
         report += &format!("writings whose line would change by {trap:?}: {count}\n");
     }
-    Coverage { report, complaints }
+    Coverage { report: report + &of_form.report("writings"), complaints }
 }
 
 /// Each mistake changes the line of at least this many texts.

@@ -137,9 +137,15 @@ impl<'t> Session<'t> {
         Configuration { machines: machines.to_vec(), queues }
     }
 
+    fn start(&self) -> Configuration {
+        Configuration {
+            machines: self.tables.starts[..self.tables.machine_count].to_vec(),
+            queues: (0..self.tables.queue_count).map(|queue| self.tables.starting(queue).to_vec()).collect(),
+        }
+    }
+
     fn verdict(&self) -> Result<Verdict, TooLarge> {
-        let start = &self.tables.starts[..self.tables.machine_count];
-        if !self.inside(&self.configuration(start, &[])) {
+        if !self.inside(&self.start()) {
             return Ok(Verdict::Outside);
         }
         let mut pairs = 0;
@@ -199,8 +205,7 @@ impl<'t> Session<'t> {
 
     /// The verdict on these words alone; the number of pairs is 0.
     fn first_failing(&self, words: &[Vec<u8>]) -> Verdict {
-        let start = &self.tables.starts[..self.tables.machine_count];
-        if !self.inside(&self.configuration(start, &[])) {
+        if !self.inside(&self.start()) {
             return Verdict::Outside;
         }
         for (control_state, machines) in self.control_states.iter().enumerate() {

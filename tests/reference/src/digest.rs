@@ -41,6 +41,8 @@ pub fn digest(tables: &Tables) -> u64 {
     digest.add_count(tables.control_state_count);
     digest.add_count(tables.queue_count);
     digest.add_all(&tables.messages);
+    digest.add_all(&tables.starting_lengths);
+    digest.add_all(&tables.starting_messages);
     digest.add_count(tables.message_sum);
     digest.add_count(tables.transition_count);
     for transition in &tables.transitions {

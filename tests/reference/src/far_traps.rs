@@ -77,6 +77,8 @@ pub enum FarTrap {
     UpToTheRoomsEnd,
     /// The number is kept as a place in a room.
     InARoom,
+    /// Of what waits at the start nothing counts.
+    NothingAtTheStart,
 }
 
 impl FarTrap {
@@ -120,7 +122,8 @@ impl FarTrap {
         FarTrap::UpToTheStep,
     ];
 
-    pub const OF_REPLAYS: [FarTrap; 3] = [FarTrap::BeforeLastStep, FarTrap::UpToTheRoomsEnd, FarTrap::InARoom];
+    pub const OF_REPLAYS: [FarTrap; 4] =
+        [FarTrap::BeforeLastStep, FarTrap::UpToTheRoomsEnd, FarTrap::InARoom, FarTrap::NothingAtTheStart];
 
     /// How many files, questions or replays must tell it. Large numbers are rare: they take long contents.
     pub fn asked(self) -> usize {
@@ -214,6 +217,9 @@ pub fn far_of_replay(
     received: &[usize],
     trap: Option<FarTrap>,
 ) -> usize {
+    if before.is_none() && trap == Some(FarTrap::NothingAtTheStart) {
+        return 0;
+    }
     let before = before.unwrap_or(after);
     let (of_diagram, of_contents) = match trap {
         Some(FarTrap::InSource) => (before, after),

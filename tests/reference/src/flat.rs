@@ -3,7 +3,7 @@
 //! `include/swarmbanner.h` says which entry lies where. The product of the states is in none of them.
 
 use crate::read::{
-    BadEntry, Kind, Tables, Transition, BAD_ENTRIES, CONTROL_STATES, MACHINES, MESSAGES, POOL_STATES, QUEUES,
+    BadEntry, Kind, Tables, Transition, BAD_ENTRIES, CONTROL_STATES, MACHINES, MESSAGES, POOL_STATES, QUEUES, STARTING,
     TRANSITIONS, WORD_LENGTH,
 };
 
@@ -16,13 +16,15 @@ pub const AT_BAD_ENTRIES: usize = 5;
 pub const AT_STATES: usize = 6;
 pub const AT_STARTS: usize = AT_STATES + MACHINES;
 pub const AT_MESSAGES: usize = AT_STARTS + MACHINES;
-pub const AT_TRANSITIONS: usize = AT_MESSAGES + QUEUES;
+pub const AT_STARTING_LENGTHS: usize = AT_MESSAGES + QUEUES;
+pub const AT_STARTING: usize = AT_STARTING_LENGTHS + QUEUES;
+pub const AT_TRANSITIONS: usize = AT_STARTING + QUEUES * STARTING;
 pub const AT_FINALS: usize = AT_TRANSITIONS + TRANSITIONS * ROW;
 pub const AT_ARCS: usize = AT_FINALS + POOL_STATES;
 pub const AT_ROOTS: usize = AT_ARCS + POOL_STATES * MESSAGES;
 pub const AT_BAD: usize = AT_ROOTS + CONTROL_STATES;
 pub const SPACE: usize = AT_BAD + BAD_ENTRIES * BAD_ROW;
-const _: () = assert!(SPACE == 7_409);
+const _: () = assert!(SPACE == 7_445);
 
 /// Columns of a transition's row: machine, from, to, kind, queue and length, then the word.
 pub const KIND: usize = 3;
@@ -55,6 +57,8 @@ impl Flat {
         flat.put(AT_STATES, &tables.states);
         flat.put(AT_STARTS, &tables.starts);
         flat.put(AT_MESSAGES, &tables.messages);
+        flat.put(AT_STARTING_LENGTHS, &tables.starting_lengths);
+        flat.put(AT_STARTING, &tables.starting_messages);
         for (number, step) in tables.transitions.iter().enumerate() {
             let place = AT_TRANSITIONS + number * ROW;
             flat.put(place, &[step.machine, step.from, step.to, step.kind as u8, step.queue, step.length]);
@@ -118,6 +122,15 @@ impl Flat {
         self.part(AT_MESSAGES, QUEUES)
     }
 
+    pub fn starting_lengths(&self) -> &[u8] {
+        self.part(AT_STARTING_LENGTHS, QUEUES)
+    }
+
+    /// The room of each queue for what waits in it at the start.
+    pub fn starting(&self) -> impl Iterator<Item = &[u8]> {
+        self.part(AT_STARTING, QUEUES * STARTING).chunks_exact(STARTING)
+    }
+
     pub fn rows(&self) -> impl Iterator<Item = &[u8]> {
         self.part(AT_TRANSITIONS, TRANSITIONS * ROW).chunks_exact(ROW)
     }
@@ -160,6 +173,8 @@ impl Flat {
         tables.states.copy_from_slice(self.states());
         tables.starts.copy_from_slice(self.starts());
         tables.messages.copy_from_slice(self.messages());
+        tables.starting_lengths.copy_from_slice(self.starting_lengths());
+        tables.starting_messages.copy_from_slice(self.part(AT_STARTING, QUEUES * STARTING));
         for (transition, row) in tables.transitions.iter_mut().zip(self.rows()) {
             *transition = transition_of(row);
         }
@@ -201,6 +216,14 @@ pub enum Part {
     StartsPast,
     Messages,
     MessagesPast,
+    StartingLength,
+    /// Of a queue that is not below the count.
+    StartingLengthPast,
+    Starting,
+    /// Of a queue below the count, past its length.
+    StartingPast,
+    /// Of a queue that is not below the count.
+    StartingRoomPast,
     Machine,
     From,
     To,
@@ -229,7 +252,7 @@ pub enum Part {
 }
 
 impl Part {
-    pub const ALL: [Part; 34] = [
+    pub const ALL: [Part; 39] = [
         Part::Machines,
         Part::Queues,
         Part::Sum,
@@ -242,6 +265,11 @@ impl Part {
         Part::StartsPast,
         Part::Messages,
         Part::MessagesPast,
+        Part::StartingLength,
+        Part::StartingLengthPast,
+        Part::Starting,
+        Part::StartingPast,
+        Part::StartingRoomPast,
         Part::Machine,
         Part::From,
         Part::To,
@@ -266,11 +294,18 @@ impl Part {
         Part::BadPast,
     ];
 
+    /// Those of what waits at the start.
+    pub const OF_STARTING: [Part; 5] =
+        [Part::StartingLength, Part::StartingLengthPast, Part::Starting, Part::StartingPast, Part::StartingRoomPast];
+
     /// What is not written out and must be 0.
-    pub const UNUSED: [Part; 13] = [
+    pub const UNUSED: [Part; 16] = [
         Part::StatesPast,
         Part::StartsPast,
         Part::MessagesPast,
+        Part::StartingLengthPast,
+        Part::StartingPast,
+        Part::StartingRoomPast,
         Part::WordPast,
         Part::LocalQueue,
         Part::LocalLength,
@@ -294,8 +329,18 @@ impl Part {
             AT_BAD_ENTRIES => Part::BadEntries,
             AT_STATES..AT_STARTS => one_of(place - AT_STATES, flat.machines(), Part::States, Part::StatesPast),
             AT_STARTS..AT_MESSAGES => one_of(place - AT_STARTS, flat.machines(), Part::Starts, Part::StartsPast),
-            AT_MESSAGES..AT_TRANSITIONS => {
+            AT_MESSAGES..AT_STARTING_LENGTHS => {
                 one_of(place - AT_MESSAGES, flat.queues(), Part::Messages, Part::MessagesPast)
+            }
+            AT_STARTING_LENGTHS..AT_STARTING => {
+                let queue = place - AT_STARTING_LENGTHS;
+                one_of(queue, flat.queues(), Part::StartingLength, Part::StartingLengthPast)
+            }
+            AT_STARTING..AT_TRANSITIONS => {
+                let (queue, index) = ((place - AT_STARTING) / STARTING, (place - AT_STARTING) % STARTING);
+                let length = usize::from(flat.starting_lengths()[queue]);
+                let of_used = one_of(index, length, Part::Starting, Part::StartingPast);
+                one_of(queue, flat.queues(), of_used, Part::StartingRoomPast)
             }
             AT_TRANSITIONS..AT_FINALS => Part::of_row(place - AT_TRANSITIONS, flat),
             AT_FINALS..AT_ARCS => one_of(place - AT_FINALS, flat.pool_states(), Part::Final, Part::FinalPast),

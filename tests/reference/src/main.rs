@@ -23,7 +23,7 @@ use reference_checker::random::Random;
 use reference_checker::read::read;
 use reference_checker::replay::replay;
 use reference_checker::selftest::{
-    selftest, selftest_expression, selftest_far, selftest_order, selftest_writing, Agreement,
+    selftest, selftest_expression, selftest_far, selftest_forms, selftest_order, selftest_writing, Agreement,
 };
 use reference_checker::stream::{put_file, put_question, put_replay, put_writing, Question, Records};
 use reference_checker::verdict::{line, Reply};
@@ -53,7 +53,7 @@ usage: reference COMMAND
   generate-expression    write the stream of texts
   expression             answer such a stream on standard input, one line a text
   coverage-expression    say what that stream hits, and which mistakes it would tell
-  selftest SEED COUNT    compare all ways to the verdict, to F, to row 9, to 16, and from a text to a pool, on random input
+  selftest SEED COUNT    compare all ways to the verdict, to F, to row 9, to either form, to 16, and from a text to a pool
   check                  check one file on standard input, by walking
   maximal                write the longest file that is read";
 
@@ -149,6 +149,12 @@ fn run(arguments: &[String]) -> Result<(), String> {
             let of_order = selftest_order(seed, count);
             println!("row 9: {} in order, {} out of order", of_order.in_order, of_order.out_of_order);
             println!("disagreements: {}", of_order.disagreements.len());
+            let of_forms = selftest_forms(seed, count);
+            println!(
+                "forms: {} read, {} of them resume, {} refused",
+                of_forms.read, of_forms.resuming, of_forms.refused
+            );
+            println!("disagreements: {}", of_forms.disagreements.len());
             let of_writing = selftest_writing(seed, count);
             println!("tables: {} of a file, {} of none", of_writing.of_a_file, of_writing.of_none);
             println!("disagreements: {}", of_writing.disagreements.len());
@@ -158,7 +164,8 @@ fn run(arguments: &[String]) -> Result<(), String> {
             println!("pools by words: {by_words}, {all_reached} of them with all states reached");
             println!("disagreements: {}", of_texts.disagreements.len());
             let others = [of_far.disagreements, of_writing.disagreements, of_texts.disagreements].concat();
-            fail_on(&[agreement.disagreements, of_order.disagreements, others].concat())
+            let of_reading = [of_order.disagreements, of_forms.disagreements].concat();
+            fail_on(&[agreement.disagreements, of_reading, others].concat())
         }
         _ => Err(USAGE.to_string()),
     }

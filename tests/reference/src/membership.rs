@@ -10,13 +10,17 @@ pub struct Member {
 }
 
 pub fn membership(file: &[u8], control_state: usize, contents: &[u8]) -> Result<Member, Refusal> {
-    let tables = read(file)?;
+    member_of(&read(file)?, control_state, contents)
+}
+
+/// The same for a file that was read.
+pub fn member_of(tables: &Tables, control_state: usize, contents: &[u8]) -> Result<Member, Refusal> {
     if control_state >= tables.control_state_count {
         return Err(Refusal { number: 11, place: 0 });
     }
-    refuse_contents(&tables, contents)?;
-    let root = root(&tables, control_state);
-    Ok(Member { belongs: accepts(&tables, root, contents), far: far(&tables, root, contents) })
+    refuse_contents(tables, contents)?;
+    let root = root(tables, control_state);
+    Ok(Member { belongs: accepts(tables, root, contents), far: far(tables, root, contents) })
 }
 
 /// 12 before 13 at each message, whether or not the diagram still has somewhere to go.

@@ -1,6 +1,7 @@
 //! Reading a session file: bytes become tables, or a refusal with a number and a place.
 //!
-//! The functions stand in the order of the document's fields 1 to 6, so the two can be read side by side.
+//! The functions stand in the order of the document's fields 1 to 6, so the two can be read side by side; what waits at the start
+//! (document 02, request 8) stands between fields 2 and 3.
 
 use std::fmt;
 
@@ -13,6 +14,8 @@ pub const MACHINE_STATES: usize = 16;
 pub const CONTROL_STATES: usize = 256;
 pub const QUEUES: usize = 4;
 pub const MESSAGES: usize = 32;
+/// Messages that a queue can start with.
+pub const STARTING: usize = 8;
 pub const TRANSITIONS: usize = 128;
 pub const WORD_LENGTH: usize = 16;
 pub const POOL_STATES: usize = 127;
@@ -78,6 +81,9 @@ pub struct Tables {
     pub queue_count: usize,
     pub messages: [u8; QUEUES],
     pub message_sum: usize,
+    /// How many messages wait in each queue at the start, and these: those of a queue from `queue * 8` on.
+    pub starting_lengths: [u8; QUEUES],
+    pub starting_messages: [u8; QUEUES * STARTING],
     pub transition_count: usize,
     pub transitions: [Transition; TRANSITIONS],
     pub pool_state_count: usize,
@@ -101,6 +107,8 @@ impl Tables {
             queue_count: 0,
             messages: [0; QUEUES],
             message_sum: 0,
+            starting_lengths: [0; QUEUES],
+            starting_messages: [0; QUEUES * STARTING],
             transition_count: 0,
             transitions: [Transition::default(); TRANSITIONS],
             pool_state_count: 0,
@@ -122,6 +130,16 @@ impl Tables {
         (0..self.queue_count)
             .find(|&queue| usize::from(message) < self.first_message(queue + 1))
             .expect("a message below the sum is in some queue")
+    }
+
+    /// What waits in a queue at the start, oldest first.
+    pub fn starting(&self, queue: usize) -> &[u8] {
+        &self.starting_messages[queue * STARTING..][..usize::from(self.starting_lengths[queue])]
+    }
+
+    /// Whether something waits at the start.
+    pub fn resumes(&self) -> bool {
+        self.starting_lengths.iter().any(|&length| length > 0)
     }
 
     pub fn used_transitions(&self) -> &[Transition] {
@@ -209,15 +227,21 @@ pub fn read_asking(bytes: &[u8], is_in_queue_order: impl Fn(&Tables) -> bool) ->
 
 /// Fields 1 to 4.
 pub(crate) fn read_up_to_pool(reader: &mut Reader, tables: &mut Tables) -> Result<(), Refusal> {
-    read_machines(reader, tables)?;
+    let resumes = read_machines(reader, tables)?;
     read_queues(reader, tables)?;
+    if resumes {
+        read_starting(reader, tables)?;
+    }
     read_transitions(reader, tables)?;
     read_pool(reader, tables)
 }
 
-/// Field 1. The product is tested at each number of states, before any starting state is read.
-fn read_machines(reader: &mut Reader, tables: &mut Tables) -> Result<(), Refusal> {
-    tables.machine_count = reader.between(1, MACHINES)?;
+/// Field 1, and whether the file resumes: a first number of 5 to 8 is that many machines less 4. The product is tested at each
+/// number of states, before any starting state is read.
+fn read_machines(reader: &mut Reader, tables: &mut Tables) -> Result<bool, Refusal> {
+    let first = reader.between(1, MACHINES + MACHINES)?;
+    let resumes = first > MACHINES;
+    tables.machine_count = if resumes { first - MACHINES } else { first };
     tables.control_state_count = 1;
     for machine in 0..tables.machine_count {
         let place = reader.place;
@@ -231,7 +255,7 @@ fn read_machines(reader: &mut Reader, tables: &mut Tables) -> Result<(), Refusal
     for machine in 0..tables.machine_count {
         tables.starts[machine] = reader.below(usize::from(tables.states[machine]))?;
     }
-    Ok(())
+    Ok(resumes)
 }
 
 /// Field 2.
@@ -245,6 +269,37 @@ fn read_queues(reader: &mut Reader, tables: &mut Tables) -> Result<(), Refusal> 
             return refuse(6, place);
         }
         tables.messages[queue] = small(messages);
+    }
+    Ok(())
+}
+
+/// What waits at the start, queue by queue, a length and so many messages. Once all are read, something does.
+fn read_starting(reader: &mut Reader, tables: &mut Tables) -> Result<(), Refusal> {
+    for queue in 0..tables.queue_count {
+        let length = reader.between(0, STARTING)?;
+        let mut messages = [0; STARTING];
+        read_word(reader, tables, queue, &mut messages[..length])?;
+        tables.starting_lengths[queue] = small(length);
+        tables.starting_messages[queue * STARTING..][..STARTING].copy_from_slice(&messages);
+    }
+    if tables.resumes() {
+        Ok(())
+    } else {
+        refuse(23, 0)
+    }
+}
+
+/// The messages of a word, all of one queue.
+#[inline]
+fn read_word(reader: &mut Reader, tables: &Tables, queue: usize, word: &mut [u8]) -> Result<(), Refusal> {
+    let of_the_queue = tables.first_message(queue)..tables.first_message(queue + 1);
+    for entry in word {
+        let place = reader.place;
+        let message = reader.below(tables.message_sum)?;
+        if !of_the_queue.contains(&usize::from(message)) {
+            return refuse(7, place);
+        }
+        *entry = message;
     }
     Ok(())
 }
@@ -270,16 +325,8 @@ fn read_transition(reader: &mut Reader, tables: &Tables) -> Result<Transition, R
     };
     transition.queue = reader.below(tables.queue_count)?;
     transition.length = small(reader.between(0, WORD_LENGTH)?);
-    let queue = usize::from(transition.queue);
-    let of_the_queue = tables.first_message(queue)..tables.first_message(queue + 1);
-    for position in 0..usize::from(transition.length) {
-        let place = reader.place;
-        let message = reader.below(tables.message_sum)?;
-        if !of_the_queue.contains(&usize::from(message)) {
-            return refuse(7, place);
-        }
-        transition.messages[position] = message;
-    }
+    let (queue, length) = (usize::from(transition.queue), usize::from(transition.length));
+    read_word(reader, tables, queue, &mut transition.messages[..length])?;
     Ok(transition)
 }
 

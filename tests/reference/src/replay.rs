@@ -135,7 +135,7 @@ impl Configuration {
     pub fn start(tables: &Tables) -> Self {
         Configuration {
             states: tables.starts[..tables.machine_count].to_vec(),
-            queues: vec![vec![]; tables.queue_count],
+            queues: (0..tables.queue_count).map(|queue| tables.starting(queue).to_vec()).collect(),
         }
     }
 

@@ -11,6 +11,7 @@ use crate::read::{
     WORD_LENGTH,
 };
 use crate::replay::{Answer, Configuration, Reply, LONGEST_TRACE, QUEUE_ROOM};
+use crate::start_features;
 use crate::stream::Replay;
 
 /// Replays of each end and refusal.
@@ -113,7 +114,8 @@ pub fn asked() -> BTreeMap<String, usize> {
     asked.extend(far_features::asked_of_replays());
     asked.extend(ENDS_OF_DISORDERED.map(|end| (of_disordered(end), OF_OTHERS)));
     asked.insert("file refused 01".to_string(), 1);
-    asked.extend((3..=10).map(|number| (file_refused(number), OF_RARE)));
+    asked.extend((3..=10).chain([23]).map(|number| (file_refused(number), OF_RARE)));
+    asked.extend(start_features::asked_of_replays());
     for length in 0..=WORD_LENGTH {
         asked.extend([Kind::Send, Kind::Receive].map(|kind| (word_of(kind, length), OF_OTHERS)));
     }
@@ -187,6 +189,7 @@ pub fn features(asked: &Replay, answer: &Answer) -> BTreeSet<String> {
         Reply::StepRefused { refusal: Refusal { number, .. }, .. } => add(&format!("refused {number}")),
     }
     if let Ok(tables) = read(&asked.file) {
+        features.extend(start_features::of_replay(&tables, &asked.trace, &answer.reply));
         features.extend(of_memory(asked, &answer.reply, &tables).into_iter().map(String::from));
         let steps = match answer.reply {
             Reply::End { steps } | Reply::Outside { steps, .. } | Reply::StepRefused { steps, .. } => Some(steps),

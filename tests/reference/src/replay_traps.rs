@@ -3,6 +3,7 @@
 
 use crate::read::{read, Kind, Reader, Refusal, Tables, Transition, MESSAGES, QUEUES, WORD_LENGTH};
 use crate::replay::{Answer, Lent, Record, Reply, LONGEST_TRACE, QUEUE_ROOM};
+use crate::starting::{starting_with, Mistaken};
 
 #[derive(Clone, Copy, Debug, PartialEq, Eq, PartialOrd, Ord)]
 pub enum ReplayTrap {
@@ -86,6 +87,20 @@ pub enum ReplayTrap {
     BeyondCountsKept,
     /// Where the start is outside, what is lent is as before the call.
     StartLeavesLent,
+    /// The queues begin with other messages than those that wait.
+    Begins(Mistaken),
+    /// They begin with as many messages, which are as they were lent.
+    BeginsAsLent,
+    /// Messages that wait from the start take no room.
+    StartTakesNoRoom,
+    /// They take it twice.
+    StartTakesRoomTwice,
+    /// A word is put before the messages that wait from the start.
+    SentBeforeTheStart,
+    /// A word is received from behind them.
+    ReceivedBehindTheStart,
+    /// Where no step is taken, the queues are left empty.
+    EmptyWithoutSteps,
 }
 
 impl ReplayTrap {
@@ -132,6 +147,24 @@ impl ReplayTrap {
         ReplayTrap::StartLeavesLent,
     ];
 
+    /// Mistakes about what waits at the start.
+    pub fn of_starting() -> impl Iterator<Item = ReplayTrap> {
+        let others = [
+            ReplayTrap::BeginsAsLent,
+            ReplayTrap::StartTakesNoRoom,
+            ReplayTrap::StartTakesRoomTwice,
+            ReplayTrap::SentBeforeTheStart,
+            ReplayTrap::ReceivedBehindTheStart,
+            ReplayTrap::EmptyWithoutSteps,
+        ];
+        Mistaken::ALL.map(ReplayTrap::Begins).into_iter().chain(others)
+    }
+
+    /// Whether a replay tells it only if something waits at the start.
+    pub fn is_of_starting(self) -> bool {
+        Self::of_starting().any(|trap| trap == self)
+    }
+
     /// Whether a trace of more or less 16,384 bytes is needed to tell it.
     pub fn is_of_long_traces(self) -> bool {
         use ReplayTrap::{LongestTraceRefused, MemoryBeforeTrace, OneMoreByteTaken, TraceBeforeFile};
@@ -157,6 +190,11 @@ pub fn replay_with(file: &[u8], trace: &[u8], lent: &Lent, trap: Option<ReplayTr
     let reply = run.reply(trace);
     if run.is(ReplayTrap::StartLeavesLent) && matches!(reply, Reply::Outside { steps: 0, .. }) {
         return Answer { reply, lent: lent.clone() };
+    }
+    if let Reply::End { steps: 0 } | Reply::Outside { steps: 0, .. } | Reply::StepRefused { steps: 0, .. } = reply {
+        if run.is(ReplayTrap::EmptyWithoutSteps) {
+            run.queues.iter_mut().for_each(Vec::clear);
+        }
     }
     let is_refused = matches!(reply, Reply::StepRefused { .. });
     Answer { reply, lent: Lent { record: run.record(&lent.record), memory: run.memory(&lent.memory, is_refused) } }
@@ -192,6 +230,8 @@ struct Run<'t> {
     trap: Option<ReplayTrap>,
     states: Vec<usize>,
     queues: Vec<Vec<u8>>,
+    /// Of these messages in each queue, how many wait from the start.
+    from_start: Vec<usize>,
     /// Messages received from each queue.
     received: Vec<usize>,
 }
@@ -205,8 +245,15 @@ impl<'t> Run<'t> {
                 usize::from(tables.starts[machine])
             }
         });
-        let queues = tables.queue_count;
-        Run { tables, trap, states: states.collect(), queues: vec![vec![]; queues], received: vec![0; queues] }
+        let mistaken = if let Some(ReplayTrap::Begins(mistaken)) = trap { Some(mistaken) } else { None };
+        let mut queues = starting_with(tables, mistaken);
+        if trap == Some(ReplayTrap::BeginsAsLent) {
+            for (queue, room) in queues.iter_mut().zip(lent.memory.chunks(QUEUE_ROOM)) {
+                *queue = room[..queue.len()].to_vec();
+            }
+        }
+        let from_start = queues.iter().map(Vec::len).collect();
+        Run { tables, trap, states: states.collect(), queues, from_start, received: vec![0; tables.queue_count] }
     }
 
     fn is(&self, trap: ReplayTrap) -> bool {
@@ -293,7 +340,10 @@ impl<'t> Run<'t> {
                 if state == 0 {
                     return (false, far);
                 }
-                state = self.tables.arcs[(usize::from(state) - 1) * MESSAGES + usize::from(message)];
+                // Memory as it was lent can hold what is no message.
+                let is_message = usize::from(message) < MESSAGES;
+                let place = (usize::from(state) - 1) * MESSAGES + usize::from(message);
+                state = if is_message { self.tables.arcs[place] } else { 0 };
                 far += usize::from(state > 0);
             }
         }
@@ -346,8 +396,10 @@ impl<'t> Run<'t> {
 
     fn begins(&self, queue: usize, word: &[u8]) -> bool {
         let up_to_end = QUEUE_ROOM - self.received[queue] % QUEUE_ROOM;
+        let behind_start = self.from_start[queue];
         let queue = &self.queues[queue];
         match self.trap {
+            Some(ReplayTrap::ReceivedBehindTheStart) => queue[behind_start..].starts_with(word),
             Some(ReplayTrap::AcrossUncompared) => {
                 queue.len() >= word.len() && queue.starts_with(&word[..word.len().min(up_to_end)])
             }
@@ -367,24 +419,36 @@ impl<'t> Run<'t> {
             Some(ReplayTrap::OneMoreTaken) => after > QUEUE_ROOM + 1,
             Some(ReplayTrap::RoomShared) => self.queues.iter().map(Vec::len).sum::<usize>() + word.len() > QUEUE_ROOM,
             Some(ReplayTrap::NothingRefused) => waiting == QUEUE_ROOM || after > QUEUE_ROOM,
+            Some(ReplayTrap::StartTakesNoRoom) => after > QUEUE_ROOM + self.from_start[queue],
+            Some(ReplayTrap::StartTakesRoomTwice) => after + self.from_start[queue] > QUEUE_ROOM,
             _ => after > QUEUE_ROOM,
         }
     }
 
     fn send(&mut self, queue: usize, word: &[u8]) {
-        let at = if self.is(ReplayTrap::SendToTheFront) { 0 } else { self.queues[queue].len() };
+        let at = match self.trap {
+            Some(ReplayTrap::SendToTheFront) => 0,
+            Some(ReplayTrap::SentBeforeTheStart) => self.queues[queue].len() - self.from_start[queue],
+            _ => self.queues[queue].len(),
+        };
         self.queues[queue].splice(at..at, word.iter().copied());
     }
 
     fn receive(&mut self, queue: usize, word: &[u8]) {
         self.received[queue] += word.len();
-        let from_back = self.is(ReplayTrap::ReceiveFromTheBack);
-        let queue = &mut self.queues[queue];
-        if from_back {
-            queue.truncate(queue.len() - word.len());
-        } else {
-            queue.drain(..word.len());
-        }
+        let (waiting, from_start) = (self.queues[queue].len(), self.from_start[queue]);
+        let at = match self.trap {
+            Some(ReplayTrap::ReceiveFromTheBack) => waiting - word.len(),
+            Some(ReplayTrap::ReceivedBehindTheStart) => from_start,
+            _ => 0,
+        };
+        self.queues[queue].drain(at..at + word.len());
+        // Those that wait from the start come first, but for the mistakes.
+        self.from_start[queue] = match self.trap {
+            Some(ReplayTrap::ReceivedBehindTheStart) => from_start,
+            Some(ReplayTrap::SentBeforeTheStart) => from_start.min(waiting - word.len()),
+            _ => from_start.saturating_sub(word.len()),
+        };
     }
 
     fn record(&self, lent: &Record) -> Record {

@@ -24,6 +24,11 @@ pub fn replay_as_read(record: &mut Record, file: &Result<Tables, Refusal>, trace
         return Reply::MemoryRefused(Refusal { number: 2, place: 0 });
     };
     *record = Record { states: tables.starts, ..Record::default() };
+    for (queue, ring) in rings.iter_mut().enumerate() {
+        let starting = tables.starting(queue);
+        ring[..starting.len()].copy_from_slice(starting);
+        record.lengths[queue] = starting.len();
+    }
     let reply = run(tables, trace, record, rings);
     for ((ring, head), &length) in rings.iter_mut().zip(&mut record.heads).zip(&record.lengths) {
         ring.rotate_left(*head);

@@ -1,17 +1,20 @@
-//! The ways to a verdict, those to row 9, those to how far contents are followed, and those to a file from tables, against each
-//! other on random small files; and those from a text to a pool, on random texts.
+//! The ways to a verdict, those to row 9, those to how far contents are followed, those to read a file that resumes, and those to a
+//! file from tables, against each other on random small files; and those from a text to a pool, on random texts.
 
 use std::collections::BTreeMap;
 
 use crate::decide::{confirm, decide};
+use crate::digest::reading_line as reply_line;
 use crate::endings::{count as count_occurrences, reached_by_words};
 use crate::expression::{expression, parse, Pool};
 use crate::expression_traps::expression_with;
 use crate::far_traps::far_of_step;
 use crate::flat::Flat;
+use crate::form_traps::read_form_with;
 use crate::generate::expression::random_texts;
 use crate::generate::reading::Generator;
 use crate::generate::replay::random_runs;
+use crate::generate::resuming_files::random_files;
 use crate::generate::verdicts::{contents_after, Plans};
 use crate::generate::writing::random_writings;
 use crate::long_words::has_long_word;
@@ -179,6 +182,38 @@ pub fn selftest_order(seed: u64, count: usize) -> OrderAgreement {
             agreement.disagreements.push(format!("by sets: {in_order}; by words: {by_words}; file {hex}"));
         }
         *if in_order { &mut agreement.in_order } else { &mut agreement.out_of_order } += 1;
+    }
+    agreement
+}
+
+#[derive(Default)]
+pub struct FormAgreement {
+    /// Files that are read, those of them that resume, and those that are refused.
+    pub read: usize,
+    pub resuming: usize,
+    pub refused: usize,
+    pub disagreements: Vec<String>,
+}
+
+/// Both forms read from left to right, and with what waits at the start taken out; most files are damaged.
+pub fn selftest_forms(seed: u64, count: usize) -> FormAgreement {
+    let mut agreement = FormAgreement::default();
+    for file in random_files(seed, count) {
+        let (reply, other) = (read(&file), read_form_with(&file, None));
+        if reply != other {
+            let hex: String = file.iter().map(|byte| format!("{byte:02x} ")).collect();
+            let replies = [reply_line(&reply), reply_line(&other)];
+            agreement
+                .disagreements
+                .push(format!("from left to right: {}; taken out: {}; file {hex}", replies[0], replies[1]));
+        }
+        match reply {
+            Err(_) => agreement.refused += 1,
+            Ok(tables) => {
+                agreement.read += 1;
+                agreement.resuming += usize::from(tables.resumes());
+            }
+        }
     }
     agreement
 }

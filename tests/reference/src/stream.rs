@@ -101,7 +101,11 @@ impl Writing {
 
     /// The tables that are written, and the product beside them.
     pub fn tables(&self) -> (Flat, usize) {
-        let mut flat = self.read();
+        self.edited(self.read())
+    }
+
+    /// The same where the file is read into other tables.
+    pub fn edited(&self, mut flat: Flat) -> (Flat, usize) {
         match &self.handed {
             Handed::Product(product) => (flat, *product),
             Handed::Edited(edits) => {

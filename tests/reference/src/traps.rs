@@ -10,6 +10,7 @@ use std::ops::Range;
 use crate::arcs::Arcs;
 use crate::diagram::follow;
 use crate::read::{Kind, Tables, Transition};
+use crate::starting::{starting_with, Mistaken};
 use crate::verdict::Verdict;
 
 #[derive(Clone, Copy, Debug, PartialEq, Eq, PartialOrd, Ord)]
@@ -80,6 +81,20 @@ pub enum Trap {
     WordsInOrderOnly,
     /// Pairs whose source leads to no final state do not count.
     DeadEndsUncounted,
+    /// The start is asked with other messages than those that wait.
+    Starts(Mistaken),
+    /// What waits at the start is inside wherever it leads.
+    StartNeedNotBeFinal,
+    /// Empty queues are to be inside at the start, too.
+    EmptyStartToo,
+    /// At the start it is enough that empty queues are inside.
+    EmptyStartEnough,
+    /// Roots of steps and bad entries are taken from behind what waits at the start.
+    WalkedFromBehindTheStart,
+    /// What waits at the start is shown before the contents.
+    StartShown,
+    /// The messages that wait at the start count as pairs.
+    StartCounted,
 }
 
 impl Trap {
@@ -125,8 +140,27 @@ impl Trap {
     /// Mistakes about words out of order, which lead to no final state.
     pub const OF_QUEUE_ORDER: [Trap; 2] = [Trap::WordsInOrderOnly, Trap::DeadEndsUncounted];
 
+    /// Mistakes about what waits at the start.
+    pub fn of_starting() -> impl Iterator<Item = Trap> {
+        let others = [
+            Trap::StartNeedNotBeFinal,
+            Trap::EmptyStartToo,
+            Trap::EmptyStartEnough,
+            Trap::WalkedFromBehindTheStart,
+            Trap::StartShown,
+            Trap::StartCounted,
+        ];
+        Mistaken::ALL.map(Trap::Starts).into_iter().chain(others)
+    }
+
+    /// Whether a file tells it only if something waits at its start.
+    pub fn is_of_starting(self) -> bool {
+        Self::of_starting().any(|trap| trap == self)
+    }
+
     pub fn all() -> impl Iterator<Item = Trap> {
-        Self::OF_ALL_WORDS.into_iter().chain(Self::OF_LONG_WORDS).chain(Self::OF_QUEUE_ORDER)
+        let of_steps = Self::OF_ALL_WORDS.into_iter().chain(Self::OF_LONG_WORDS).chain(Self::OF_QUEUE_ORDER);
+        of_steps.chain(Self::of_starting())
     }
 }
 
@@ -212,6 +246,30 @@ impl<'t> Judge<'t> {
         usize::from(self.tables.roots[control_state]).checked_sub(1)
     }
 
+    /// Where the walk of an item begins.
+    fn walked_from(&self, control_state: usize) -> Option<usize> {
+        let root = self.root(control_state);
+        if self.is(Trap::WalkedFromBehindTheStart) {
+            return follow(self.tables, root, &starting_with(self.tables, None).concat());
+        }
+        root
+    }
+
+    fn starts_inside(&self, control_state: usize) -> bool {
+        let mistaken = self.trap.and_then(|trap| if let Trap::Starts(mistaken) = trap { Some(mistaken) } else { None });
+        let is_inside = |word: &[u8]| {
+            let end = follow(self.tables, self.root(control_state), word);
+            end.is_some_and(|state| self.tables.finals[state] || self.is(Trap::StartNeedNotBeFinal))
+        };
+        let waiting = starting_with(self.tables, mistaken).concat();
+        match self.trap {
+            Some(Trap::StartUntested) => true,
+            Some(Trap::EmptyStartToo) => is_inside(&waiting) && is_inside(&[]),
+            Some(Trap::EmptyStartEnough) => is_inside(&waiting) || is_inside(&[]),
+            _ => is_inside(&waiting),
+        }
+    }
+
     fn items(&self) -> Vec<Item<'t>> {
         let tables = self.tables;
         let mut steps = Vec::new();
@@ -245,18 +303,31 @@ impl<'t> Judge<'t> {
         let tables = self.tables;
         let start =
             (0..tables.machine_count).map(|machine| usize::from(tables.starts[machine]) * self.weight(machine)).sum();
-        if !self.is(Trap::StartUntested) && !self.root(start).is_some_and(|root| tables.finals[root]) {
+        if !self.starts_inside(start) {
             return Verdict::Outside;
+        }
+        let waiting = starting_with(tables, None).concat();
+        let shown = |contents: Vec<u8>, is_after_start: bool| {
+            if is_after_start {
+                [&waiting[..], &contents].concat()
+            } else {
+                contents
+            }
+        };
+        if self.is(Trap::StartCounted) {
+            self.pairs += waiting.len();
         }
         for item in self.items() {
             match item {
                 Item::Step { control_state, number, transition } => {
                     if let Some(Found { contents, far, .. }) = self.leaving(control_state, transition) {
+                        let contents = shown(contents, self.is(Trap::StartShown));
                         return Verdict::Leaves { control_state, transition: number, contents, far };
                     }
                 }
                 Item::Bad { entry } => {
                     if let Some(Found { contents, .. }) = self.bad(entry) {
+                        let contents = shown(contents, self.is(Trap::StartShown));
                         return Verdict::Bad { entry, contents };
                     }
                 }
@@ -266,10 +337,10 @@ impl<'t> Judge<'t> {
     }
 
     fn leaving(&mut self, control_state: usize, transition: &'t Transition) -> Option<Found> {
-        let source = self.root(control_state)?;
+        let source = self.walked_from(control_state)?;
         let weight = self.weight(usize::from(transition.machine));
         let next = control_state + usize::from(transition.to) * weight - usize::from(transition.from) * weight;
-        let target = self.root(next);
+        let target = self.walked_from(next);
         if target.is_none() && self.is(Trap::RootlessTargetHolds) {
             return None;
         }
@@ -292,7 +363,7 @@ impl<'t> Judge<'t> {
 
     fn bad(&mut self, entry: usize) -> Option<Found> {
         let entry = self.tables.bad[entry];
-        let source = self.root(usize::from(entry.control_state))?;
+        let source = self.walked_from(usize::from(entry.control_state))?;
         let root = usize::from(entry.root);
         let target = if self.is(Trap::BadRootWithOneAdded) { root.checked_sub(1) } else { Some(root) };
         let search =

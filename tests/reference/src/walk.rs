@@ -41,8 +41,7 @@ pub fn check(file: &[u8], scratch: &mut Scratch) -> Reply {
 }
 
 pub fn check_tables(tables: &Tables, scratch: &mut Scratch) -> Verdict {
-    let start = start_control_state(tables);
-    if tables.roots[start] == 0 || !tables.finals[usize::from(tables.roots[start]) - 1] {
+    if !starts_inside(tables) {
         return Verdict::Outside;
     }
     let mut pairs = 0;
@@ -66,6 +65,18 @@ pub fn check_tables(tables: &Tables, scratch: &mut Scratch) -> Verdict {
         }
     }
     Verdict::Closed { pairs }
+}
+
+/// What waits at the start is followed from the root there, queue after queue.
+fn starts_inside(tables: &Tables) -> bool {
+    let mut arc = usize::from(tables.roots[start_control_state(tables)]);
+    for queue in 0..tables.queue_count {
+        for &message in tables.starting(queue) {
+            let Some(state) = arc.checked_sub(1) else { return false };
+            arc = usize::from(tables.arcs[state * MESSAGES + usize::from(message)]);
+        }
+    }
+    arc > 0 && tables.finals[arc - 1]
 }
 
 fn start_control_state(tables: &Tables) -> usize {

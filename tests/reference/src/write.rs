@@ -1,4 +1,4 @@
-//! Writing tables as a session file, from request 5 and from what document 01 says of each field.
+//! Writing tables as a session file, from requests 5 and 8 and from what document 01 says of each field.
 //!
 //! Whether some file is read into the tables is asked of each entry, in the order of the document's fields 1 to 6; nothing
 //! is written or read for that. `writing_traps` with no mistake set goes the other way: it writes, reads, and compares.
@@ -9,7 +9,7 @@ use crate::flat::{Flat, KIND, LENGTH, QUEUE, WORD};
 use crate::order::in_queue_order;
 use crate::read::{
     refuse, Refusal, Tables, BAD_ENTRIES, CONTROL_STATES, MACHINES, MACHINE_STATES, MESSAGES, POOL_STATES, QUEUES,
-    TRANSITIONS, WORD_LENGTH,
+    STARTING, TRANSITIONS, WORD_LENGTH,
 };
 
 pub const NO_FILE: u8 = 16;
@@ -57,6 +57,16 @@ pub enum Fault {
     /// The sum in the tables is not that of the messages.
     SumIsAnother,
     MessagesPast,
+    /// A queue starts with more messages than it can.
+    StartingLength,
+    /// It starts with a message that is not below the sum.
+    StartingMessage,
+    /// It starts with a message below the sum that is of another queue.
+    StartingOfAnotherQueue,
+    /// A message behind those that it starts with.
+    StartingPast,
+    StartingLengthsPast,
+    StartingRoomsPast,
     Transitions,
     Machine,
     From,
@@ -90,7 +100,7 @@ pub enum Fault {
 }
 
 impl Fault {
-    pub const ALL: [Fault; 39] = [
+    pub const ALL: [Fault; 45] = [
         Fault::Machines,
         Fault::States,
         Fault::ProductPasses,
@@ -103,6 +113,12 @@ impl Fault {
         Fault::SumPasses,
         Fault::SumIsAnother,
         Fault::MessagesPast,
+        Fault::StartingLength,
+        Fault::StartingMessage,
+        Fault::StartingOfAnotherQueue,
+        Fault::StartingPast,
+        Fault::StartingLengthsPast,
+        Fault::StartingRoomsPast,
         Fault::Transitions,
         Fault::Machine,
         Fault::From,
@@ -149,6 +165,7 @@ fn find_faults(flat: &Flat, product: usize, found: impl FnMut(Fault)) {
     let mut judge = Judge { flat, found };
     judge.field_1(product);
     judge.field_2();
+    judge.starting();
     judge.field_3();
     judge.field_4();
     judge.field_5();
@@ -206,6 +223,36 @@ impl<F: FnMut(Fault)> Judge<'_, F> {
         self.ask_all_zero(past, Fault::MessagesPast);
     }
 
+    /// What waits at the start, of each queue; where nothing does, all of this is 0.
+    fn starting(&mut self) {
+        let flat = self.flat;
+        let queues = flat.queues().min(QUEUES);
+        let (lengths, past) = flat.starting_lengths().split_at(queues);
+        for (queue, (&length, room)) in lengths.iter().zip(flat.starting()).enumerate() {
+            let length = self.count(usize::from(length), 0, STARTING, Fault::StartingLength);
+            let (word, past) = room.split_at(length);
+            self.word(queue, word, Fault::StartingMessage, Fault::StartingOfAnotherQueue);
+            self.ask_all_zero(past, Fault::StartingPast);
+        }
+        self.ask_all_zero(past, Fault::StartingLengthsPast);
+        for room in flat.starting().skip(queues) {
+            self.ask_all_zero(room, Fault::StartingRoomsPast);
+        }
+    }
+
+    /// The messages of a word are below the sum, and of their queue. In no queue, a message can only be asked whether it is one.
+    fn word(&mut self, queue: usize, word: &[u8], no_message: Fault, of_another: Fault) {
+        let flat = self.flat;
+        let queues = flat.queues().min(QUEUES);
+        let sum = first_message(flat, queues);
+        let of_the_queue =
+            if queue < queues { first_message(flat, queue)..first_message(flat, queue + 1) } else { 0..sum };
+        for message in word.iter().map(|&message| usize::from(message)) {
+            self.ask(message < sum, no_message);
+            self.ask(message >= sum || of_the_queue.contains(&message), of_another);
+        }
+    }
+
     fn field_3(&mut self) {
         let flat = self.flat;
         let transitions = self.count(flat.transitions(), 0, TRANSITIONS, Fault::Transitions);
@@ -238,19 +285,10 @@ impl<F: FnMut(Fault)> Judge<'_, F> {
     }
 
     fn sent_or_received(&mut self, queue: usize, length: usize, word: &[u8]) {
-        let flat = self.flat;
-        let queues = flat.queues().min(QUEUES);
-        let sum = first_message(flat, queues);
-        self.ask(queue < queues, Fault::Queue);
-        // In no queue, a message can only be asked whether it is one.
-        let of_the_queue =
-            if queue < queues { first_message(flat, queue)..first_message(flat, queue + 1) } else { 0..sum };
+        self.ask(queue < self.flat.queues().min(QUEUES), Fault::Queue);
         let length = self.count(length, 0, WORD_LENGTH, Fault::Length);
         let (word, past) = word.split_at(length);
-        for message in word.iter().map(|&message| usize::from(message)) {
-            self.ask(message < sum, Fault::Message);
-            self.ask(message >= sum || of_the_queue.contains(&message), Fault::MessageOfAnotherQueue);
-        }
+        self.word(queue, word, Fault::Message, Fault::MessageOfAnotherQueue);
         self.ask_all_zero(past, Fault::WordPast);
     }
 
@@ -329,11 +367,19 @@ impl Written {
     }
 
     fn fields_1_and_2(&mut self, flat: &Flat) {
-        self.number(flat.machines() as u8);
+        let resumes = flat.starting_lengths().iter().any(|&length| length > 0);
+        let first = flat.machines() + if resumes { MACHINES } else { 0 };
+        self.number(first as u8);
         self.numbers(&flat.states()[..flat.machines()]);
         self.numbers(&flat.starts()[..flat.machines()]);
         self.number(flat.queues() as u8);
         self.numbers(&flat.messages()[..flat.queues()]);
+        if resumes {
+            for (&length, room) in flat.starting_lengths().iter().zip(flat.starting()).take(flat.queues()) {
+                self.number(length);
+                self.numbers(&room[..usize::from(length)]);
+            }
+        }
     }
 
     fn field_3(&mut self, flat: &Flat) {

@@ -2,7 +2,7 @@
 
 use std::collections::{BTreeMap, BTreeSet};
 
-use crate::flat::{Flat, Part, AT_FINALS, AT_TRANSITIONS, KIND, ROW};
+use crate::flat::{Flat, Part, AT_FINALS, AT_STARTING, AT_TRANSITIONS, KIND, ROW};
 use crate::order_features::places_out_of_order;
 use crate::read::{read, Refusal};
 use crate::stream::{Edit, Handed, Writing};
@@ -22,16 +22,20 @@ const OF_EACH_PART: usize = 10;
 const OF_EACH_ENTRY: usize = 4;
 /// Writings in which some fault is the only one: those that a writer blind to it would take.
 const OF_EACH_FAULT: usize = 6;
+/// Writings in which a message that waits, or the room for one, is changed.
+const OF_EACH_WAITING: usize = 3;
 /// Writings of the longest file, which are long.
 const OF_LONGEST: usize = 2;
 
 /// Parts of which one changed entry can make the tables of another file.
-const CHANGEABLE: [Part; 17] = [
+const CHANGEABLE: [Part; 19] = [
     Part::Transitions,
     Part::PoolStates,
     Part::BadEntries,
     Part::States,
     Part::Starts,
+    Part::StartingLength,
+    Part::Starting,
     Part::Machine,
     Part::From,
     Part::To,
@@ -77,6 +81,9 @@ pub fn asked() -> BTreeMap<String, usize> {
             "written from all 0",
             "edits that make right again",
             "wrote, arcs out of order where it does not matter",
+            "the new form written",
+            "the new form written back",
+            "the first form written back beside the new one",
         ],
     );
     ask(
@@ -87,6 +94,8 @@ pub fn asked() -> BTreeMap<String, usize> {
             "127 pool states written",
             "root 126 of the map written",
             "control state 127 written",
+            "the new form written of a file of the first",
+            "the first form written of a file of the new",
         ],
     );
     ask(OF_LONGEST, &["the longest file written", "refused 17, the longest file"]);
@@ -97,8 +106,9 @@ pub fn asked() -> BTreeMap<String, usize> {
         asked.extend(Part::UNUSED.map(|part| (end_changed(part, end), OF_EACH_ENTRY)));
     }
     for change in CHANGES {
-        asked.extend((0..AT_TRANSITIONS).map(|place| (small_entry(place, change), OF_EACH_ENTRY)));
+        asked.extend((0..AT_STARTING).map(|place| (small_entry(place, change), OF_EACH_ENTRY)));
     }
+    asked.extend((AT_STARTING..AT_TRANSITIONS).map(|place| (waiting_entry(place), OF_EACH_WAITING)));
     for row in ROWS {
         asked.extend((0..ROW).map(|column| (column_changed(column, row), OF_EACH_ENTRY)));
     }
@@ -119,6 +129,10 @@ fn end_changed(part: Part, end: &str) -> String {
 
 fn small_entry(place: usize, change: &str) -> String {
     format!("only entry {place:02} changed: {change}")
+}
+
+fn waiting_entry(place: usize) -> String {
+    format!("only entry {place:02} changed")
 }
 
 fn column_changed(column: usize, row: &str) -> String {
@@ -186,7 +200,13 @@ fn of_file(asked: &Writing, flat: &Flat, is_written: bool) -> impl Iterator<Item
     let file = file_of(flat);
     let is_read = read(&asked.file).is_ok();
     let entries = tables.used_bad_entries();
+    let resumed = read(&asked.file).is_ok_and(|tables| tables.resumes());
     [
+        ("the new form written", tables.resumes()),
+        ("the new form written back", tables.resumes() && file == asked.file),
+        ("the first form written back beside the new one", !tables.resumes() && file == asked.file),
+        ("the new form written of a file of the first", is_read && tables.resumes() && !resumed),
+        ("the first form written of a file of the new", is_read && !tables.resumes() && resumed),
         ("written back", file == asked.file),
         ("another file", is_read && file != asked.file),
         ("written from all 0", !is_read),
@@ -230,7 +250,10 @@ fn of_one_edit(flat: &Flat, edit: Edit, reply: &str) -> Vec<String> {
     let mut features = vec![changed(part, reply)];
     let is_end = part.ends_at(edit.place, flat);
     features.extend(ENDS.iter().zip(is_end).filter(|(_, is)| *is).map(|(end, _)| end_changed(part, end)));
-    if edit.place < AT_TRANSITIONS {
+    if (AT_STARTING..AT_TRANSITIONS).contains(&edit.place) {
+        features.push(waiting_entry(edit.place));
+    }
+    if edit.place < AT_STARTING {
         let ways =
             [before.checked_add(1), before.checked_sub(1), Some(0), Some(255)].map(|value| value == Some(edit.value));
         features.extend(CHANGES.iter().zip(ways).filter(|(_, is)| *is).map(|(way, _)| small_entry(edit.place, way)));

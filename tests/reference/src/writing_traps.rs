@@ -1,13 +1,12 @@
 //! Wrong writers on purpose. With no trap set this is another way to write: the tables are taken as they are and listed as
 //! numbers, their file is read back, and all entries of what was read are compared with those handed in.
 
-use crate::flat::{Flat, Part, AT_ARCS, AT_FINALS, KIND, LENGTH, QUEUE, SPACE, WORD};
+use crate::flat::{Flat, Part, AT_ARCS, AT_FINALS, SPACE};
 use crate::generate::draft::{encode, Role};
+use crate::listing::Lister;
 use crate::order_traps::{read_with, OrderTrap};
-use crate::read::{
-    read, read_asking, refuse, Refusal, Tables, BAD_ENTRIES, CONTROL_STATES, MACHINES, MESSAGES, POOL_STATES, QUEUES,
-    TRANSITIONS, WORD_LENGTH,
-};
+use crate::read::{read, read_asking, refuse, Refusal, Tables};
+use crate::write::{faults, Fault};
 
 #[derive(Clone, Copy, Debug, PartialEq, Eq, PartialOrd, Ord)]
 pub enum WritingTrap {
@@ -87,7 +86,61 @@ pub enum WritingTrap {
     PlaceIsTheEnd,
     /// The reply is the length of the buffer.
     BufferLengthReplied,
+    /// The new form is written though all queues start empty.
+    NewFormAlways,
+    /// The first form is written though something waits.
+    FirstFormAlways,
+    /// The new form is written if the first queue does not start empty.
+    FirstQueueDecides,
+    /// The new form is written if the last queue does not start empty.
+    LastQueueDecides,
+    /// The new form is written if no queue starts empty.
+    EveryQueueDecides,
+    /// The first number is that of the machines in the new form, too.
+    MachinesAsTheyAre,
+    /// In the new form only the first number is another.
+    StartLeftOut,
+    /// All lengths stand before all messages.
+    LengthsWrittenFirst,
+    /// Of every queue eight messages are written behind its length.
+    WholeRoomsWritten,
+    /// What waits is written from its end.
+    StartBackwards,
+    /// The last queue's is written first.
+    QueuesBackwards,
+    /// Messages that wait are counted from the first of their queue.
+    StartOfTheirQueue,
+    /// What waits in the last queue is left out, with its length.
+    LastQueueLeftOut,
+    /// What waits stands behind field 3.
+    StartBehindField3,
+    /// What waits stands before field 2.
+    StartBeforeField2,
+    /// Tables that have this fault alone are written.
+    Taken(Fault),
 }
+
+/// Those about what waits at the start that are one each.
+const OF_STARTING: [WritingTrap; 15] = [
+    WritingTrap::NewFormAlways,
+    WritingTrap::FirstFormAlways,
+    WritingTrap::FirstQueueDecides,
+    WritingTrap::LastQueueDecides,
+    WritingTrap::EveryQueueDecides,
+    WritingTrap::MachinesAsTheyAre,
+    WritingTrap::StartLeftOut,
+    WritingTrap::LengthsWrittenFirst,
+    WritingTrap::WholeRoomsWritten,
+    WritingTrap::StartBackwards,
+    WritingTrap::QueuesBackwards,
+    WritingTrap::StartOfTheirQueue,
+    WritingTrap::LastQueueLeftOut,
+    WritingTrap::StartBehindField3,
+    WritingTrap::StartBeforeField2,
+];
+
+/// What is wrong with what waits and not asked.
+const TAKEN: [Fault; 3] = [Fault::StartingLength, Fault::StartingMessage, Fault::StartingOfAnotherQueue];
 
 /// Those about which words count. The others of `OrderTrap` are about the place of 9, which writing does not tell.
 const OF_ORDER: [OrderTrap; 12] = [
@@ -151,13 +204,15 @@ impl WritingTrap {
     }
 
     pub fn all() -> impl Iterator<Item = WritingTrap> {
-        let of_roles = Role::ALL.into_iter().flat_map(|role| [WritingTrap::OneLess(role), WritingTrap::OneMore(role)]);
+        let of_roles = Role::all().flat_map(|role| [WritingTrap::OneLess(role), WritingTrap::OneMore(role)]);
         let of_two_bytes = [Role::Transitions, Role::BadControlState].map(WritingTrap::OneByteFrom128);
         of_roles
             .chain(of_two_bytes)
             .chain(Part::UNUSED.map(WritingTrap::Unseen))
             .chain(OF_ORDER.map(WritingTrap::Order))
             .chain(PLAIN)
+            .chain(OF_STARTING)
+            .chain(TAKEN.map(WritingTrap::Taken))
     }
 }
 
@@ -197,7 +252,7 @@ impl ReadBack {
 /// Larger files are read in one way only: their arcs are searched plainly.
 pub const SMALL_FILE: usize = 300;
 /// The longest file that is read.
-pub const LONGEST_WRITTEN: usize = 11_664;
+pub const LONGEST_WRITTEN: usize = 11_700;
 
 struct Writer<'g> {
     given: &'g ReadBack,
@@ -255,6 +310,9 @@ impl Writer<'_> {
 
     /// Whether the file without a mistake is read, and into just these tables.
     fn is_of_a_file(&self) -> bool {
+        if let Some(WritingTrap::Taken(fault)) = self.trap {
+            return faults(&self.given.flat, self.given.product).into_iter().all(|found| found == fault);
+        }
         let file = &self.given.file;
         let read_again = match self.trap {
             Some(WritingTrap::OrderUnasked) => read_asking(file, |_| true).ok(),
@@ -296,159 +354,6 @@ impl Writer<'_> {
             (Some(WritingTrap::HighGroupFirst), &[low, high]) => vec![high, low],
             (Some(WritingTrap::TopBitLeftOut), &[low, high]) => vec![low % 128, high],
             (_, encoded) => encoded.to_vec(),
-        }
-    }
-}
-
-/// Lists the numbers of a file, whatever the tables hold. Where a count passes its table, the table ends the list.
-struct Lister<'t> {
-    flat: &'t Flat,
-    trap: Option<WritingTrap>,
-    numbers: Vec<(Role, usize)>,
-}
-
-impl<'t> Lister<'t> {
-    fn listed(flat: &'t Flat, trap: Option<WritingTrap>) -> Vec<(Role, usize)> {
-        let mut lister = Lister { flat, trap, numbers: Vec::new() };
-        lister.machines();
-        lister.queues();
-        lister.transitions();
-        lister.pool();
-        if lister.is(WritingTrap::MapLast) {
-            lister.bad_list();
-            lister.map();
-        } else {
-            lister.map();
-            lister.bad_list();
-        }
-        lister.numbers
-    }
-
-    fn is(&self, trap: WritingTrap) -> bool {
-        self.trap == Some(trap)
-    }
-
-    fn put(&mut self, role: Role, number: impl Into<usize>) {
-        self.numbers.push((role, number.into()));
-    }
-
-    fn machines(&mut self) {
-        self.put(Role::Machines, self.flat.machines());
-        let used = self.flat.machines().min(MACHINES);
-        let pairs: Vec<(u8, u8)> =
-            self.flat.states()[..used].iter().copied().zip(self.flat.starts().iter().copied()).collect();
-        if self.is(WritingTrap::StartsBesideStates) {
-            for (states, start) in pairs {
-                self.put(Role::States, states);
-                self.put(Role::Start, start);
-            }
-            return;
-        }
-        pairs.iter().for_each(|&(states, _)| self.put(Role::States, states));
-        pairs.iter().for_each(|&(_, start)| self.put(Role::Start, start));
-    }
-
-    fn queues(&mut self) {
-        self.put(Role::Queues, self.flat.queues());
-        if self.is(WritingTrap::SumWritten) {
-            self.put(Role::Messages, self.flat.sum());
-        }
-        for &messages in &self.flat.messages()[..self.flat.queues().min(QUEUES)] {
-            self.put(Role::Messages, messages);
-        }
-    }
-
-    fn transitions(&mut self) {
-        self.put(Role::Transitions, self.flat.transitions());
-        for row in self.flat.rows().take(self.flat.transitions().min(TRANSITIONS)) {
-            self.transition(row);
-        }
-    }
-
-    fn transition(&mut self, row: &[u8]) {
-        let (from, to) = if self.is(WritingTrap::FromAndToExchanged) { (row[2], row[1]) } else { (row[1], row[2]) };
-        self.put(Role::Machine, row[0]);
-        self.put(Role::From, from);
-        self.put(Role::To, to);
-        let kind = match (row[KIND], self.trap) {
-            (kind @ (1 | 2), Some(WritingTrap::KindsExchanged)) => 3 - kind,
-            (_, Some(WritingTrap::EmptyWordIsLocal)) if row[LENGTH] == 0 => 0,
-            (kind, _) => kind,
-        };
-        self.put(Role::Kind, kind);
-        if kind == 0 && !self.is(WritingTrap::LocalGoesOn) {
-            return;
-        }
-        self.put(Role::Queue, row[QUEUE]);
-        let length = usize::from(row[LENGTH]);
-        let length = match self.trap {
-            Some(WritingTrap::FourMessages) => length.min(4),
-            Some(WritingTrap::SixteenAreNone) => length % WORD_LENGTH,
-            _ => length,
-        };
-        self.put(Role::WordLength, length);
-        let before: usize =
-            self.flat.messages().iter().take(usize::from(row[QUEUE])).map(|&messages| usize::from(messages)).sum();
-        let counted_from = if self.is(WritingTrap::MessagesOfTheirQueue) { before } else { 0 };
-        for &message in &row[WORD..][..length.min(WORD_LENGTH)] {
-            self.put(Role::WordMessage, usize::from(message).saturating_sub(counted_from));
-        }
-    }
-
-    fn pool(&mut self) {
-        self.put(Role::PoolStates, self.flat.pool_states());
-        let used = self.flat.pool_states().min(POOL_STATES);
-        let marks_first = self.is(WritingTrap::MarksFirst);
-        if marks_first {
-            self.flat.finals()[..used].iter().for_each(|&mark| self.put(Role::Final, mark));
-        }
-        for (&mark, arcs) in self.flat.finals().iter().zip(self.flat.arcs()).take(used) {
-            if !marks_first {
-                self.put(Role::Final, mark);
-            }
-            self.arcs(arcs);
-        }
-    }
-
-    fn arcs(&mut self, arcs: &[u8]) {
-        let all = &arcs[..self.flat.sum().min(MESSAGES)];
-        let mut listed: Vec<(usize, u8)> = all.iter().copied().enumerate().collect();
-        if self.is(WritingTrap::MissingArcsWritten) {
-            listed.iter_mut().for_each(|(_, arc)| *arc = (*arc).max(1));
-        }
-        listed.retain(|&(_, arc)| arc > 0);
-        if self.is(WritingTrap::ArcsDescending) {
-            listed.reverse();
-        }
-        self.put(Role::Arcs, listed.len());
-        for (message, arc) in listed {
-            let [message, target] = [(Role::ArcMessage, message), (Role::ArcTarget, usize::from(arc - 1))];
-            let in_turn = if self.is(WritingTrap::TargetsFirst) { [target, message] } else { [message, target] };
-            self.numbers.extend(in_turn);
-        }
-    }
-
-    fn map(&mut self) {
-        let product = self.flat.product().min(CONTROL_STATES);
-        let count = match self.trap {
-            Some(WritingTrap::RootsEndWithTheLast) => {
-                self.flat.roots()[..product].iter().rposition(|&root| root > 0).map_or(0, |last| last + 1)
-            }
-            Some(WritingTrap::AllRootsWritten) => CONTROL_STATES,
-            _ => product,
-        };
-        self.flat.roots()[..count].iter().for_each(|&root| self.put(Role::Root, root));
-    }
-
-    fn bad_list(&mut self) {
-        self.put(Role::BadEntries, self.flat.bad_entries());
-        for entry in self.flat.bad().take(self.flat.bad_entries().min(BAD_ENTRIES)) {
-            let in_turn = [(Role::BadControlState, usize::from(entry[0])), (Role::BadRoot, usize::from(entry[1]))];
-            self.numbers.extend(in_turn);
-            if self.is(WritingTrap::BadRootsFirst) {
-                let last = self.numbers.len() - 1;
-                self.numbers.swap(last - 1, last);
-            }
         }
     }
 }

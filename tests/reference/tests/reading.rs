@@ -57,14 +57,22 @@ fn file_s() {
     assert_eq!(tables(S), expected);
 }
 
+/// R with two messages waiting, and S with 0 in its first queue and 1 1 1 in its second.
+const R_WITH_TWO: &str =
+    "06 01 01 00 00 01 01 02 00 00 02 00 00 00 01 00 01 00 01 00 00 02 00 01 00 01 01 01 00 00 01 00";
+const S_WITH_BOTH: &str =
+    "05 01 00 02 01 01 01 00 03 01 01 01 01 00 00 00 01 00 01 00 02 01 02 00 00 01 01 01 01 01 01 01 00";
+
 /// Worked outside of this crate from the order of the entries.
 #[test]
 fn digests() {
-    assert_eq!(digest(&Tables::empty()), 8_480_086);
-    assert_eq!(digest(&tables(R)), 7_818_593);
-    assert_eq!(digest(&tables(S)), 2_108_461);
-    assert_eq!(reading_line(&read(&hex(S))), "read 1 1 2 2 1 2 0 2108461");
-    assert_eq!(reading_line(&read(&[])), "refused 3 at 0 8480086");
+    assert_eq!(digest(&Tables::empty()), 14_297_238);
+    assert_eq!(digest(&tables(R)), 4_145_412);
+    assert_eq!(digest(&tables(S)), 11_614_945);
+    assert_eq!(digest(&tables(R_WITH_TWO)), 12_624_223);
+    assert_eq!(digest(&tables(S_WITH_BOTH)), 6_252_122);
+    assert_eq!(reading_line(&read(&hex(S))), "read 1 1 2 2 1 2 0 11614945");
+    assert_eq!(reading_line(&read(&[])), "refused 3 at 0 14297238");
 }
 
 #[test]
@@ -315,7 +323,9 @@ fn generated_files_are_refused_as_they_were_made() {
     let has_13 = |tables: Tables| tables.used_transitions().iter().any(|transition| transition.length == 13);
     generator.cases.retain(|case| case.kind != "row 5: a word of 17" && !read(&case.bytes).is_ok_and(has_13));
     generator.cases.retain(|case| case.kind != "row 9: before 10");
-    let complaints = reading_coverage(&generator).complaints;
+    let mut complaints = reading_coverage(&generator).complaints;
+    // A file that resumes may have had such a word.
+    complaints.retain(|complaint| !complaint.starts_with("start: a length"));
     let asked = [
         "a word of 13 is hit only 0 times",
         "row 5: a word of 17 is hit only 0 times",

@@ -436,10 +436,18 @@ fn generated_replays_hit_everything() {
     let coverage = replay_coverage(&cases);
     assert!(coverage.complaints.is_empty(), "{}", coverage.complaints.join("\n"));
     // Without the replays made for full and wrapped queues and for long traces their features are missed.
-    cases.retain(|case| !["full", "wrapped", "16,38"].iter().any(|part| case.kind.contains(part)));
+    cases.retain(|case| !["full", "wrapped", "16,38", "sent behind"].iter().any(|part| case.kind.contains(part)));
     let complaints = replay_coverage(&cases).complaints.join("\n");
-    for missed in ["refused 15", "a queue of 1,024", "across", "trace refused 1", "OneMoreTaken", "LongestTraceRefused"]
-    {
+    for missed in [
+        "refused 15",
+        "a queue of 1,024",
+        "across",
+        "trace refused 1",
+        "OneMoreTaken",
+        "LongestTraceRefused",
+        "a queue of 1,024 with messages from the start",
+        "StartTakesNoRoom",
+    ] {
         assert!(complaints.contains(missed), "not asked: {missed}");
     }
 }

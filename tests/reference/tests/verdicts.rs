@@ -250,8 +250,11 @@ fn the_last_items_of_all() {
 #[test]
 fn the_longest_file_is_read() {
     let longest = large::longest(&mut Random::new(1)).bytes();
-    assert_eq!(longest.len(), 11_664);
+    assert_eq!(longest.len(), 11_700);
     assert!(read(&longest).is_ok());
+    let fresh = large::longest_fresh(&mut Random::new(1)).bytes();
+    assert_eq!(fresh.len(), 11_664);
+    assert!(read(&fresh).is_ok());
     let of_one_queue = large::maximal_closed(&mut Random::new(1)).bytes();
     assert_eq!(of_one_queue.len(), 11_661);
     assert!(read(&of_one_queue).is_ok());

@@ -33,11 +33,11 @@ fn flat_of_r() -> Flat {
         (0, &[2, 1, 1, 2, 1, 0]),
         (6, &[1, 1]),
         (14, &[1]),
-        (18, &[0, 0, 0, 1, 0, 1, 0]),
-        (18 + 22, &[1, 0, 0, 2, 0, 1, 0]),
-        (2834, &[1]),
-        (2961, &[1]),
-        (7025, &[1]),
+        (54, &[0, 0, 0, 1, 0, 1, 0]),
+        (54 + 22, &[1, 0, 0, 2, 0, 1, 0]),
+        (2870, &[1]),
+        (2997, &[1]),
+        (7061, &[1]),
     ])
 }
 
@@ -46,11 +46,11 @@ fn flat_of_s() -> Flat {
         (0, &[1, 2, 2, 1, 2, 0]),
         (6, &[1]),
         (14, &[1, 1]),
-        (18, &[0, 0, 0, 1, 0, 1, 0]),
-        (2834, &[1, 1]),
-        (2961, &[1, 2]),
-        (2961 + 32, &[0, 2]),
-        (7025, &[1]),
+        (54, &[0, 0, 0, 1, 0, 1, 0]),
+        (2870, &[1, 1]),
+        (2997, &[1, 2]),
+        (2997 + 32, &[0, 2]),
+        (7061, &[1]),
     ])
 }
 
@@ -88,7 +88,7 @@ fn bytes_past_the_file_are_kept() {
 
 #[test]
 fn no_file_comes_before_too_short() {
-    let damaged = with(&flat_of_r(), &[(7281, 1)]);
+    let damaged = with(&flat_of_r(), &[(7317, 1)]);
     for length in [0, 28, 29, 20_000] {
         assert_eq!(written(&damaged, length), (NO_FILE, vec![9; length]));
         assert_eq!(written(&Flat::zero(), length), (NO_FILE, vec![9; length]));
@@ -112,32 +112,32 @@ fn each_fault_in_r() {
         (12, 1, Fault::StartsPast),
         (13, 255, Fault::StartsPast),
         (15, 1, Fault::MessagesPast),
-        (18, 2, Fault::Machine),
-        (19, 1, Fault::From),
-        (20, 1, Fault::To),
-        (21, 3, Fault::Kind),
-        (21, 0, Fault::LocalLength),
-        (22, 1, Fault::Queue),
-        (23, 17, Fault::Length),
-        (23, 255, Fault::Length),
-        (24, 1, Fault::Message),
-        (25, 1, Fault::WordPast),
-        (39, 1, Fault::WordPast),
-        (62, 1, Fault::RowPast),
-        (2833, 1, Fault::RowPast),
-        (2834, 2, Fault::Final),
-        (2835, 1, Fault::FinalPast),
-        (2960, 1, Fault::FinalPast),
-        (2961, 2, Fault::Target),
-        (2962, 1, Fault::ArcPastSum),
-        (2992, 1, Fault::ArcPastSum),
-        (2993, 1, Fault::ArcPast),
-        (7024, 1, Fault::ArcPast),
-        (7025, 2, Fault::Root),
-        (7026, 1, Fault::RootPast),
-        (7280, 1, Fault::RootPast),
-        (7281, 1, Fault::BadPast),
-        (7408, 1, Fault::BadPast),
+        (54, 2, Fault::Machine),
+        (55, 1, Fault::From),
+        (56, 1, Fault::To),
+        (57, 3, Fault::Kind),
+        (57, 0, Fault::LocalLength),
+        (58, 1, Fault::Queue),
+        (59, 17, Fault::Length),
+        (59, 255, Fault::Length),
+        (60, 1, Fault::Message),
+        (61, 1, Fault::WordPast),
+        (75, 1, Fault::WordPast),
+        (98, 1, Fault::RowPast),
+        (2869, 1, Fault::RowPast),
+        (2870, 2, Fault::Final),
+        (2871, 1, Fault::FinalPast),
+        (2996, 1, Fault::FinalPast),
+        (2997, 2, Fault::Target),
+        (2998, 1, Fault::ArcPastSum),
+        (3028, 1, Fault::ArcPastSum),
+        (3029, 1, Fault::ArcPast),
+        (7060, 1, Fault::ArcPast),
+        (7061, 2, Fault::Root),
+        (7062, 1, Fault::RootPast),
+        (7316, 1, Fault::RootPast),
+        (7317, 1, Fault::BadPast),
+        (7444, 1, Fault::BadPast),
     ];
     for (place, value, fault) in alone {
         let damaged = with(&flat_of_r(), &[(place, value)]);
@@ -164,15 +164,15 @@ fn faults_of_several_entries() {
     assert_eq!(of(&r, &[(2, 33), (14, 33)]), [Fault::Messages, Fault::SumPasses]);
     assert_eq!(of(&r, &[(1, 2), (2, 33), (14, 32), (15, 1)]), [Fault::SumPasses]);
     // The first transition of R becomes local entry by entry.
-    assert_eq!(of(&r, &[(21, 0), (22, 1), (23, 0), (30, 5)]), [Fault::LocalQueue, Fault::LocalWord]);
-    assert_eq!(of(&r, &[(21, 0), (23, 0)]), []);
+    assert_eq!(of(&r, &[(57, 0), (58, 1), (59, 0), (66, 5)]), [Fault::LocalQueue, Fault::LocalWord]);
+    assert_eq!(of(&r, &[(57, 0), (59, 0)]), []);
     // In S message 1 is of queue 1, and with an arc for 0 behind it 1 0 is accepted, unless no root leads there.
-    assert_eq!(of(&s, &[(24, 1)]), [Fault::MessageOfAnotherQueue]);
-    assert_eq!(of(&s, &[(22, 1)]), [Fault::MessageOfAnotherQueue]);
-    assert_eq!(of(&s, &[(22, 1), (24, 1)]), []);
-    assert_eq!(of(&s, &[(2993, 1)]), [Fault::OutOfOrder]);
-    assert_eq!(of(&s, &[(2993, 1), (7025, 0)]), []);
-    assert_eq!(of(&s, &[(2993, 1), (7025, 0), (5, 1)]), [Fault::OutOfOrder]);
+    assert_eq!(of(&s, &[(60, 1)]), [Fault::MessageOfAnotherQueue]);
+    assert_eq!(of(&s, &[(58, 1)]), [Fault::MessageOfAnotherQueue]);
+    assert_eq!(of(&s, &[(58, 1), (60, 1)]), []);
+    assert_eq!(of(&s, &[(3029, 1)]), [Fault::OutOfOrder]);
+    assert_eq!(of(&s, &[(3029, 1), (7061, 0)]), []);
+    assert_eq!(of(&s, &[(3029, 1), (7061, 0), (5, 1)]), [Fault::OutOfOrder]);
 }
 
 #[test]
@@ -192,13 +192,13 @@ fn other_entries_are_other_files() {
     let steps = "00 00 00 01 00 01 00 01 00 00 02 00 01 00";
     let pool = "01 01 01 00 00";
     for (edit, file) in [
-        ((23, 2), format!("{before_pool} 02 00 00 00 01 00 02 00 00 01 00 00 02 00 01 00 {pool} 01 00")),
+        ((59, 2), format!("{before_pool} 02 00 00 00 01 00 02 00 00 01 00 00 02 00 01 00 {pool} 01 00")),
         ((3, 3), format!("{before_pool} 03 {steps} 00 00 00 00 {pool} 01 00")),
         ((5, 1), format!("{before_pool} 02 {steps} {pool} 01 01 00 00")),
         ((4, 2), format!("{before_pool} 02 {steps} 02 01 01 00 00 00 00 01 00")),
-        ((2834, 0), format!("{before_pool} 02 {steps} 01 00 01 00 00 01 00")),
-        ((2961, 0), format!("{before_pool} 02 {steps} 01 01 00 01 00")),
-        ((7025, 0), format!("{before_pool} 02 {steps} {pool} 00 00")),
+        ((2870, 0), format!("{before_pool} 02 {steps} 01 00 01 00 00 01 00")),
+        ((2997, 0), format!("{before_pool} 02 {steps} 01 01 00 01 00")),
+        ((7061, 0), format!("{before_pool} 02 {steps} {pool} 00 00")),
     ] {
         let (file, damaged) = (hex(&file), with(&flat_of_r(), &[edit]));
         assert_eq!(written(&damaged, file.len()), (Ok(file.len()), file), "{edit:?}");
@@ -208,10 +208,10 @@ fn other_entries_are_other_files() {
 #[test]
 fn numbers_from_128_on_take_two_bytes() {
     // One machine of 16 states and one of 16, 128 local transitions, 127 states without arcs, four bad entries.
-    let mut tables = flat(&[(0, &[2, 1, 1, 128, 127, 4]), (6, &[16, 16]), (14, &[1]), (7025, &[127, 0, 126])]);
+    let mut tables = flat(&[(0, &[2, 1, 1, 128, 127, 4]), (6, &[16, 16]), (14, &[1]), (7061, &[127, 0, 126])]);
     for (entry, (control_state, root)) in [(127, 126), (128, 0), (255, 1), (0, 125)].into_iter().enumerate() {
-        tables.0[7281 + 2 * entry] = control_state;
-        tables.0[7282 + 2 * entry] = root;
+        tables.0[7317 + 2 * entry] = control_state;
+        tables.0[7318 + 2 * entry] = root;
     }
     let mut file = hex("02 10 10 00 00 01 01 80 01");
     file.extend([0; 4 * 128]);
@@ -255,7 +255,7 @@ fn entry_by_entry_and_reading_back_agree() {
 
 #[test]
 fn entries_are_of_their_parts() {
-    let r = with(&flat_of_r(), &[(21, 0), (23, 0), (5, 1)]);
+    let r = with(&flat_of_r(), &[(57, 0), (59, 0), (5, 1)]);
     for (place, part) in [
         (0, Part::Machines),
         (5, Part::BadEntries),
@@ -265,28 +265,28 @@ fn entries_are_of_their_parts() {
         (12, Part::StartsPast),
         (14, Part::Messages),
         (15, Part::MessagesPast),
-        (22, Part::LocalQueue),
-        (23, Part::LocalLength),
-        (24, Part::LocalWord),
-        (40 + 4, Part::Queue),
-        (40 + 6, Part::Word),
-        (40 + 7, Part::WordPast),
-        (62, Part::RowPast),
-        (2834, Part::Final),
-        (2835, Part::FinalPast),
-        (2961, Part::Arc),
-        (2962, Part::ArcPastSum),
-        (2993, Part::ArcPast),
-        (7025, Part::Root),
-        (7026, Part::RootPast),
-        (7281, Part::BadControlState),
-        (7282, Part::BadRoot),
-        (7283, Part::BadPast),
+        (58, Part::LocalQueue),
+        (59, Part::LocalLength),
+        (60, Part::LocalWord),
+        (76 + 4, Part::Queue),
+        (76 + 6, Part::Word),
+        (76 + 7, Part::WordPast),
+        (98, Part::RowPast),
+        (2870, Part::Final),
+        (2871, Part::FinalPast),
+        (2997, Part::Arc),
+        (2998, Part::ArcPastSum),
+        (3029, Part::ArcPast),
+        (7061, Part::Root),
+        (7062, Part::RootPast),
+        (7317, Part::BadControlState),
+        (7318, Part::BadRoot),
+        (7319, Part::BadPast),
     ] {
         assert_eq!(Part::of(place, &r), part, "{place}");
     }
-    assert_eq!(Part::RowPast.ends_at(62, &r), [true, false]);
-    assert_eq!(Part::BadPast.ends_at(7408, &r), [false, true]);
+    assert_eq!(Part::RowPast.ends_at(98, &r), [true, false]);
+    assert_eq!(Part::BadPast.ends_at(7444, &r), [false, true]);
 }
 
 #[test]
@@ -300,12 +300,12 @@ fn mistakes_change_what_is_worked_by_hand() {
     assert!(changes(&r, 30, WritingTrap::ByteAfterCleared) && !changes(&r, 29, WritingTrap::ByteAfterCleared));
     assert!(changes(&r, 29, WritingTrap::ExactRefused) && !changes(&r, 30, WritingTrap::ExactRefused));
     assert!(changes(&r, 28, WritingTrap::OneShortTaken) && !changes(&r, 27, WritingTrap::OneShortTaken));
-    let damaged = with(&r, &[(7408, 1)]);
+    let damaged = with(&r, &[(7444, 1)]);
     assert!(changes(&damaged, 29, WritingTrap::Unseen(Part::BadPast)));
     assert!(!changes(&damaged, 29, WritingTrap::Unseen(Part::RootPast)));
     assert!(changes(&damaged, 28, WritingTrap::SeventeenFirst) && !changes(&damaged, 29, WritingTrap::SeventeenFirst));
     assert!(changes(&with(&r, &[(2, 2)]), 29, WritingTrap::SumUnseen));
-    assert!(changes(&with(&flat_of_s(), &[(2993, 1)]), 40, WritingTrap::OrderUnasked));
+    assert!(changes(&with(&flat_of_s(), &[(3029, 1)]), 40, WritingTrap::OrderUnasked));
 }
 
 #[test]
@@ -325,10 +325,10 @@ fn streams_of_writings_are_read_back() {
 #[test]
 fn writings_are_put_as_the_page_says() {
     let mut stream = Vec::new();
-    let edits = vec![Edit { place: 7_408, value: 3 }, Edit { place: 1, value: 2 }];
+    let edits = vec![Edit { place: 7_444, value: 3 }, Edit { place: 1, value: 2 }];
     let edited = Writing { file: vec![5], buffer_length: 20_000, buffer_from: 250, handed: Handed::Edited(edits) };
     put_writing(&mut stream, &edited);
-    assert_eq!(stream, [1, 0, 0, 5, 10, 0, 0, 0x20, 0x4e, 250, 0, 0xf0, 0x1c, 3, 1, 0, 2]);
+    assert_eq!(stream, [1, 0, 0, 5, 10, 0, 0, 0x20, 0x4e, 250, 0, 0x14, 0x1d, 3, 1, 0, 2]);
     assert_eq!(edited.buffer()[..3], [250, 1, 8]);
     stream.clear();
     put_writing(&mut stream, &Writing { handed: Handed::Product(65_538), ..edited });
@@ -336,7 +336,7 @@ fn writings_are_put_as_the_page_says() {
     for (broken, why) in [
         (vec![0, 0, 0, 4, 0, 0, 1, 0, 0, 2], "mode 2"),
         (vec![0, 0, 0, 5, 0, 0, 1, 0, 0, 0, 4], "inside a record"),
-        (vec![0, 0, 0, 7, 0, 0, 1, 0, 0, 0, 0xf1, 0x1c, 3], "place 7409"),
+        (vec![0, 0, 0, 7, 0, 0, 1, 0, 0, 0, 0x15, 0x1d, 3], "place 7445"),
         (vec![0, 0, 0, 8, 0, 0, 1, 0, 0, 1, 0, 0, 0, 0], "1 bytes are left"),
     ] {
         let complaint = Records(&broken).writing().expect("bytes are left").expect_err(why);

@@ -154,6 +154,7 @@ fn session() -> Plan {
         roots: vec![Some(0); states.iter().product()],
         states,
         queues: vec![ROUND; QUEUES],
+        starting: vec![],
         transitions,
         pool,
         bad: vec![],

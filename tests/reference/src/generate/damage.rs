@@ -15,7 +15,7 @@ impl Generator {
         let length = full.len();
         full.resize(longest, 0);
         self.refused("row 1 not yet: 16,384 bytes", full.clone(), 10, length);
-        self.refused("row 1 not yet: 16,384 bytes", vec![5; longest], 5, 0);
+        self.refused("row 1 not yet: 16,384 bytes", vec![5; longest], 5, 2);
         self.refused("row 1 not yet: 16,384 bytes", vec![255; longest], 4, 0);
         full.push(0);
         self.refused("row 1: 16,385 bytes", full, 1, longest);
@@ -38,7 +38,7 @@ impl Generator {
             }
         }
         // A beginning that ends inside a two-byte number, for each role.
-        for role in Role::ALL {
+        for role in Role::OF_EVERY_FILE {
             for _ in 0..4 {
                 let (draft, position) = self.draft_with(role);
                 let mut bytes = draft.bytes();
@@ -53,7 +53,7 @@ impl Generator {
     }
 
     pub(super) fn row_4(&mut self) {
-        for role in Role::ALL {
+        for role in Role::OF_EVERY_FILE {
             for round in 0..10 {
                 let (draft, position) = self.draft_with(role);
                 let place = draft.place(position);
@@ -71,7 +71,7 @@ impl Generator {
     }
 
     pub(super) fn row_5(&mut self) {
-        for role in Role::ALL {
+        for role in Role::OF_EVERY_FILE {
             for _ in 0..12 {
                 let (draft, position) = self.draft_with(role);
                 let past = draft.numbers[position].most + 1;

@@ -41,7 +41,7 @@ pub fn cases() -> Vec<Worked> {
         worked("g", s_with("00 00 00 02 01 01 01", S_POOL), "closed 3"),
         worked("h", vec![], "refused 3 at 0"),
         worked("i", [&[0x82, 0], r_after_first].concat(), "refused 4 at 0"),
-        worked("j", [&[5], r_after_first].concat(), "refused 5 at 0"),
+        worked("j", [&[5], r_after_first].concat(), "refused 5 at 2"),
         worked("k", [&r[..], &[0]].concat(), "refused 10 at 29"),
         worked("l", r_before_last.to_vec(), "refused 3 at 28"),
         worked("m", s_with(S_TRANSITION, "01 01 02 00 00 01 00"), "refused 9 at 23"),

@@ -10,6 +10,9 @@ pub enum Role {
     Start,
     Queues,
     Messages,
+    /// Of a file that resumes.
+    StartingLength,
+    StartingMessage,
     Transitions,
     Machine,
     From,
@@ -30,7 +33,8 @@ pub enum Role {
 }
 
 impl Role {
-    pub const ALL: [Role; 22] = [
+    /// Those of files of either form.
+    pub const OF_EVERY_FILE: [Role; 22] = [
         Role::Machines,
         Role::States,
         Role::Start,
@@ -54,6 +58,13 @@ impl Role {
         Role::BadControlState,
         Role::BadRoot,
     ];
+
+    /// Those of what waits at the start.
+    pub const OF_STARTING: [Role; 2] = [Role::StartingLength, Role::StartingMessage];
+
+    pub fn all() -> impl Iterator<Item = Role> {
+        Self::OF_EVERY_FILE.into_iter().chain(Self::OF_STARTING)
+    }
 }
 
 impl fmt::Display for Role {

@@ -44,6 +44,7 @@ impl Scene {
             roots: vec![None; states.iter().product()],
             states,
             queues,
+            starting: vec![],
             transitions: vec![],
             pool: vec![PlannedState { is_final: true, arcs: BTreeMap::new() }],
             bad: vec![],

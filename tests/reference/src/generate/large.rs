@@ -15,9 +15,16 @@ pub fn maximal_closed(random: &mut Random) -> Plan {
     maximal_closed_with_words(random, WORD_LENGTH)
 }
 
-/// The longest file that is read: with four queues it has three bytes more. Every state has an arc for every message and none
-/// is final, so that the test of queue order visits every state in every way, and finds nothing.
+/// The longest file that is read: all queues start with as many messages as can wait.
 pub fn longest(random: &mut Random) -> Plan {
+    let mut longest = longest_fresh(random);
+    longest.starting = (0..QUEUES).map(|queue| longest.messages_of(queue).collect()).collect();
+    longest
+}
+
+/// The longest file that starts with empty queues: with four of them it has three bytes more. Every state has an arc for every
+/// message and none is final, so that the test of queue order visits every state in every way, and finds nothing.
+pub fn longest_fresh(random: &mut Random) -> Plan {
     let of_a_queue = MESSAGES / QUEUES;
     let mut longest = maximal_closed(random);
     longest.queues = vec![of_a_queue; QUEUES];
@@ -57,6 +64,7 @@ fn maximal_with_machines(random: &mut Random, states: Vec<usize>, moving: usize,
         starts: vec![0; states.len()],
         states,
         queues: vec![MESSAGES],
+        starting: vec![],
         transitions,
         pool,
         roots: (0..CONTROL_STATES).map(|control_state| Some(control_state % accepting)).collect(),
@@ -110,6 +118,7 @@ pub fn dense(random: &mut Random, step: StepOf) -> Plan {
         states: vec![2],
         starts: vec![0],
         queues: vec![MESSAGES],
+        starting: vec![],
         transitions: one_step(0, 1, action),
         pool,
         roots: vec![Some(0), Some(1)],
@@ -140,6 +149,7 @@ pub fn receive_behind_a_queue(random: &mut Random, length: usize) -> Plan {
         states: vec![2],
         starts: vec![0],
         queues: vec![messages, MESSAGES - messages],
+        starting: vec![],
         transitions: one_step(0, 1, Some(Action { direction: Direction::Receive, queue: 1, word })),
         pool,
         roots: vec![Some(0), Some(1)],
@@ -166,6 +176,7 @@ pub fn with_holes(random: &mut Random, step: StepOf, percent_missing: usize) -> 
         states: vec![3],
         starts: vec![0],
         queues: vec![MESSAGES],
+        starting: vec![],
         transitions: one_step(1, 2, action),
         pool,
         roots: vec![Some(POOL_STATES - 1), Some(0), Some(1)],
@@ -184,6 +195,7 @@ pub fn longest_test_of_order(random: &mut Random) -> Plan {
         states: vec![1],
         starts: vec![0],
         queues: vec![MESSAGES / QUEUES; QUEUES],
+        starting: vec![],
         transitions: vec![],
         pool,
         roots: vec![Some(0)],
@@ -209,6 +221,7 @@ pub fn many_dense_steps(random: &mut Random) -> Plan {
         states: vec![4],
         starts: vec![3],
         queues: vec![MESSAGES],
+        starting: vec![],
         transitions,
         pool: all_arcs(random, POOL_STATES),
         roots: vec![Some(0), Some(1), Some(125), Some(126)],
@@ -230,6 +243,7 @@ fn at_the_ends(last_sent: usize) -> Plan {
         states: vec![16, 16, 1],
         starts: vec![0, 0, 0],
         queues: vec![2],
+        starting: vec![],
         transitions: (0..TRANSITIONS)
             .map(|number| PlannedTransition {
                 machine: 2,
@@ -280,6 +294,7 @@ pub fn long_local_leaves() -> Plan {
         states: vec![3],
         starts: vec![0],
         queues: vec![1],
+        starting: vec![],
         transitions: one_step(1, 2, None),
         pool,
         roots: vec![Some(target), Some(source), Some(target)],
@@ -305,6 +320,7 @@ pub fn long_send_leaves() -> Plan {
         states: vec![3],
         starts: vec![0],
         queues: vec![1, 1],
+        starting: vec![],
         transitions: one_step(1, 2, Some(action)),
         pool,
         roots: vec![Some(target), Some(source), Some(target)],

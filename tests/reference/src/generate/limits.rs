@@ -1,6 +1,6 @@
 //! Replays at the limits of a trace and of the memory, and those of files that are refused.
 
-use super::reading::{reading_cases, Expected};
+use super::reading::{fresh_reading_cases, Expected};
 use super::replay::Generator;
 use super::row_9::refused_about_order;
 use super::running::Style;
@@ -76,7 +76,7 @@ impl Generator {
     pub(super) fn refused_files(&mut self, seed: u64) {
         let mut taken = [0; 11];
         let (_, long_trace, _) = self.long_walk(LONGEST_TRACE + 1, 10);
-        for case in reading_cases(seed + 5).cases.into_iter().rev() {
+        for case in fresh_reading_cases(seed + 5).cases.into_iter().rev() {
             let Expected::Refused(number, place) = case.expected else { continue };
             let count = &mut taken[usize::from(number)];
             let enough = if number == 1 { 2 } else { 20 };

@@ -4,14 +4,14 @@
 use std::collections::BTreeMap;
 
 use super::plan::{
-    random_direction, random_long_length, random_plan, random_transition, Action, Direction, Plan, PlannedState,
+    fresh_plan, random_direction, random_long_length, random_transition, Action, Direction, Plan, PlannedState,
     PlannedTransition, Shape,
 };
 use crate::random::Random;
 
 /// A random plan in which some transitions have long words.
 pub fn along_arcs(random: &mut Random, shape: &Shape) -> Plan {
-    let mut plan = random_plan(random, shape);
+    let mut plan = fresh_plan(random, shape);
     for _ in 0..random.between(1, 3) {
         let length = random_long_length(random);
         let transition = transition_along_arcs(random, &plan, length);
@@ -120,6 +120,7 @@ fn without_pool(random: &mut Random) -> Plan {
         starts: vec![0; states.len()],
         states,
         queues: (0..random.between(1, 4).min(3)).map(|_| random.between(1, 3)).collect(),
+        starting: vec![],
         transitions: vec![],
         pool: vec![PlannedState { is_final: true, arcs: BTreeMap::new() }],
         roots: vec![],

@@ -4,13 +4,15 @@ use std::ops::Range;
 
 use super::disorder::{add_some_harmless, alive, Harmless};
 use super::document;
-use super::plan::{random_plan, Plan, Shape};
-use super::reading::{reading_cases, Expected, Generator};
+use super::plan::{fresh_plan, Plan, Shape};
+use super::reading::{fresh_reading_cases, Expected, Generator};
+use super::resuming_files::form_files;
 use super::row_9::refused_about_order;
 use super::verdicts::{contents_after, Plans};
 use crate::membership::Member;
 use crate::random::Random;
 use crate::read::Refusal;
+use crate::start_features::ENOUGH_OF_FORM;
 use crate::stream::Question;
 use crate::verdict::Verdict;
 use crate::walk::control_state_after;
@@ -43,6 +45,10 @@ pub enum Purpose {
     Long,
     /// Contents that are followed so far.
     Far(usize),
+    /// Contents asked of a file that resumes.
+    Waiting,
+    /// A file of either form, and what refuses it.
+    OfEitherForm(Option<Refusal>),
 }
 
 /// What questions about files that are out of order can be.
@@ -75,7 +81,7 @@ pub fn questions(seed: u64) -> Vec<(Purpose, Question)> {
     let mut random = Random::new(seed);
     let mut questions = document_questions();
     for _ in 0..200 {
-        let plan = random_plan(&mut random, &Shape::SMALL);
+        let plan = fresh_plan(&mut random, &Shape::SMALL);
         questions.extend(on_the_way(&mut random, &plan));
         questions.push(in_order(&mut random, &plan));
         questions.push(control_state_too_high(&mut random, &plan));
@@ -86,12 +92,13 @@ pub fn questions(seed: u64) -> Vec<(Purpose, Question)> {
     questions.extend(about_order(seed));
     questions.extend(refused_files(&mut random, seed));
     questions.extend(about_far(seed));
+    questions.extend(about_start(seed));
     questions
 }
 
 /// Files that are out of order somewhere: where it does not matter, or along a word that a root accepts.
 fn about_order(seed: u64) -> Vec<(Purpose, Question)> {
-    let mut files = Generator::new(seed + 7);
+    let mut files = Generator::fresh(seed + 7);
     let mut random = Random::new(seed + 9);
     let mut questions = vec![];
     for round in 0..100 {
@@ -111,10 +118,10 @@ fn about_order(seed: u64) -> Vec<(Purpose, Question)> {
 /// Contents that are lost at every place, and those of hundreds and thousands of messages.
 fn about_far(seed: u64) -> Vec<(Purpose, Question)> {
     let mut random = Random::new(seed + 11);
-    let mut plans = Plans::new(seed + 11);
+    let mut plans = Plans::fresh(seed + 11);
     let mut questions = vec![];
     for round in 0..240 {
-        let plan = random_plan(&mut random, &Shape::SMALL);
+        let plan = fresh_plan(&mut random, &Shape::SMALL);
         // Half of them have all the queues that such plans can have.
         if round % 2 == 0 || plan.queues.len() == Shape::SMALL.queues {
             questions.extend(lost_on_the_way(&mut random, &plan));
@@ -135,6 +142,45 @@ fn about_far(seed: u64) -> Vec<(Purpose, Question)> {
     }
     questions.extend((0..6).map(|_| lost_soon(&mut random)));
     questions
+}
+
+/// What waits at the start is asked of files that resume, and so are other contents: it has no part in the answer. And files of
+/// either form.
+fn about_start(seed: u64) -> Vec<(Purpose, Question)> {
+    let mut plans = Plans::resuming(seed + 17);
+    let mut questions = vec![];
+    for _ in 0..48 {
+        let plan = plans.any();
+        let waiting = plan.starting.concat();
+        let start = plan.start();
+        questions.push((Purpose::Waiting, about(&plan, start, &waiting)));
+        questions.push((Purpose::Waiting, about(&plan, start, &[])));
+        questions.extend(behind(&mut plans.random, &plan, waiting).map(|asked| (Purpose::Waiting, asked)));
+        let other = along(&mut plans.random, &plan, |last, queue| last <= queue);
+        questions.extend(other.map(|asked| (Purpose::Waiting, asked)));
+        questions.push((Purpose::Waiting, in_order(&mut plans.random, &plan).1));
+    }
+    for (file, refusal) in form_files(seed + 16, ENOUGH_OF_FORM, Clone::clone) {
+        questions.push((Purpose::OfEitherForm(refusal), Question { file, control_state: 0, contents: vec![] }));
+    }
+    questions
+}
+
+/// Some contents at the start and more behind them, along arcs as far as these go.
+fn behind(random: &mut Random, plan: &Plan, mut contents: Vec<usize>) -> Option<Question> {
+    let (start, more) = (plan.start(), random.between(1, 3));
+    let step = |state: usize, message: &usize| plan.pool[state].arcs.get(message).copied();
+    let mut state = contents.iter().try_fold(plan.roots[start]?, step);
+    for _ in 0..more {
+        let queue = contents.last().map_or(0, |&message| plan.queue_of(message));
+        let in_order: Vec<usize> = (plan.messages_of(queue).start..plan.message_sum()).collect();
+        let arcs = state.map_or(vec![], |state| plan.pool[state].arcs.keys().copied().collect::<Vec<usize>>());
+        let along: Vec<usize> = in_order.iter().copied().filter(|message| arcs.contains(message)).collect();
+        let message = *random.pick(&along).or_else(|| random.pick(&in_order))?;
+        state = state.and_then(|state| step(state, &message));
+        contents.push(message);
+    }
+    Some(about(plan, start, &contents))
 }
 
 /// One message that a root has an arc for, to a state that is not final if there is one.
@@ -338,7 +384,7 @@ fn no_root(random: &mut Random, plan: &Plan) -> Option<(Purpose, Question)> {
 fn refused_files(random: &mut Random, seed: u64) -> Vec<(Purpose, Question)> {
     let mut asked = [0; 11];
     let mut questions = Vec::new();
-    for case in reading_cases(seed).cases.into_iter().rev() {
+    for case in fresh_reading_cases(seed).cases.into_iter().rev() {
         let Expected::Refused(number, _) = case.expected else { continue };
         let count = &mut asked[usize::from(number)];
         let enough = if number == 1 { 2 } else { 15 };

@@ -6,6 +6,7 @@ use std::collections::BTreeMap;
 
 use super::plan::{Plan, PlannedState};
 use super::replay::Generator;
+use super::resume::resume;
 use super::running::Style;
 use super::traces::{Ending, Walk, Waves};
 use crate::random::Random;
@@ -95,6 +96,9 @@ impl Generator {
         let (mut plan, _, _) = self.plan_of(Style { most_states: 3, is_wide: false, ..style });
         let spoilt = Spoilt::random(&mut self.random, plan.queues.len(), is_with_few);
         spoil(&mut self.random, &mut plan, spoilt);
+        if self.resuming > 0 && self.random.chance(self.resuming) {
+            resume(&mut self.random, &mut plan);
+        }
         let file = plan.bytes();
         let tables = read(&file).expect("plans are valid");
         let mut walk = Walk::new(&tables);
@@ -119,7 +123,7 @@ fn spoil(random: &mut Random, plan: &mut Plan, spoilt: Spoilt) {
         }
         Spoilt::Circle(queue) => Some(add_circle(random, plan, queue)),
     };
-    let start = plan.starts.iter().zip(&plan.states).fold(0, |number, (start, states)| number * states + start);
+    let start = plan.start();
     let others: Vec<usize> = (0..plan.roots.len()).filter(|&control_state| control_state != start).collect();
     let least = random.pick(&others).copied();
     for control_state in others {

@@ -3,6 +3,7 @@
 use std::collections::BTreeMap;
 
 use super::draft::{Draft, Role};
+use super::resume::resume;
 use crate::long_words::LONG_WORD;
 use crate::random::Random;
 use crate::read;
@@ -42,6 +43,8 @@ pub struct Plan {
     pub starts: Vec<usize>,
     /// Messages of each queue.
     pub queues: Vec<usize>,
+    /// What waits in each queue at the start; none for queues that are not listed.
+    pub starting: Vec<Vec<usize>>,
     pub transitions: Vec<PlannedTransition>,
     pub pool: Vec<PlannedState>,
     pub roots: Vec<Option<usize>>,
@@ -74,23 +77,43 @@ impl Plan {
         first..first + self.queues[queue]
     }
 
+    /// Whether something waits at the start.
+    pub fn resumes(&self) -> bool {
+        self.starting.iter().any(|queue| !queue.is_empty())
+    }
+
+    /// The number of the control state that the session starts in.
+    pub fn start(&self) -> usize {
+        self.starts.iter().zip(&self.states).fold(0, |number, (start, states)| number * states + start)
+    }
+
     pub fn bytes(&self) -> Vec<u8> {
         self.draft().bytes()
     }
 
     /// The numbers of the file with their ranges.
     pub fn draft(&self) -> Draft {
+        self.draft_of_form(self.resumes())
+    }
+
+    /// The same in the form that says what waits at the start, or in the other one.
+    pub fn draft_of_form(&self, resumes: bool) -> Draft {
         let mut draft = Draft::default();
-        self.draft_machines(&mut draft);
+        self.draft_machines(&mut draft, resumes);
         self.draft_queues(&mut draft);
+        if resumes {
+            self.draft_starting(&mut draft);
+        }
         self.draft_transitions(&mut draft);
         self.draft_pool(&mut draft);
         self.draft_map(&mut draft);
         draft
     }
 
-    fn draft_machines(&self, draft: &mut Draft) {
-        draft.push(Role::Machines, self.states.len(), 1, read::MACHINES);
+    fn draft_machines(&self, draft: &mut Draft, resumes: bool) {
+        let most = read::MACHINES;
+        let first = self.states.len() + if resumes { most } else { 0 };
+        draft.push(Role::Machines, first, 1, most + most);
         for &states in &self.states {
             draft.push(Role::States, states, 1, read::MACHINE_STATES);
         }
@@ -103,6 +126,16 @@ impl Plan {
         draft.push(Role::Queues, self.queues.len(), 1, read::QUEUES);
         for &messages in &self.queues {
             draft.push(Role::Messages, messages, 1, read::MESSAGES);
+        }
+    }
+
+    fn draft_starting(&self, draft: &mut Draft) {
+        for queue in 0..self.queues.len() {
+            let messages = self.starting.get(queue).map_or(&[][..], |messages| messages);
+            draft.push(Role::StartingLength, messages.len(), 0, read::STARTING);
+            for &message in messages {
+                draft.push_index(Role::StartingMessage, message, self.message_sum());
+            }
         }
     }
 
@@ -191,14 +224,27 @@ fn lean(random: &mut Random, least: usize, most: usize) -> usize {
     }
 }
 
-/// A plan within a shape. Its file is always read.
+/// Of a hundred random plans so many resume.
+pub const RESUMING: usize = 25;
+
+/// A plan within a shape. Its file is always read. In some plans something waits at the start.
 pub fn random_plan(random: &mut Random, shape: &Shape) -> Plan {
+    let mut plan = fresh_plan(random, shape);
+    if random.chance(RESUMING) {
+        resume(random, &mut plan);
+    }
+    plan
+}
+
+/// The same, and nothing waits at the start.
+pub fn fresh_plan(random: &mut Random, shape: &Shape) -> Plan {
     let states = random_states(random, shape);
     let starts = states.iter().map(|&states| lean(random, 0, states - 1)).collect();
     let mut plan = Plan {
         states,
         starts,
         queues: random_queues(random, shape),
+        starting: Vec::new(),
         transitions: Vec::new(),
         pool: Vec::new(),
         roots: Vec::new(),

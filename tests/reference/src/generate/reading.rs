@@ -7,9 +7,10 @@ use std::collections::BTreeMap;
 
 use super::document;
 use super::draft::{Draft, Role};
-use super::large::{longest, maximal_closed};
+use super::large::{longest_fresh, maximal_closed};
 use super::long::transition_along_arcs;
-use super::plan::{random_plan, Plan, Shape};
+use super::plan::{fresh_plan, Plan, Shape, RESUMING};
+use super::resume::resume;
 use crate::random::Random;
 use crate::read;
 
@@ -30,13 +31,29 @@ pub struct Case {
 
 pub struct Generator {
     pub(super) random: Random,
+    /// Of a hundred plans so many resume.
+    pub(super) resuming: usize,
     pub cases: Vec<Case>,
     /// How many valid files have some number of a role at an end of its range.
     pub at_limit: BTreeMap<(Role, &'static str), usize>,
 }
 
 pub fn reading_cases(seed: u64) -> Generator {
+    let mut generator = fresh_reading_cases(seed);
+    generator.resuming_files();
+    generator
+}
+
+/// Those that resume, and those beside them.
+pub(super) fn resuming_reading_cases(seed: u64) -> Generator {
     let mut generator = Generator::new(seed);
+    generator.resuming_files();
+    generator
+}
+
+/// Those made before request 8, whose queues start empty.
+pub(super) fn fresh_reading_cases(seed: u64) -> Generator {
+    let mut generator = Generator::fresh(seed);
     generator.document_files();
     generator.valid_files();
     generator.valid_words();
@@ -56,7 +73,12 @@ pub fn reading_cases(seed: u64) -> Generator {
 
 impl Generator {
     pub(crate) fn new(seed: u64) -> Self {
-        Generator { random: Random::new(seed), cases: Vec::new(), at_limit: BTreeMap::new() }
+        Generator { random: Random::new(seed), resuming: RESUMING, cases: Vec::new(), at_limit: BTreeMap::new() }
+    }
+
+    /// One whose plans start with empty queues.
+    pub(super) fn fresh(seed: u64) -> Self {
+        Generator { resuming: 0, ..Generator::new(seed) }
     }
 
     pub(super) fn add(&mut self, kind: impl Into<String>, bytes: Vec<u8>, expected: Expected) {
@@ -91,7 +113,11 @@ impl Generator {
     }
 
     pub(super) fn plan_of_shape(&mut self, shape: &Shape) -> Plan {
-        random_plan(&mut self.random, shape)
+        let mut plan = fresh_plan(&mut self.random, shape);
+        if self.resuming > 0 && self.random.chance(self.resuming) {
+            resume(&mut self.random, &mut plan);
+        }
+        plan
     }
 
     /// A small plan with a word of this length, and the number of its transition.
@@ -132,11 +158,11 @@ impl Generator {
             self.valid("valid small", &plan);
         }
         for _ in 0..60 {
-            let plan = random_plan(&mut self.random, &Shape::MEDIUM);
+            let plan = fresh_plan(&mut self.random, &Shape::MEDIUM);
             self.valid("valid medium", &plan);
         }
         for _ in 0..8 {
-            let plan = random_plan(&mut self.random, &Shape::LARGE);
+            let plan = fresh_plan(&mut self.random, &Shape::LARGE);
             self.valid("valid large", &plan);
         }
         // One count after another at its limit, the rest small.
@@ -148,7 +174,7 @@ impl Generator {
             Shape { bad: read::BAD_ENTRIES, ..Shape::SMALL },
         ] {
             for _ in 0..24 {
-                let plan = random_plan(&mut self.random, &shape);
+                let plan = fresh_plan(&mut self.random, &shape);
                 self.valid("valid with one large count", &plan);
             }
         }
@@ -156,8 +182,8 @@ impl Generator {
             let plan = maximal_closed(&mut self.random);
             self.valid("valid maximal", &plan);
         }
-        let plan = longest(&mut Random::new(1));
-        self.valid("valid longest", &plan);
+        let plan = longest_fresh(&mut Random::new(1));
+        self.valid("valid longest of the first form", &plan);
     }
 
     fn valid_words(&mut self) {
@@ -193,7 +219,7 @@ impl Generator {
 
     fn flips(&mut self) {
         for round in 0..700 {
-            let plan = if round % 100 == 0 { random_plan(&mut self.random, &Shape::MEDIUM) } else { self.small_plan() };
+            let plan = if round % 100 == 0 { fresh_plan(&mut self.random, &Shape::MEDIUM) } else { self.small_plan() };
             let mut bytes = plan.bytes();
             for _ in 0..self.random.between(1, 3) {
                 let at = self.random.below(bytes.len());

@@ -3,7 +3,7 @@
 
 use super::disorder::add_some_harmless;
 use super::document;
-use super::plan::{random_plan, Action, Direction, Plan, PlannedTransition, Shape};
+use super::plan::{fresh_plan, Action, Direction, Plan, PlannedTransition, Shape, RESUMING};
 use super::running::{running_plan, with_all_transitions, Style};
 use super::traces::{Ending, Walk, Waves, Wish};
 use super::verdicts::Plans;
@@ -42,7 +42,7 @@ pub const SESSIONS: [(&str, &[u8]); 11] = [
 ];
 
 pub fn replay_cases(seed: u64) -> Vec<Case> {
-    let mut generator = Generator { random: Random::new(seed), cases: vec![] };
+    let mut generator = Generator { random: Random::new(seed), resuming: 0, cases: vec![] };
     generator.document_files();
     generator.sessions();
     generator.random_sessions(seed);
@@ -62,12 +62,13 @@ pub fn replay_cases(seed: u64) -> Vec<Case> {
     generator.refused_traces();
     generator.refused_memory();
     generator.left_far();
+    generator.resuming_runs(seed);
     generator.cases
 }
 
 /// Files with traces that mostly end outside.
 pub fn random_runs(seed: u64, count: usize) -> impl Iterator<Item = (Vec<u8>, Vec<u8>)> {
-    let mut generator = Generator { random: Random::new(seed), cases: vec![] };
+    let mut generator = Generator { random: Random::new(seed), resuming: RESUMING, cases: vec![] };
     for _ in 0..count {
         generator.left_with_few();
     }
@@ -76,6 +77,8 @@ pub fn random_runs(seed: u64, count: usize) -> impl Iterator<Item = (Vec<u8>, Ve
 
 pub(super) struct Generator {
     pub(super) random: Random,
+    /// Of a hundred plans so many resume.
+    pub(super) resuming: usize,
     cases: Vec<Case>,
 }
 
@@ -145,10 +148,10 @@ impl Generator {
 
     /// Sessions with random maps, as they are and mended.
     fn random_sessions(&mut self, seed: u64) {
-        let mut plans = Plans::new(seed + 4);
+        let mut plans = Plans::fresh(seed + 4);
         for round in 0..1_200 {
             let plan = match round % 4 {
-                0 => random_plan(&mut self.random, &Shape::SMALL),
+                0 => fresh_plan(&mut self.random, &Shape::SMALL),
                 1 => plans.small(),
                 2 => plans.disordered(),
                 _ => plans.long_worded(),

@@ -43,7 +43,7 @@ const FIELD_6: [Role; 3] = [Role::BadEntries, Role::BadControlState, Role::BadRo
 
 /// Small files that are refused by 9, or by what comes before it, so many of each kind.
 pub(super) fn refused_about_order(seed: u64, of_each_kind: usize) -> Vec<(Vec<u8>, Refusal)> {
-    let mut generator = Generator::new(seed);
+    let mut generator = Generator::fresh(seed);
     generator.row_9();
     let mut taken: BTreeMap<String, usize> = BTreeMap::new();
     let mut files = vec![];
@@ -123,11 +123,15 @@ impl Generator {
         }
     }
 
-    fn any_faulty_draft(&mut self) -> Draft {
+    pub(super) fn any_faulty_plan(&mut self) -> Plan {
         let fault = Fault::ALL[self.random.below(Fault::ALL.len())];
         let mut plan = self.plan_of_queues();
         add_fault(&mut self.random, &mut plan, fault);
-        plan.draft()
+        plan
+    }
+
+    fn any_faulty_draft(&mut self) -> Draft {
+        self.any_faulty_plan().draft()
     }
 
     /// 9 comes before 10, at the same place.

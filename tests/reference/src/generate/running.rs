@@ -84,6 +84,7 @@ pub fn running_plan(random: &mut Random, style: &Style) -> Plan {
         starts: states.iter().map(|&states| random.below(states)).collect(),
         states,
         queues: traffic.iter().map(|&traffic| random_messages(random, traffic, style)).collect(),
+        starting: vec![],
         transitions: vec![],
         pool: vec![],
         roots: vec![],
@@ -273,6 +274,11 @@ fn random_holds(random: &mut Random, traffic: &[Traffic], style: &Style) -> Vec<
     holds
 }
 
+/// A pool that holds everything in queue order, with state 0 as the root.
+pub fn pool_of_everything(plan: &Plan) -> Vec<PlannedState> {
+    pool(plan, &vec![Holds::Anything; plan.queues.len()])
+}
+
 /// State 0 is the root. Behind it each queue has its own states, and one leads to those of its queue and of later ones.
 fn pool(plan: &Plan, holds: &[Holds]) -> Vec<PlannedState> {
     let counts = holds.iter().enumerate().map(|(queue, holds)| match *holds {
@@ -315,7 +321,7 @@ fn pool(plan: &Plan, holds: &[Holds]) -> Vec<PlannedState> {
 /// In some plans control states lose their root, but for the start, or states of the pool accept no longer, but for the
 /// root.
 fn take_away(random: &mut Random, plan: &mut Plan) {
-    let start = plan.starts.iter().zip(&plan.states).fold(0, |number, (start, states)| number * states + start);
+    let start = plan.start();
     let without_root = [0, 0, 20, 50][random.below(4)];
     for control_state in 0..plan.roots.len() {
         if control_state != start && random.chance(without_root) {

@@ -7,16 +7,18 @@ use super::document;
 use super::far;
 use super::large;
 use super::long;
-use super::plan::{random_plan, random_transition, Direction, Plan, Shape};
-use super::reading::{reading_cases, Expected};
+use super::plan::{fresh_plan, random_transition, Direction, Plan, Shape, RESUMING};
+use super::reading::{fresh_reading_cases, Expected};
+use super::resume::resume;
+use super::resuming_files::form_files;
 use crate::decide::competitors;
-use crate::diagram::follow;
 use crate::far_features;
 use crate::far_traps::FarTrap;
 use crate::long_words;
 use crate::order_features;
 use crate::random::Random;
 use crate::read::{read, Tables, WORD_LENGTH};
+use crate::start_features;
 use crate::traps::{tells, Trap};
 use crate::verdict::Verdict;
 use crate::walk::{check_tables, Scratch};
@@ -33,12 +35,32 @@ pub struct Case {
 /// Plans that are raw, half mended or mended until they are closed.
 pub struct Plans {
     pub random: Random,
+    /// Of a hundred plans so many resume.
+    resuming: usize,
     scratch: Scratch,
 }
 
 impl Plans {
     pub fn new(seed: u64) -> Self {
-        Plans { random: Random::new(seed), scratch: Scratch::default() }
+        Plans { random: Random::new(seed), resuming: RESUMING, scratch: Scratch::default() }
+    }
+
+    /// Those that start with empty queues.
+    pub(super) fn fresh(seed: u64) -> Self {
+        Plans { resuming: 0, ..Plans::new(seed) }
+    }
+
+    /// Those that all resume.
+    pub(super) fn resuming(seed: u64) -> Self {
+        Plans { resuming: 100, ..Plans::new(seed) }
+    }
+
+    /// Lets something wait at the start of some plans.
+    fn resume_some(&mut self, mut plan: Plan) -> Plan {
+        if self.resuming > 0 && self.random.chance(self.resuming) {
+            resume(&mut self.random, &mut plan);
+        }
+        plan
     }
 
     pub fn judge(&mut self, plan: &Plan) -> (Tables, Verdict) {
@@ -61,13 +83,18 @@ impl Plans {
     /// A small plan with long words, unless mending takes them away.
     pub fn long_worded(&mut self) -> Plan {
         match self.random.below(4) {
-            0 => long::chained(&mut self.random),
+            0 => {
+                let plan = long::chained(&mut self.random);
+                self.resume_some(plan)
+            }
             1 => {
                 let plan = long::chained(&mut self.random);
+                let plan = self.resume_some(plan);
                 self.mend_some(plan)
             }
             _ => {
                 let plan = long::along_arcs(&mut self.random, &SHAPE);
+                let plan = self.resume_some(plan);
                 self.mend_some(plan)
             }
         }
@@ -86,26 +113,40 @@ impl Plans {
 
     /// A small plan with a step that leaves, made for where the target loses the contents.
     pub fn losing(&mut self) -> Plan {
-        far::lost(&mut self.random)
+        let plan = far::lost(&mut self.random);
+        self.resume_some(plan)
     }
 
     /// The same with many messages.
     pub fn losing_many(&mut self) -> Plan {
-        match self.random.below(10) {
+        let plan = match self.random.below(10) {
             0 => far::lost_soon(&mut self.random),
             1..=6 => far::lost_late(&mut self.random, 100..140),
             7 | 8 => far::lost_late(&mut self.random, 256..340),
             _ => far::lost_late(&mut self.random, 1_000..1_200),
+        };
+        self.resume_some(plan)
+    }
+
+    /// A small plan of any of these kinds.
+    pub(super) fn any(&mut self) -> Plan {
+        match self.random.below(8) {
+            0..=3 => self.small(),
+            4 => self.mended(&Shape { queues: 4, ..SHAPE }),
+            5 => self.disordered(),
+            6 => self.long_worded(),
+            _ => self.losing(),
         }
     }
 
     /// A plan of a shape with something to check, mended for no, some or many rounds.
     pub fn mended(&mut self, shape: &Shape) -> Plan {
-        let mut plan = random_plan(&mut self.random, shape);
+        let mut plan = fresh_plan(&mut self.random, shape);
         while plan.transitions.len() < 2 {
             let transition = random_transition(&mut self.random, &plan);
             plan.transitions.push(transition);
         }
+        let plan = self.resume_some(plan);
         self.mend_some(plan)
     }
 
@@ -117,9 +158,9 @@ impl Plans {
             _ => 60,
         };
         for round in 0..mends {
-            let (tables, verdict) = self.judge(&plan);
+            let (_, verdict) = self.judge(&plan);
             let mut mended = plan.clone();
-            if !self.mend(&mut mended, &tables, &verdict, round) {
+            if !self.mend(&mut mended, &verdict, round) {
                 break;
             }
             // A set that grows may come to hold a word out of order; then another way is tried in the next round.
@@ -131,19 +172,21 @@ impl Plans {
     }
 
     /// Changes what failed. False if nothing did.
-    fn mend(&mut self, plan: &mut Plan, tables: &Tables, verdict: &Verdict, round: usize) -> bool {
+    fn mend(&mut self, plan: &mut Plan, verdict: &Verdict, round: usize) -> bool {
         match verdict {
             Verdict::Closed { .. } => return false,
             Verdict::Outside => {
-                let start =
-                    plan.starts.iter().zip(&plan.states).fold(0, |number, (start, states)| number * states + start);
+                let start = plan.start();
                 let root = *plan.roots[start].get_or_insert(self.random.below(plan.pool.len()));
-                plan.pool[root].is_final = true;
+                let waiting: Vec<u8> = plan.starting.concat().iter().map(|&message| message as u8).collect();
+                if !self.let_in(plan, root, &waiting) {
+                    plan.starting.clear();
+                }
             }
             Verdict::Leaves { control_state, transition, contents, .. } => {
                 // Growing the set may go on for ever, so after some rounds the step goes.
                 let grows = round < 30 && self.random.chance(70);
-                if !(grows && self.grow(plan, tables, *control_state, *transition, contents)) {
+                if !(grows && self.grow(plan, *control_state, *transition, contents)) {
                     plan.transitions.remove(*transition);
                 }
             }
@@ -160,14 +203,7 @@ impl Plans {
     }
 
     /// Lets the target accept the contents after the step, or comes a message nearer to it.
-    fn grow(
-        &mut self,
-        plan: &mut Plan,
-        tables: &Tables,
-        control_state: usize,
-        transition: usize,
-        contents: &[u8],
-    ) -> bool {
+    fn grow(&mut self, plan: &mut Plan, control_state: usize, transition: usize, contents: &[u8]) -> bool {
         let step = &plan.transitions[transition];
         let weight: usize = plan.states[step.machine + 1..].iter().product();
         let next = control_state + step.to * weight - step.from * weight;
@@ -176,14 +212,20 @@ impl Plans {
             return true;
         };
         let after = contents_after(plan, transition, contents);
-        let taken = (0..=after.len()).rev().find(|&taken| follow(tables, Some(root), &after[..taken]).is_some());
-        let taken = taken.expect("no messages lead somewhere");
-        let state = follow(tables, Some(root), &after[..taken]).expect("just found");
-        if taken == after.len() {
+        self.let_in(plan, root, &after)
+    }
+
+    /// Lets a root accept some contents, or comes a message nearer to it. False where that cannot be.
+    fn let_in(&mut self, plan: &mut Plan, root: usize, contents: &[u8]) -> bool {
+        let (mut state, mut taken) = (root, 0);
+        while let Some(&next) = contents.get(taken).and_then(|&message| plan.pool[state].arcs.get(&message.into())) {
+            (state, taken) = (next, taken + 1);
+        }
+        let Some(&message) = contents.get(taken) else {
             plan.pool[state].is_final = true;
             return true;
-        }
-        let message = usize::from(after[taken]);
+        };
+        let message = usize::from(message);
         let target = self.random.below(plan.pool.len());
         plan.pool[state].arcs.insert(message, target);
         // With the new arc a word out of order may be accepted; then it is taken back.
@@ -214,6 +256,9 @@ const LONG_WORDED_PLANS: usize = 40_000;
 const DISORDERED_PLANS: usize = 10_000;
 const LOSING_PLANS: usize = 20_000;
 const PLANS_LOSING_MANY: usize = 10_000;
+const RESUMING_PLANS: usize = 20_000;
+/// Plans that are put into both forms.
+const BOTH_FORMS: usize = 40;
 
 /// How many files of each kind are kept.
 fn quota(kind: &str) -> usize {
@@ -242,7 +287,7 @@ pub fn verdict_cases(seed: u64) -> Vec<Case> {
     cases.extend(long_worded_cases(seed));
     cases.extend(disordered_cases(seed));
 
-    let mut plans = Plans::new(seed);
+    let mut plans = Plans::fresh(seed);
     let mut kept: BTreeMap<String, usize> = BTreeMap::new();
     for _ in 0..PLANS {
         let plan = plans.small();
@@ -255,6 +300,7 @@ pub fn verdict_cases(seed: u64) -> Vec<Case> {
     }
     let about_far = far_cases(seed, &cases);
     cases.extend(about_far);
+    cases.extend(resuming_cases(seed));
     cases
 }
 
@@ -329,20 +375,20 @@ impl<'t> Wanted<'t> {
 }
 
 fn long_worded_cases(seed: u64) -> Vec<Case> {
-    let mut plans = Plans::new(seed + 3);
+    let mut plans = Plans::fresh(seed + 3);
     let wanted = Wanted::new(long_words::asked(), long_words::features, &Trap::OF_LONG_WORDS);
     wanted.cases("long words", || plans.judged(Plans::long_worded), LONG_WORDED_PLANS)
 }
 
 fn disordered_cases(seed: u64) -> Vec<Case> {
-    let mut plans = Plans::new(seed + 6);
+    let mut plans = Plans::fresh(seed + 6);
     let wanted = Wanted::new(order_features::asked(), order_features::features, &Trap::OF_QUEUE_ORDER);
     wanted.cases("out of order", || plans.judged(Plans::disordered), DISORDERED_PLANS)
 }
 
 /// Files with a step that leaves, as long as what they show of how far contents are followed is too seldom among all.
 fn far_cases(seed: u64, others: &[Case]) -> Vec<Case> {
-    let mut plans = Plans::new(seed + 10);
+    let mut plans = Plans::fresh(seed + 10);
     let mut of_many = Wanted::new(far_features::asked_of_many(), far_features::of_verdict, &[]);
     let mut asked = far_features::asked_of_verdicts();
     asked.extend(FarTrap::of_verdicts().map(|trap| (format!("{trap:?}"), trap.asked())));
@@ -364,6 +410,24 @@ fn far_cases(seed: u64, others: &[Case]) -> Vec<Case> {
     cases
 }
 
+/// Files that resume, of every verdict, and some of them in the first form, too; and those that tell the two forms apart.
+fn resuming_cases(seed: u64) -> Vec<Case> {
+    let mut plans = Plans::resuming(seed + 12);
+    let mut asked = start_features::asked_of_verdicts();
+    asked.extend(Trap::of_starting().map(|trap| (format!("{trap:?}"), start_features::ENOUGH_TOLD)));
+    let wanted = Wanted::new(asked, start_features::of_verdict_with_told, &[]);
+    let mut cases = wanted.cases("something waits", || plans.judged(Plans::any), RESUMING_PLANS);
+    for round in 0..BOTH_FORMS {
+        let plan = plans.any();
+        let fresh = Plan { starting: vec![], ..plan.clone() };
+        let in_turn = if round % 2 == 0 { [plan, fresh] } else { [fresh, plan] };
+        cases.extend(in_turn.map(|plan| Case { kind: "both forms".to_string(), bytes: plan.bytes() }));
+    }
+    let of_form = form_files(seed + 13, start_features::ENOUGH_OF_FORM, Clone::clone).into_iter();
+    cases.extend(of_form.map(|(bytes, _)| Case { kind: "of either form".to_string(), bytes }));
+    cases
+}
+
 /// Whether other contents of the same length fail too, so that the lowest must be chosen.
 fn competes(tables: &Tables, verdict: &Verdict) -> bool {
     match verdict {
@@ -376,7 +440,7 @@ fn competes(tables: &Tables, verdict: &Verdict) -> bool {
 
 /// Walks that fill the tables, long contents, and middling files.
 fn large_cases(seed: u64) -> Vec<Case> {
-    let mut plans = Plans::new(seed + 2);
+    let mut plans = Plans::fresh(seed + 2);
     let mut files = vec![
         large::long_local_leaves(),
         large::long_send_leaves(),
@@ -405,7 +469,7 @@ fn large_cases(seed: u64) -> Vec<Case> {
 fn refused_cases(seed: u64) -> Vec<Case> {
     let mut by_row: BTreeMap<u8, Vec<Vec<u8>>> = BTreeMap::new();
     for seed in [seed, seed + 1] {
-        for case in reading_cases(seed).cases {
+        for case in fresh_reading_cases(seed).cases {
             if let Expected::Refused(number, _) = case.expected {
                 if case.bytes.len() < 300 || number == 1 {
                     by_row.entry(number).or_default().push(case.bytes);

@@ -6,9 +6,9 @@
 
 use super::disorder::{self, add_fault, Harmless};
 use super::document::{self, hex};
-use super::large::longest;
+use super::large::longest_fresh;
 use super::plan::{Action, Direction, Plan, PlannedState, PlannedTransition, Shape};
-use super::reading::{reading_cases, Generator};
+use super::reading::{fresh_reading_cases, Generator};
 use crate::flat::{Flat, AT_BAD, AT_FINALS, AT_MACHINES, AT_POOL_STATES, AT_QUEUES, AT_SUM, SPACE};
 use crate::random::Random;
 use crate::read::{self, read};
@@ -59,7 +59,7 @@ pub(super) struct Writings {
 }
 
 pub fn writing_cases(seed: u64) -> Vec<Case> {
-    let mut writings = Writings { plans: Generator::new(seed + 7), cases: Vec::new() };
+    let mut writings = Writings { plans: Generator::fresh(seed + 7), cases: Vec::new() };
     writings.written_back(seed);
     writings.buffers();
     writings.longest_file();
@@ -69,6 +69,7 @@ pub fn writing_cases(seed: u64) -> Vec<Case> {
     writings.out_of_order();
     writings.all_zero(seed);
     writings.damaged_entries();
+    writings.resuming_writings(seed);
     writings.cases
 }
 
@@ -83,14 +84,21 @@ impl Writings {
         &mut self.plans.random
     }
 
-    fn add(&mut self, kind: &'static str, file: &[u8], buffer_length: usize, handed: Handed, expected: Expected) {
+    pub(super) fn add(
+        &mut self,
+        kind: &'static str,
+        file: &[u8],
+        buffer_length: usize,
+        handed: Handed,
+        expected: Expected,
+    ) {
         let buffer_from = self.random().byte();
         let writing = Writing { file: file.to_vec(), buffer_length, buffer_from, handed };
         self.cases.push(Case { kind, writing, expected });
     }
 
     /// The tables of a file as they are.
-    fn unchanged(&mut self, kind: &'static str, file: &[u8], buffer_length: usize) {
+    pub(super) fn unchanged(&mut self, kind: &'static str, file: &[u8], buffer_length: usize) {
         let is_short = buffer_length < file.len();
         let expected = if is_short { Expected::Refused(BUFFER_TOO_SHORT) } else { Expected::File(file.to_vec()) };
         self.add(kind, file, buffer_length, Handed::Edited(vec![]), expected);
@@ -128,7 +136,7 @@ impl Writings {
 
     /// Every file of the stream for reading that is read.
     fn written_back(&mut self, seed: u64) {
-        for case in reading_cases(seed).cases {
+        for case in fresh_reading_cases(seed).cases {
             if read(&case.bytes).is_ok() {
                 self.unchanged("written back", &case.bytes, case.bytes.len());
             }
@@ -149,7 +157,7 @@ impl Writings {
     }
 
     fn longest_file(&mut self) {
-        let base = Base::of_plan(&longest(&mut Random::new(1)));
+        let base = Base::of_plan(&longest_fresh(&mut Random::new(1)));
         let length = base.file.len();
         for buffer_length in [length - 1, length + 1, LONGEST_BUFFER, 0] {
             self.unchanged("the longest file", &base.file, buffer_length);
@@ -266,7 +274,7 @@ impl Writings {
         }
     }
 
-    fn turn_into(&mut self, kind: &'static str, base: &Base, other: &Plan) {
+    pub(super) fn turn_into(&mut self, kind: &'static str, base: &Base, other: &Plan) {
         let mut edits = edits_between(&base.flat, &Base::of_plan(other).flat);
         self.random().shuffle(&mut edits);
         self.edited(kind, base, edits.clone(), Expected::File(other.bytes()));
@@ -298,7 +306,7 @@ impl Writings {
 
     /// Of files that are refused, of every row; and tables that are made entry by entry.
     fn all_zero(&mut self, seed: u64) {
-        let refused: Vec<Vec<u8>> = reading_cases(seed)
+        let refused: Vec<Vec<u8>> = fresh_reading_cases(seed)
             .cases
             .into_iter()
             .filter(|case| case.bytes.len() < 100 && read(&case.bytes).is_err())
@@ -332,7 +340,7 @@ impl Writings {
 const COUNTS: [usize; 4] = [AT_MACHINES, AT_QUEUES, AT_SUM, AT_POOL_STATES];
 
 /// What makes the one tables of the other.
-fn edits_between(from: &Flat, to: &Flat) -> Vec<Edit> {
+pub(super) fn edits_between(from: &Flat, to: &Flat) -> Vec<Edit> {
     let changed = (0..SPACE).filter(|&place| from.0[place] != to.0[place]);
     changed.map(|place| Edit { place, value: to.0[place] }).collect()
 }

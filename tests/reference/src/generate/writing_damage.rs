@@ -4,7 +4,8 @@ use super::plan::{Plan, PlannedState, Shape};
 use super::writing::{Base, Writings, WIDE};
 use crate::flat::{
     Flat, Part, AT_ARCS, AT_BAD, AT_BAD_ENTRIES, AT_FINALS, AT_MACHINES, AT_MESSAGES, AT_POOL_STATES, AT_QUEUES,
-    AT_ROOTS, AT_STATES, AT_SUM, AT_TRANSITIONS, AT_TRANSITION_COUNT, BAD_ROW, KIND, LENGTH, QUEUE, ROW, SPACE,
+    AT_ROOTS, AT_STARTING_LENGTHS, AT_STATES, AT_SUM, AT_TRANSITIONS, AT_TRANSITION_COUNT, BAD_ROW, KIND, LENGTH,
+    QUEUE, ROW, SPACE,
 };
 use crate::random::Random;
 use crate::read::{BAD_ENTRIES, CONTROL_STATES, MESSAGES, POOL_STATES, TRANSITIONS, WORD_LENGTH};
@@ -12,7 +13,7 @@ use crate::stream::Edit;
 
 /// How an entry is changed.
 #[derive(Clone, Copy)]
-enum Change {
+pub(super) enum Change {
     OneMore,
     OneLess,
     Zero,
@@ -20,7 +21,7 @@ enum Change {
     Any,
 }
 
-const CHANGES: [Change; 5] = [Change::OneMore, Change::OneLess, Change::Zero, Change::Full, Change::Any];
+pub(super) const CHANGES: [Change; 5] = [Change::OneMore, Change::OneLess, Change::Zero, Change::Full, Change::Any];
 
 impl Change {
     /// None if the entry would stay, or would pass what an entry can hold.
@@ -48,7 +49,7 @@ fn bad(entry: usize, column: usize) -> usize {
     AT_BAD + entry * BAD_ROW + column
 }
 
-fn edit(place: usize, value: usize) -> Edit {
+pub(super) fn edit(place: usize, value: usize) -> Edit {
     Edit { place, value: u8::try_from(value).expect("an entry is a byte") }
 }
 
@@ -69,13 +70,15 @@ impl Writings {
             self.counts_of_nothing();
             self.products_and_sums();
         }
-        self.ends_of_what_is_unused();
+        let of_every_file: Vec<Part> =
+            Part::UNUSED.into_iter().filter(|part| !Part::OF_STARTING.contains(part)).collect();
+        self.ends_of_what_is_unused(&of_every_file);
         self.any_entries();
     }
 
     /// Counts, states, starting states and messages.
     fn small_entries(&mut self) {
-        for place in 0..AT_TRANSITIONS {
+        for place in 0..AT_STARTING_LENGTHS {
             for change in CHANGES {
                 for _ in 0..7 {
                     let (base, value) = self.base_to_change(place, change);
@@ -86,7 +89,7 @@ impl Writings {
     }
 
     /// Tables in which an entry can be changed in a way, and what it becomes.
-    fn base_to_change(&mut self, place: usize, change: Change) -> (Base, u8) {
+    pub(super) fn base_to_change(&mut self, place: usize, change: Change) -> (Base, u8) {
         loop {
             let base = self.base();
             if let Some(value) = change.of(self.random(), base.flat.0[place]) {
@@ -352,8 +355,8 @@ impl Writings {
     }
 
     /// The first and the last of unused entries that lie side by side.
-    fn ends_of_what_is_unused(&mut self) {
-        for part in Part::UNUSED {
+    pub(super) fn ends_of_what_is_unused(&mut self, parts: &[Part]) {
+        for &part in parts {
             for round in 0..12 {
                 let (base, place) = loop {
                     let base = self.base();
@@ -394,8 +397,12 @@ impl Writings {
 
     /// Every part is as likely as any other, however few its entries are.
     pub(super) fn place_of_any_part(&mut self, flat: &Flat) -> usize {
+        let mut parts = Part::ALL.to_vec();
+        if self.plans.resuming == 0 {
+            parts.retain(|part| !Part::OF_STARTING.contains(part));
+        }
         loop {
-            let part = Part::ALL[self.random().below(Part::ALL.len())];
+            let part = parts[self.random().below(parts.len())];
             let places: Vec<usize> = (0..SPACE).filter(|&place| Part::of(place, flat) == part).collect();
             if let Some(&place) = self.random().pick(&places) {
                 return place;
