@@ -53,7 +53,10 @@ fn queues(h: u64, q: Queues) -> u64
     ensures { λ r. ⌜ r < 16777213 ⌝ }
 {
     let messages = q.messages;
-    mix_byte(mix_all(mix_byte(h, q.count), &messages), q.sum)
+    let lengths = q.lengths;
+    let contents = q.contents;
+    let counted = mix_all(mix_byte(h, q.count), &messages);
+    mix_byte(mix_all(mix_all(counted, &lengths), &contents), q.sum)
 }
 
 fn transitions(h: u64, t: Transitions) -> u64
