@@ -76,7 +76,7 @@ extern "C" {
 #define SWARMBANNER_REFUSED_FORM 4u          /* a number in a form that is not allowed */
 #define SWARMBANNER_REFUSED_RANGE 5u         /* outside its field's range; trace: of no transition, text: of no message */
 #define SWARMBANNER_REFUSED_TOTAL 6u         /* product of states passes 256, or sum of messages passes 32 */
-#define SWARMBANNER_REFUSED_QUEUE 7u         /* message of a transition is in another queue */
+#define SWARMBANNER_REFUSED_QUEUE 7u         /* message of a transition or of the start is in another queue */
 #define SWARMBANNER_REFUSED_ASCENT 8u        /* arc messages do not ascend */
 #define SWARMBANNER_REFUSED_ORDER 9u         /* a root accepts a word out of queue order; the first place after field 6 */
 #define SWARMBANNER_REFUSED_MORE 10u         /* bytes after the last field */
@@ -92,6 +92,7 @@ extern "C" {
 #define SWARMBANNER_REFUSED_DEPTH 20u        /* expression: a ninth level of groups; its opening bracket */
 #define SWARMBANNER_REFUSED_OCCURRENCES 21u  /* expression: a thirty-third number; its first digit */
 #define SWARMBANNER_REFUSED_STATES 22u       /* expression: more than 127 states; the place is 0 */
+#define SWARMBANNER_REFUSED_EMPTY 23u        /* messages are to wait at the start, and no queue has one; the place is 0 */
 
 /* The least that a call needs, in entries of the type that is lent. */
 #define SWARMBANNER_REPLY_LEAST 4u
@@ -112,6 +113,7 @@ extern "C" {
 #define SWARMBANNER_CONTROL_STATES_MOST 256u
 #define SWARMBANNER_QUEUES_MOST 4u
 #define SWARMBANNER_MESSAGES_MOST 32u
+#define SWARMBANNER_STARTING_MOST 8u /* messages in a queue at the start */
 #define SWARMBANNER_TRANSITIONS_MOST 128u
 #define SWARMBANNER_WORD_MOST 16u
 #define SWARMBANNER_POOL_STATES_MOST 127u
@@ -119,9 +121,9 @@ extern "C" {
 
 /*
  * The number of this layout of the tables and of the replies; another one has another number. Layout 1 had words of up to four
- * messages, layout 2 had three numbers in a reply.
+ * messages, layout 2 had three numbers in a reply, layout 3 had no starting contents.
  */
-#define SWARMBANNER_LAYOUT 3u
+#define SWARMBANNER_LAYOUT 4u
 
 /*
  * Where the tables lie in the space of `swarmbanner_read`, one byte an entry; entries beyond the counts are 0. Each begins
@@ -131,12 +133,17 @@ extern "C" {
  *   AT_STATES          6  4        states of each machine
  *   AT_STARTS         10  4        starting state of each machine
  *   AT_MESSAGES       14  4        messages of each queue
- *   AT_TRANSITIONS    18  128 x 22 machine, from, to, kind (0 local, 1 send, 2 receive), queue, word length, 16 messages
- *   AT_FINALS       2834  127      1 for a final pool state
- *   AT_ARCS         2961  127 x 32 for a pool state and a message: 0 for no arc, else 1 plus the target
- *   AT_ROOTS        7025  256      for a control state: 0 for no root, else 1 plus the root
- *   AT_BAD          7281  64 x 2   control state, root (as it is, without the 1 added)
- *   SPACE_LEAST     7409
+ *   AT_LENGTHS        18  4        how many messages each queue starts with, 0 to 8
+ *   AT_CONTENTS       22  4 x 8    these messages, oldest first, and then 0
+ *   AT_TRANSITIONS    54  128 x 22 machine, from, to, kind (0 local, 1 send, 2 receive), queue, word length, 16 messages
+ *   AT_FINALS       2870  127      1 for a final pool state
+ *   AT_ARCS         2997  127 x 32 for a pool state and a message: 0 for no arc, else 1 plus the target
+ *   AT_ROOTS        7061  256      for a control state: 0 for no root, else 1 plus the root
+ *   AT_BAD          7317  64 x 2   control state, root (as it is, without the 1 added)
+ *   SPACE_LEAST     7445
+ *
+ * Of a file whose queues start empty, lengths and contents are 0. Such tables are written in the form without them, all
+ * others in the form whose first number is the machines plus SWARMBANNER_MACHINES_MOST.
  *
  * The pool of `swarmbanner_expression` is the final marks and the arcs, as they lie here.
  *
@@ -145,6 +152,7 @@ extern "C" {
 #define SWARMBANNER_COUNTS 6u
 #define SWARMBANNER_TRANSITION_WORD 6u /* where in its row a transition's word begins */
 #define SWARMBANNER_TRANSITION_ROW (SWARMBANNER_TRANSITION_WORD + SWARMBANNER_WORD_MOST)
+#define SWARMBANNER_CONTENTS_ROW SWARMBANNER_STARTING_MOST
 #define SWARMBANNER_ARC_ROW SWARMBANNER_MESSAGES_MOST
 #define SWARMBANNER_BAD_ROW 2u
 
@@ -152,7 +160,9 @@ extern "C" {
 #define SWARMBANNER_AT_STATES (SWARMBANNER_AT_COUNTS + SWARMBANNER_COUNTS)
 #define SWARMBANNER_AT_STARTS (SWARMBANNER_AT_STATES + SWARMBANNER_MACHINES_MOST)
 #define SWARMBANNER_AT_MESSAGES (SWARMBANNER_AT_STARTS + SWARMBANNER_MACHINES_MOST)
-#define SWARMBANNER_AT_TRANSITIONS (SWARMBANNER_AT_MESSAGES + SWARMBANNER_QUEUES_MOST)
+#define SWARMBANNER_AT_LENGTHS (SWARMBANNER_AT_MESSAGES + SWARMBANNER_QUEUES_MOST)
+#define SWARMBANNER_AT_CONTENTS (SWARMBANNER_AT_LENGTHS + SWARMBANNER_QUEUES_MOST)
+#define SWARMBANNER_AT_TRANSITIONS (SWARMBANNER_AT_CONTENTS + SWARMBANNER_QUEUES_MOST * SWARMBANNER_CONTENTS_ROW)
 #define SWARMBANNER_AT_FINALS (SWARMBANNER_AT_TRANSITIONS + SWARMBANNER_TRANSITIONS_MOST * SWARMBANNER_TRANSITION_ROW)
 #define SWARMBANNER_AT_ARCS (SWARMBANNER_AT_FINALS + SWARMBANNER_POOL_STATES_MOST)
 #define SWARMBANNER_AT_ROOTS (SWARMBANNER_AT_ARCS + SWARMBANNER_POOL_STATES_MOST * SWARMBANNER_ARC_ROW)
@@ -194,7 +204,7 @@ static inline int swarmbanner_fits(void)
  * Reads a file.
  *
  * READ: the tables fill the first SWARMBANNER_SPACE_LEAST bytes of `space`, the rest of it keeps its bytes.
- * REFUSED, 1 and 3 to 10: `space` is as it was.
+ * REFUSED, 1, 3 to 10 and 23: `space` is as it was.
  * NO_ROOM: `space` has under SWARMBANNER_SPACE_LEAST bytes or `reply` under SWARMBANNER_REPLY_LEAST entries.
  */
 size_t swarmbanner_read(const uint8_t *file, size_t file_len,
@@ -204,7 +214,7 @@ size_t swarmbanner_read(const uint8_t *file, size_t file_len,
 /*
  * Writes the session file that has these tables, which are as `swarmbanner_read` gives them: the first
  * SWARMBANNER_SPACE_LEAST bytes of `tables`. What follows these is of no account. There is one such file at most, so reading
- * and then writing gives back the bytes, and writing and then reading gives back the tables. No file has more than 11,664
+ * and then writing gives back the bytes, and writing and then reading gives back the tables. No file has more than 11,700
  * bytes; a buffer of SWARMBANNER_FILE_MOST bytes, 16,384, suffices too.
  *
  * WRITTEN: the file fills the front of `buffer`, the rest of it keeps its bytes.
@@ -219,7 +229,7 @@ size_t swarmbanner_write(const uint8_t *tables, size_t tables_len,
 /*
  * Do these contents, one byte for each message and queue after queue, belong to the set of this control state?
  *
- * YES or NO, with how many of them its diagram followed. REFUSED, 1 and 3 to 13: the file or the question is turned away.
+ * YES or NO, with how many of them its diagram followed. REFUSED, 1, 3 to 13 and 23: file or question is turned away.
  * NO_ROOM: `reply` has under SWARMBANNER_REPLY_LEAST entries.
  */
 size_t swarmbanner_member(const uint8_t *file, size_t file_len,
@@ -234,7 +244,7 @@ size_t swarmbanner_member(const uint8_t *file, size_t file_len,
  * CLOSED, OUTSIDE, LEAVES, BAD: `seen` and `queue` are 0 over their whole length. The contents shown after LEAVES and BAD
  *   fill the front of `contents`, one byte for each message; the rest of it keeps its bytes, after CLOSED and OUTSIDE all.
  *   Those of LEAVES are the contents before the step; how many messages were followed is said of those after it.
- * REFUSED, 1 to 10: `seen`, `queue` and `contents` are as they were.
+ * REFUSED, 1 to 10 and 23: `seen`, `queue` and `contents` are as they were.
  * NO_ROOM: `reply` has under SWARMBANNER_REPLY_LEAST entries.
  */
 size_t swarmbanner_check(const uint8_t *file, size_t file_len,
@@ -245,9 +255,10 @@ size_t swarmbanner_check(const uint8_t *file, size_t file_len,
 
 /*
  * Replays a trace: the numbers of transitions, one after the other in groups of seven bits as in a file, each taken at the
- * configuration that the one before it left. It starts as the file says, whatever `record` and `memory` hold. Before it
- * reads a number, and before the end, it asks whether the configuration is inside the map. `memory` is to have
- * SWARMBANNER_QUEUE_LEAST bytes for each queue of the file or more, `record` SWARMBANNER_RECORD_LEAST entries or more.
+ * configuration that the one before it left. It starts as the file says, with what waits in the queues then, whatever
+ * `record` and `memory` hold. Before it reads a number, and before the end, it asks whether the configuration is inside the
+ * map. `memory` is to have SWARMBANNER_QUEUE_LEAST bytes for each queue of the file or more, `record` SWARMBANNER_RECORD_LEAST
+ * entries or more.
  *
  * END: the trace is at its end. LEFT: the configuration is outside the map; after 0 steps it is the start. With it goes how
  *   many of the messages that wait, queue after queue, the diagram of its control state followed.
@@ -256,7 +267,7 @@ size_t swarmbanner_check(const uint8_t *file, size_t file_len,
  *   After these three `record` has the last configuration, and queue q has SWARMBANNER_QUEUE_LEAST bytes from byte
  *   SWARMBANNER_QUEUE_LEAST * q of `memory`: its messages, oldest first, and then 0. Bytes after the last queue of the file
  *   and entries after the first SWARMBANNER_RECORD_LEAST keep their values.
- * REFUSED, 1 and 3 to 10: the file is turned away. TRACE_REFUSED: the trace has more than SWARMBANNER_TRACE_MOST bytes.
+ * REFUSED, 1, 3 to 10 and 23: the file is turned away. TRACE_REFUSED: the trace has more than SWARMBANNER_TRACE_MOST bytes.
  *   MEMORY_REFUSED: `memory` is too short for the queues of the file. The first of them that holds is told, and `record` and
  *   `memory` are as they were.
  * NO_ROOM: `record` has under SWARMBANNER_RECORD_LEAST entries or `reply` under SWARMBANNER_REPLY_LEAST.

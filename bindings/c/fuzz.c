@@ -86,11 +86,20 @@ static unsigned long long_closed, long_left[3];
 enum { LOST_NO_ROOT, LOST_NO_ARC, LOST_NOT_FINAL, LOST_WAYS };
 static unsigned long left_lost[LOST_WAYS], run_lost[LOST_WAYS], asked_lost[LOST_WAYS];
 
+/*
+ * Of files whose queues do not start empty: how often each verdict was met, and how often a replay began so. And how often one was
+ * refused since all queues start empty.
+ */
+static unsigned long started[SWARMBANNER_BAD + 1], run_started, refused_empty;
+
 /* How often a step was refused by each number, and how often a queue went round its bytes. */
 static unsigned long step_refused[SWARMBANNER_REFUSED_FULL + 1], went_round;
 
-/* How often writing refused by each number, and how often tables that were changed are those of another file. */
-static unsigned long write_refused[SWARMBANNER_REFUSED_BUFFER + 1], written_changed;
+/*
+ * How often writing refused by each number, and how often tables that were changed are those of another file, also of one with
+ * another start.
+ */
+static unsigned long write_refused[SWARMBANNER_REFUSED_BUFFER + 1], written_changed, start_changed;
 
 /* How often drawing refused by each number, and the most states that were drawn. */
 static unsigned long draw_refused[SWARMBANNER_REFUSED_STATES + 1], most_states;
@@ -121,7 +130,13 @@ int fuzz_met_enough(void)
            has_met(step_refused[14], "step refused by 14") & has_met(step_refused[15], "step refused by 15") &
            has_met(went_round, "a queue that goes round") & has_met(met[SWARMBANNER_WRITTEN], "a file written") &
            has_met(write_refused[16], "tables refused by 16") & has_met(write_refused[17], "a buffer refused by 17") &
-           has_met(written_changed, "tables changed and written") & has_met(met[SWARMBANNER_DRAWN], "an expression drawn") &
+           has_met(written_changed, "tables changed and written") & has_met(start_changed, "another start written") &
+           has_met(started[SWARMBANNER_CLOSED], "closed with messages at the start") &
+           has_met(started[SWARMBANNER_OUTSIDE], "outside with messages at the start") &
+           has_met(started[SWARMBANNER_LEAVES], "left with messages at the start") &
+           has_met(started[SWARMBANNER_BAD], "bad with messages at the start") &
+           has_met(run_started, "a replay from a start with messages") & has_met(refused_empty, "a file refused by 23") &
+           has_met(met[SWARMBANNER_DRAWN], "an expression drawn") &
            has_met(most_states > 64, "a diagram of more than 64 states") & has_met(draw_refused[5], "a text refused by 5") &
            has_met(draw_refused[18], "a text refused by 18") & has_met(draw_refused[19], "a text refused by 19") &
            has_met(draw_refused[20], "a text refused by 20") & has_met(draw_refused[21], "a text refused by 21") &
@@ -144,8 +159,10 @@ static void report(void)
            asked_lost[2]);
     printf("steps refused: by 3 %lu, 4 %lu, 5 %lu, 14 %lu, 15 %lu; queues that went round %lu\n", step_refused[3],
            step_refused[4], step_refused[5], step_refused[14], step_refused[15], went_round);
-    printf("tables changed and written %lu; writing refused: by 16 %lu, 17 %lu\n", written_changed, write_refused[16],
-           write_refused[17]);
+    printf("with messages at the start: closed %lu, outside %lu, left %lu, bad %lu, replays %lu; none, and refused by 23 %lu\n",
+           started[0], started[1], started[2], started[3], run_started, refused_empty);
+    printf("tables changed and written %lu, with another start %lu; writing refused: by 16 %lu, 17 %lu\n", written_changed,
+           start_changed, write_refused[16], write_refused[17]);
     printf("drawing refused: by 5 %lu, 18 %lu, 19 %lu, 20 %lu, 21 %lu, 22 %lu; most states %lu\n", draw_refused[5],
            draw_refused[18], draw_refused[19], draw_refused[20], draw_refused[21], draw_refused[22], most_states);
 }
@@ -246,6 +263,32 @@ static const uint8_t *file;
 static size_t file_len;
 static uint8_t tables[SWARMBANNER_SPACE_LEAST];
 
+/* Does some queue start with a message? */
+static int resumes(void)
+{
+    return tables[SWARMBANNER_AT_LENGTHS] + tables[SWARMBANNER_AT_LENGTHS + 1] + tables[SWARMBANNER_AT_LENGTHS + 2] +
+           tables[SWARMBANNER_AT_LENGTHS + 3] > 0;
+}
+
+/* Has the file the form with starting contents, and are all starting lengths 0? Up to these each number has one byte. */
+static int starts_empty(void)
+{
+    size_t machines = file[0] - SWARMBANNER_MACHINES_MOST, at = 2 * machines + 1, queue;
+
+    if (file[0] <= SWARMBANNER_MACHINES_MOST || file[0] > 2 * SWARMBANNER_MACHINES_MOST)
+        return 0;
+    for (queue = 0; queue < file[at]; queue++)
+        if (file[at + 1 + file[at] + queue] != 0)
+            return 0;
+    return 1;
+}
+
+/* The first number of a file that is read is the machines, and 4 more just if messages wait at the start. */
+static int is_of_its_form(void)
+{
+    return file[0] == tables[SWARMBANNER_AT_COUNTS] + (resumes() ? SWARMBANNER_MACHINES_MOST : 0u);
+}
+
 static struct told call_read(const struct lengths *n)
 {
     uint8_t *space = lend_bytes(&space_lend, n->space);
@@ -261,8 +304,13 @@ static struct told call_read(const struct lengths *n)
         must(is(&told, SWARMBANNER_READ, 0, 0), "numbers that go with no reply");
         must(lend_kept_from(&space_lend, sizeof tables), "the rest of the space has changed");
         memcpy(tables, space, sizeof tables);
+        must(is_of_its_form(), "another form, or other machines");
     } else {
         must(lend_kept(&space_lend), "the space has changed");
+    }
+    if (told.kind == SWARMBANNER_REFUSED && told.number[0] == SWARMBANNER_REFUSED_EMPTY) {
+        must(told.number[1] == 0 && starts_empty(), "messages wait, and it is refused for a start without any");
+        refused_empty++;
     }
     return told;
 }
@@ -307,15 +355,6 @@ static size_t control_states(void)
     for (i = 0; i < tables[SWARMBANNER_AT_COUNTS]; i++)
         product *= tables[SWARMBANNER_AT_STATES + i];
     return product;
-}
-
-static size_t starting_control(void)
-{
-    size_t i, control = 0;
-
-    for (i = 0; i < tables[SWARMBANNER_AT_COUNTS]; i++)
-        control = control * tables[SWARMBANNER_AT_STATES + i] + tables[SWARMBANNER_AT_STARTS + i];
-    return control;
 }
 
 static size_t queue_of(uint8_t message)
@@ -505,6 +544,10 @@ static void begin(struct run *run)
     memset(run, 0, sizeof *run);
     for (i = 0; i < tables[SWARMBANNER_AT_COUNTS]; i++)
         run->states[i] = tables[SWARMBANNER_AT_STARTS + i];
+    for (i = 0; i < SWARMBANNER_QUEUES_MOST; i++) {
+        run->lengths[i] = tables[SWARMBANNER_AT_LENGTHS + i];
+        memcpy(run->queues[i], tables + SWARMBANNER_AT_CONTENTS + i * SWARMBANNER_CONTENTS_ROW, run->lengths[i]);
+    }
 }
 
 static size_t control_of(const struct run *run)
@@ -690,6 +733,7 @@ static void call_replay(const struct lengths *n, const struct told *read)
         expected = expected_replay(&run);
     }
     must(same(&told, &expected), "a replay says something else");
+    run_started += (unsigned)(read->kind == SWARMBANNER_READ && resumes());
     reach(told.kind, told.number[0], told.number[2]);
     if (told.kind != SWARMBANNER_END && told.kind != SWARMBANNER_LEFT && told.kind != SWARMBANNER_STEP_REFUSED) {
         must(lend_kept(&memory_lend) && lend_kept(&record_lend), "record or memory has changed after a refusal");
@@ -772,9 +816,10 @@ static struct told call_write(const struct lengths *n, const uint8_t *wanted)
 static void damage(uint8_t *damaged, const uint8_t *how)
 {
     static const size_t at[] = {SWARMBANNER_AT_COUNTS, SWARMBANNER_AT_STATES, SWARMBANNER_AT_STARTS,
-                                SWARMBANNER_AT_MESSAGES, SWARMBANNER_AT_TRANSITIONS, SWARMBANNER_AT_FINALS,
-                                SWARMBANNER_AT_ARCS, SWARMBANNER_AT_ROOTS, SWARMBANNER_AT_BAD, SWARMBANNER_SPACE_LEAST};
-    size_t table = how[0] % 9, size = at[table + 1] - at[table], place;
+                                SWARMBANNER_AT_MESSAGES, SWARMBANNER_AT_LENGTHS, SWARMBANNER_AT_CONTENTS,
+                                SWARMBANNER_AT_TRANSITIONS, SWARMBANNER_AT_FINALS, SWARMBANNER_AT_ARCS,
+                                SWARMBANNER_AT_ROOTS, SWARMBANNER_AT_BAD, SWARMBANNER_SPACE_LEAST};
+    size_t table = how[0] % 11, size = at[table + 1] - at[table], place;
     int is_near = how[0] < 128;
 
     if (is_near && size > MORE)
@@ -805,8 +850,11 @@ static void calls_of_writing(const struct lengths *n, int is_read, const uint8_t
     }
     for (i = 0; i < 6 && i + 3 <= count; i += 3) {
         damage(damaged, pattern + i);
-        if (call_write(&enough, damaged).kind == SWARMBANNER_WRITTEN)
-            written_changed += is_read && memcmp(damaged, tables, sizeof damaged) != 0;
+        if (call_write(&enough, damaged).kind == SWARMBANNER_WRITTEN && is_read) {
+            written_changed += memcmp(damaged, tables, sizeof damaged) != 0;
+            start_changed += memcmp(damaged + SWARMBANNER_AT_LENGTHS, tables + SWARMBANNER_AT_LENGTHS,
+                                    SWARMBANNER_AT_TRANSITIONS - SWARMBANNER_AT_LENGTHS) != 0;
+        }
     }
     call_write(n, damaged);
 }
@@ -865,12 +913,18 @@ static void call_expression(const struct lengths *n, const uint8_t *text, size_t
 static void verdict_holds(const struct told *told, size_t control, const uint8_t *asked, size_t count)
 {
     static struct reached after;
+    static struct run start;
     const uint8_t *shown = lend_at(&contents_lend);
     size_t i, entry = told->number[0];
 
-    must(inside(starting_control(), NULL, 0) == (told->kind != SWARMBANNER_OUTSIDE), "outside, or not");
+    begin(&start);
+    must(is_inside(&start) == (told->kind != SWARMBANNER_OUTSIDE), "outside, or not");
+    started[told->kind] += (unsigned)resumes();
     must(told->kind == SWARMBANNER_LEAVES || told->number[3] == 0, "a fourth number where there are fewer");
     switch (told->kind) {
+    case SWARMBANNER_OUTSIDE:
+        must(is(told, SWARMBANNER_OUTSIDE, 0, 0), "numbers that go with no reply");
+        break;
     case SWARMBANNER_LEAVES:
         must(inside(told->number[0], shown, told->number[2]), "contents shown are not inside");
         must(leads_outside(told->number[0], told->number[1], shown, told->number[2], &after) == 1, "the step does not leave");

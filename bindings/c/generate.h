@@ -1,6 +1,6 @@
 /*
- * Small session files at random, with words of up to sixteen messages and now and then one more. Changes to a file of short
- * words nearly never give a longer one.
+ * Small session files at random, with words of up to sixteen messages and now and then one more, and every other one with
+ * messages that wait at the start. Changes to a file of short words nearly never give a longer one, nor one of the other form.
  */
 #ifndef GENERATE_H
 #define GENERATE_H
@@ -50,6 +50,17 @@ static void generate_word(struct generate *g, size_t queue)
         generate_put(g, first + generate_below(g, g->messages[queue]));
 }
 
+/* Mostly few messages, now and then nine, and in a file of one queue often none. */
+static void generate_starting(struct generate *g, size_t queue)
+{
+    size_t length = generate_below(g, 4) == 0 ? generate_below(g, SWARMBANNER_STARTING_MOST + 2) : generate_below(g, 3);
+    size_t first = queue == 0 ? 0 : g->messages[0];
+
+    generate_put(g, length);
+    while (length-- > 0)
+        generate_put(g, first + generate_below(g, g->messages[queue]));
+}
+
 static void generate_transition(struct generate *g)
 {
     generate_put(g, 0);
@@ -85,13 +96,16 @@ static size_t generate_file(uint64_t random, uint8_t *file)
 {
     struct generate g = {random, file, 0, 0, {0, 0}, 0, 0};
     size_t i, count;
+    int resumes = generate_below(&g, 2) == 0;
 
-    generate_put(&g, 1);
+    generate_put(&g, resumes ? 1 + SWARMBANNER_MACHINES_MOST : 1);
     g.states = generate_put(&g, 1 + generate_below(&g, GENERATED_STATES));
     generate_put(&g, generate_below(&g, g.states));
     g.queues = generate_put(&g, 1 + generate_below(&g, 2));
     for (i = 0; i < g.queues; i++)
         g.messages[i] = generate_put(&g, 1 + generate_below(&g, 3));
+    for (i = 0; resumes && i < g.queues; i++)
+        generate_starting(&g, i);
     count = generate_put(&g, 1 + generate_below(&g, 3));
     for (i = 0; i < count; i++)
         generate_transition(&g);

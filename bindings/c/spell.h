@@ -51,6 +51,26 @@ static void spell_pool_state(uint8_t **at, uint8_t is_final, const uint8_t *arcs
         }
 }
 
+/* Does some queue start with a message? */
+static int spell_resumes(const uint8_t *tables)
+{
+    size_t i;
+
+    for (i = 0; i < SWARMBANNER_QUEUES_MOST; i++)
+        if (tables[SWARMBANNER_AT_LENGTHS + i] > 0)
+            return 1;
+    return 0;
+}
+
+static void spell_starting(uint8_t **at, const uint8_t *tables, size_t queue)
+{
+    size_t length = tables[SWARMBANNER_AT_LENGTHS + queue];
+
+    spell_put(at, length);
+    spell_row(at, tables + SWARMBANNER_AT_CONTENTS + queue * SWARMBANNER_CONTENTS_ROW,
+              length < SWARMBANNER_STARTING_MOST ? length : SWARMBANNER_STARTING_MOST);
+}
+
 /* Returns the length, or 0 where there would be more of something than its table has room for. */
 static size_t spell_file(const uint8_t *tables, uint8_t *file)
 {
@@ -66,11 +86,13 @@ static size_t spell_file(const uint8_t *tables, uint8_t *file)
         product *= tables[SWARMBANNER_AT_STATES + i];
     if (product > SWARMBANNER_CONTROL_STATES_MOST)
         return 0;
-    spell_put(&at, counts[0]);
+    spell_put(&at, counts[0] + (spell_resumes(tables) ? SWARMBANNER_MACHINES_MOST : 0u));
     spell_row(&at, tables + SWARMBANNER_AT_STATES, counts[0]);
     spell_row(&at, tables + SWARMBANNER_AT_STARTS, counts[0]);
     spell_put(&at, counts[1]);
     spell_row(&at, tables + SWARMBANNER_AT_MESSAGES, counts[1]);
+    for (i = 0; spell_resumes(tables) && i < counts[1]; i++)
+        spell_starting(&at, tables, i);
     spell_put(&at, counts[3]);
     for (i = 0; i < counts[3]; i++)
         spell_transition(&at, tables + SWARMBANNER_AT_TRANSITIONS + i * SWARMBANNER_TRANSITION_ROW);

@@ -1,6 +1,6 @@
 /*
- * What the header promises, call by call: the fourteen cases of document 01, long words, replays worked out by hand, files
- * written back and tables that no file has, diagrams of expressions, and what is done to lent memory.
+ * What the header promises, call by call: the fourteen cases of document 01, long words, queues that do not start empty, replays
+ * worked out by hand, files written back and tables that no file has, diagrams of expressions, and what is done to lent memory.
  */
 #define _DEFAULT_SOURCE
 
@@ -41,7 +41,7 @@ static const struct worked cases[] = {
     {"g", S_HEAD "00000002010101" S_POOL "01 00", SWARMBANNER_CLOSED, 3, 0, 0, 0, ""},
     {"h", "", SWARMBANNER_REFUSED, 3, 0, 0, 0, ""},
     {"i", "8200 01010000010102000000010001000100000200010001010100000100", SWARMBANNER_REFUSED, 4, 0, 0, 0, ""},
-    {"j", "05 01010000010102000000010001000100000200010001010100000100", SWARMBANNER_REFUSED, 5, 0, 0, 0, ""},
+    {"j", "05 01010000010102000000010001000100000200010001010100000100", SWARMBANNER_REFUSED, 5, 2, 0, 0, ""},
     {"k", R "00", SWARMBANNER_REFUSED, 10, 29, 0, 0, ""},
     {"l", R_HEAD "01 01 01 00 00 01", SWARMBANNER_REFUSED, 3, 28, 0, 0, ""},
     {"m", S_HEAD S_SEND "01 01 02 00 00 01 00 01 00", SWARMBANNER_REFUSED, 9, 23, 0, 0, ""},
@@ -66,6 +66,41 @@ static const struct worked cases[] = {
     {"seventeen sent", W_HEAD "02 000001 0101 11" UP "01 000100 0201 10" DOWN W_END, SWARMBANNER_REFUSED, 5, 12, 0, 0, ""},
     {"seventeen received", W_HEAD "02 000001 0101 10" UP "000100 0201 11" DOWN "01" W_END, SWARMBANNER_REFUSED, 5, 34, 0, 0,
      ""},
+    /* what waits at the start is inside, or not; the steps are judged in either case as without it */
+    {"two wait", R2, SWARMBANNER_CLOSED, 4, 0, 0, 0, ""},
+    {"two wait where one may", R2_HEAD "02 01 01 00 01 01 00 01 00", SWARMBANNER_OUTSIDE, 0, 0, 0, 0, ""},
+    {"two wait where all are lost", R2_HEAD "01 01 00 01 00", SWARMBANNER_OUTSIDE, 0, 0, 0, 0, ""},
+    {"two wait and empty is outside", R2_HEAD "02 00 01 00 01 01 01 00 01 01 00", SWARMBANNER_LEAVES, 0, 1, 1, 0, "\0"},
+    {"one waits", N_HEAD "01 00 00" N_REST, SWARMBANNER_LEAVES, 0, 0, 1, 0, "\0"},
+    {"some wait in both queues", N_HEAD "01 00 02 0202" N_REST, SWARMBANNER_LEAVES, 0, 0, 1, 0, "\0"},
+    {"one too many waits in queue 1", N_HEAD "01 00 03 020202" N_REST, SWARMBANNER_OUTSIDE, 0, 0, 0, 0, ""},
+    {"another message waits", N_HEAD "01 01 00" N_REST, SWARMBANNER_OUTSIDE, 0, 0, 0, 0, ""},
+    {"one waits in queue 1 alone", N_HEAD "00 01 02" N_REST, SWARMBANNER_OUTSIDE, 0, 0, 0, 0, ""},
+    {"eight wait", N_HEAD "08 0001000101000001 08 0202020202020202" N_REST, SWARMBANNER_OUTSIDE, 0, 0, 0, 0, ""},
+    {"in turn", "05 01 00 01 02 02 0001 00" "03 00 01 00 01 00 01 01 02 01 00 01 00", SWARMBANNER_CLOSED, 0, 0, 0, 0, ""},
+    {"out of turn", "05 01 00 01 02 02 0100 00" "03 00 01 00 01 00 01 01 02 01 00 01 00", SWARMBANNER_OUTSIDE, 0, 0, 0, 0, ""},
+    {"M", M, SWARMBANNER_CLOSED, 21, 0, 0, 0, ""},
+    {"MS", MS, SWARMBANNER_CLOSED, 21, 0, 0, 0, ""},
+    {"four machines, four queues", "08 01010101 00000000 04 01010101 00 00 00 01 03 00 01 01 04 00 00 01 00 02 00 03 00 01 00",
+     SWARMBANNER_REFUSED, 9, 33, 0, 0, ""},
+    {"four machines, the last queue", "08 01010101 00000000 04 01010101 00 00 00 01 03 00 01 01 01 03 00 01 00",
+     SWARMBANNER_CLOSED, 0, 0, 0, 0, ""},
+    /* refused at the first number, at a length, at a message; and by 23 once all are read, before all that follows */
+    {"no machines", "00", SWARMBANNER_REFUSED, 5, 0, 0, 0, ""},
+    {"nine machines", "09", SWARMBANNER_REFUSED, 5, 0, 0, 0, ""},
+    {"no length", N_HEAD, SWARMBANNER_REFUSED, 3, 6, 0, 0, ""},
+    {"longer form of a length", N_HEAD "8800", SWARMBANNER_REFUSED, 4, 6, 0, 0, ""},
+    {"nine wait", N_HEAD "09", SWARMBANNER_REFUSED, 5, 6, 0, 0, ""},
+    {"nine wait in queue 1", N_HEAD "02 0001 09", SWARMBANNER_REFUSED, 5, 9, 0, 0, ""},
+    {"no message", N_HEAD "02 00", SWARMBANNER_REFUSED, 3, 8, 0, 0, ""},
+    {"longer form of a message", N_HEAD "02 00 8100", SWARMBANNER_REFUSED, 4, 8, 0, 0, ""},
+    {"no such message waits", N_HEAD "02 00 03", SWARMBANNER_REFUSED, 5, 8, 0, 0, ""},
+    {"a message of a later queue waits", N_HEAD "02 00 02 03", SWARMBANNER_REFUSED, 7, 8, 0, 0, ""},
+    {"a message of an earlier queue waits", N_HEAD "00 02 02 01", SWARMBANNER_REFUSED, 7, 9, 0, 0, ""},
+    {"nothing waits", N_HEAD "00 00" N_REST, SWARMBANNER_REFUSED, 23, 0, 0, 0, ""},
+    {"nothing waits, and nothing follows", N_HEAD "00 00", SWARMBANNER_REFUSED, 23, 0, 0, 0, ""},
+    {"nothing waits, and what follows is wrong", N_HEAD "00 00 8300", SWARMBANNER_REFUSED, 23, 0, 0, 0, ""},
+    {"what follows is wrong", N_HEAD "00 01 02 8300", SWARMBANNER_REFUSED, 4, 9, 0, 0, ""},
 };
 
 #define CASES (sizeof cases / sizeof *cases)
@@ -173,7 +208,7 @@ static void long_files(void)
     struct lengths none = {0, 0, 0, 0, 0, SWARMBANNER_RECORD_LEAST, 0, 0, SWARMBANNER_REPLY_LEAST};
     const uint8_t *file;
 
-    memset(bytes, 5, sizeof bytes);
+    memset(bytes, 9, sizeof bytes);
     file = lend_copy(&file_lend, bytes, sizeof bytes);
     expect(call_check(file, sizeof bytes, least) == SWARMBANNER_REFUSED && replied(1, 16384, 0), "too long", "check");
     expect(call_check(file, sizeof bytes, none) == SWARMBANNER_REFUSED && replied(1, 16384, 0), "1 before 2", "check");
@@ -247,6 +282,10 @@ static void membership(void)
     expect_lost(case_named("a part of what waits"), 1, "\0\0", 2);
     expect_lost(case_named("sixteen sent"), 1, "\1\2\3\4\5\6\7\10\11\12\13\14\15\16\17\20", 16);
     expect_lost(case_named("sixteen received"), 1, "\0", 1);
+    /* the start does not count */
+    expect(ask(R2, 0, NULL, 0) == SWARMBANNER_YES && replied(0, 0, 0), "no contents belong", "two wait");
+    expect(ask(R2, 0, many, 3) == SWARMBANNER_YES && replied(3, 0, 0), "three belong", "two wait");
+    expect(ask(case_named("nothing waits")->file, 0, many, 3) == SWARMBANNER_REFUSED && replied(23, 0, 0), "23", "nothing waits");
 }
 
 /* The tables of S, byte by byte. */
@@ -269,6 +308,24 @@ static void tables(void)
     expected[SWARMBANNER_AT_ROOTS] = 1;
     expect(call_read(file, length, plenty()) == SWARMBANNER_READ, "tables are read", "S");
     expect(memcmp(lend_at(&space_lend), expected, sizeof expected) == 0, "tables as laid out", "S");
+}
+
+/* What waits at the start, byte by byte, and the first transition right after it; nothing of it in a file that starts empty. */
+static void starting(void)
+{
+    static const uint8_t expected[] = {
+        2, 2, 0, 0, 3, 1, 0, 0,
+        1, 0, 1, 0, 0, 0, 0, 0, 3, 0, 0, 0, 0, 0, 0, 0, 0, 0, 0, 0, 0, 0, 0, 0, 0, 0, 0, 0, 0, 0, 0, 0,
+        0, 0, 1, 1, 0, 2, 0, 1};
+    static const uint8_t nothing[SWARMBANNER_AT_TRANSITIONS - SWARMBANNER_AT_LENGTHS];
+    size_t length;
+    const uint8_t *file = hex(MS, &length);
+
+    expect(call_read(file, length, plenty()) == SWARMBANNER_READ, "read", "MS");
+    expect(memcmp(lend_at(&space_lend) + SWARMBANNER_AT_MESSAGES, expected, sizeof expected) == 0, "what waits", "MS");
+    file = hex(M, &length);
+    expect(call_read(file, length, plenty()) == SWARMBANNER_READ, "read", "M");
+    expect(memcmp(lend_at(&space_lend) + SWARMBANNER_AT_LENGTHS, nothing, sizeof nothing) == 0, "nothing waits", "M");
 }
 
 /* The rows of two words of sixteen, and the byte after them, which is of a transition that is not there. */
@@ -350,6 +407,19 @@ static const struct replayed replays[] = {
     {"local", M, "05", SWARMBANNER_END, 1, 0, 0, 2, 2, {0, 0}, {"", ""}},
     {"sixteen sent", W, "00", SWARMBANNER_LEFT, 1, 0, 0, 2, 1, {0, 16},
      {"", "\1\2\3\4\5\6\7\10\11\12\13\14\15\16\17\20"}},
+    {"two wait, no steps", R2, "", SWARMBANNER_END, 0, 0, 0, 1, 0, {2, 0}, {"\0\0", ""}},
+    {"two wait, three sent", R2, "00 00 00", SWARMBANNER_END, 3, 0, 0, 1, 0, {5, 0}, {"\0\0\0\0\0", ""}},
+    {"two wait, both received", R2, "01 01", SWARMBANNER_END, 2, 0, 0, 1, 0, {0, 0}, {"", ""}},
+    {"two wait, three received", R2, "01 01 01", SWARMBANNER_STEP_REFUSED, 14, 2, 2, 1, 0, {0, 0}, {"", ""}},
+    {"what waits is older", MS, "00 01", SWARMBANNER_END, 2, 0, 0, 2, 2, {5, 3}, {"\1\0\1\0\1", "\3\3\2"}},
+    {"what waits is in turn", MS, "03 05 02 03 03", SWARMBANNER_STEP_REFUSED, 14, 4, 4, 2, 0, {0, 1}, {"", "\3"}},
+    {"what waits is not all of a word", MS, "04", SWARMBANNER_STEP_REFUSED, 14, 0, 0, 2, 0, {3, 1}, {"\1\0\1", "\3"}},
+    {"what waits is outside", N_HEAD "01 00 03 020202" N_REST, "00", SWARMBANNER_LEFT, 0, 3, 0, 2, 0, {1, 3},
+     {"\0", "\2\2\2"}},
+    {"eight wait and are outside", N_HEAD "08 0001000101000001 08 0202020202020202" N_REST, "", SWARMBANNER_LEFT, 0, 1, 0, 2, 0,
+     {8, 8}, {"\0\1\0\1\1\0\0\1", "\2\2\2\2\2\2\2\2"}},
+    {"outside after what waits", N_HEAD "01 00 02 0202" N_REST, "01", SWARMBANNER_LEFT, 1, 3, 0, 2, 0, {1, 3},
+     {"\0", "\2\2\2"}},
 };
 
 /* The record and the memory are those of a configuration, and all around them is as it was. */
@@ -501,6 +571,23 @@ static void queue_goes_round(void)
            "not the oldest", "two");
 }
 
+/* What waits at the start takes its room: a queue of 1,024 messages takes so many less. */
+static void full_from_the_start(void)
+{
+    static const uint8_t steps[SWARMBANNER_QUEUE_LEAST];
+    static struct replayed full = {"full", R2, NULL, 0, 0, 0, 0, 1, 0, {SWARMBANNER_QUEUE_LEAST, 0}, {NULL, ""}};
+    const uint8_t *trace = lend_copy(&trace_lend, steps, sizeof steps);
+    size_t length;
+    const uint8_t *file = hex(R2, &length);
+
+    full.messages[0] = (const char *)steps;
+    expect(call_replay(file, length, trace, 1022, least) == SWARMBANNER_END && replied(1022, 0, 0), "1,022 messages more", "R2");
+    expect_run(&full);
+    expect(call_replay(file, length, trace, 1023, plenty()) == SWARMBANNER_STEP_REFUSED && replied(15, 1022, 1022),
+           "1,023 messages more", "R2");
+    expect_run(&full);
+}
+
 /* File and trace may be the same bytes, since both are only read. */
 static void same_bytes(void)
 {
@@ -551,12 +638,14 @@ int main(void)
     null_with_nothing();
     membership();
     tables();
+    starting();
     words();
     full_table();
     replays_refused();
     short_queue_memory();
     full_queue();
     queue_goes_round();
+    full_from_the_start();
     same_bytes();
     writing();
     expressions();

@@ -9,7 +9,7 @@
 #include "files.h"
 
 /* Bytes of the longest file. */
-#define LONGEST 11664u
+#define LONGEST 11700u
 
 /* Reads a file and keeps its tables. */
 static int read_into(uint8_t *tables, const uint8_t *file, size_t length)
@@ -74,7 +74,7 @@ static void write_text(const char *name, const char *text)
     write_back(name, file, length);
 }
 
-/* As many of everything as there can be, and no final mark, so that no word is accepted out of order. */
+/* As many of everything as there can be, also at the start, and no final mark, so that no word is accepted out of order. */
 static void longest_file(void)
 {
     static uint8_t tables[SWARMBANNER_SPACE_LEAST], file[LONGEST];
@@ -86,6 +86,9 @@ static void longest_file(void)
     memset(tables + SWARMBANNER_AT_STATES, 4, SWARMBANNER_MACHINES_MOST);
     memset(tables + SWARMBANNER_AT_STARTS, 3, SWARMBANNER_MACHINES_MOST);
     memset(tables + SWARMBANNER_AT_MESSAGES, 8, SWARMBANNER_QUEUES_MOST);
+    memset(tables + SWARMBANNER_AT_LENGTHS, SWARMBANNER_STARTING_MOST, SWARMBANNER_QUEUES_MOST);
+    for (i = 0; i < SWARMBANNER_MESSAGES_MOST; i++)
+        tables[SWARMBANNER_AT_CONTENTS + i] = (uint8_t)(i ^ 5);
     for (i = 0; i < SWARMBANNER_TRANSITIONS_MOST; i++) {
         uint8_t *row = tables + SWARMBANNER_AT_TRANSITIONS + i * SWARMBANNER_TRANSITION_ROW;
 
@@ -108,9 +111,44 @@ static void longest_file(void)
     expect_file(tables, file, sizeof file, "longest");
     expect(call_read(lend_copy(&file_lend, file, sizeof file), sizeof file, least) == SWARMBANNER_READ, "read", "longest");
     expect(memcmp(lend_at(&space_lend), tables, sizeof tables) == 0, "the same tables", "longest");
-    /* any word is accepted from here on */
+    /* any word is accepted */
     tables[SWARMBANNER_AT_FINALS + 5] = 1;
     expect(call_write(tables, sizeof tables, n) == SWARMBANNER_REFUSED && replied(16, 0, 0), "out of order", "longest");
+    tables[SWARMBANNER_AT_FINALS + 5] = 0;
+    memset(tables + SWARMBANNER_AT_LENGTHS, 0, SWARMBANNER_AT_TRANSITIONS - SWARMBANNER_AT_LENGTHS);
+    expect(call_write(tables, sizeof tables, n) == SWARMBANNER_WRITTEN && replied(LONGEST - 36, 0, 0), "written",
+           "longest that starts empty");
+}
+
+/* Tables are written in the form with starting contents just if some queue starts with a message. */
+static void both_forms(void)
+{
+    static uint8_t tables[SWARMBANNER_SPACE_LEAST], file[64];
+    size_t length, queue;
+    const uint8_t *bytes = hex(R, &length);
+
+    expect(read_into(tables, bytes, length), "read", "R");
+    tables[SWARMBANNER_AT_LENGTHS] = 2;
+    bytes = hex(R2, &length);
+    memcpy(file, bytes, length);
+    expect_file(tables, file, length, "R with two messages at the start");
+    expect(read_into(tables, bytes, length), "read", "R2");
+    tables[SWARMBANNER_AT_LENGTHS] = 0;
+    bytes = hex(R, &length);
+    memcpy(file, bytes, length);
+    expect_file(tables, file, length, "R2 without them");
+    /* in any queue: message q is the one of queue q */
+    for (queue = 0; queue < SWARMBANNER_QUEUES_MOST; queue++) {
+        bytes = hex("04 01010101 00000000 04 01010101 00 01 01 00 01 00", &length);
+        expect(read_into(tables, bytes, length), "read", "four queues");
+        tables[SWARMBANNER_AT_LENGTHS + queue] = 1;
+        tables[SWARMBANNER_AT_CONTENTS + SWARMBANNER_CONTENTS_ROW * queue] = (uint8_t)queue;
+        bytes = hex("08 01010101 00000000 04 01010101 00000000 00 00 01 01 00 01 00", &length);
+        memcpy(file, bytes, length);
+        file[14 + queue] = 1;
+        file[15 + queue] = (uint8_t)queue;
+        expect_file(tables, file, length, "four queues, one of which starts with a message");
+    }
 }
 
 /* Tables may be followed by anything; there must be enough of them, or nothing else is asked. */
@@ -136,7 +174,7 @@ static void lengths_of_tables(void)
         }
 }
 
-/* An entry of the tables of D, by its place, that no file has. */
+/* An entry of the tables of D or of DS, by its place, that no file has. */
 struct damage {
     const char *name;
     size_t place;
@@ -144,6 +182,7 @@ struct damage {
 };
 
 #define ROW(number) (SWARMBANNER_AT_TRANSITIONS + (number) * SWARMBANNER_TRANSITION_ROW)
+#define CONTENTS(queue) (SWARMBANNER_AT_CONTENTS + (queue) * SWARMBANNER_CONTENTS_ROW)
 #define ARC(state, message) (SWARMBANNER_AT_ARCS + (state) * SWARMBANNER_ARC_ROW + (message))
 
 static const struct damage damages[] = {
@@ -205,17 +244,42 @@ static const struct damage damages[] = {
     {"end of the bad entries", SWARMBANNER_SPACE_LEAST - 1, 1},
 };
 
+/* Of D, whose queues start empty: queue 1 has messages 2 and 3. */
+static const struct damage empty_damages[] = {
+    {"message in an empty queue at the start", CONTENTS(0), 1},
+    {"message of another queue at the start", SWARMBANNER_AT_LENGTHS + 1, 1},
+};
+
+/* Of DS, which starts with 1 0 1 in queue 0 and 3 in queue 1. */
+static const struct damage starting_damages[] = {
+    {"nine messages at the start", SWARMBANNER_AT_LENGTHS, 9},
+    {"255 messages at the start", SWARMBANNER_AT_LENGTHS + 1, 255},
+    {"fewer messages at the start", SWARMBANNER_AT_LENGTHS, 2},
+    {"no messages at the start", SWARMBANNER_AT_LENGTHS + 1, 0},
+    {"more messages at the start, of another queue", SWARMBANNER_AT_LENGTHS + 1, 2},
+    {"length beyond the queues", SWARMBANNER_AT_LENGTHS + 2, 1},
+    {"last length", SWARMBANNER_AT_LENGTHS + 3, 1},
+    {"message of the start past the sum", CONTENTS(0), 4},
+    {"message of the start of a later queue", CONTENTS(0) + 2, 2},
+    {"message of the start of an earlier queue", CONTENTS(1), 1},
+    {"message beyond a starting length", CONTENTS(0) + 3, 1},
+    {"last message beyond a starting length", CONTENTS(1) - 1, 1},
+    {"message beyond the last starting length", CONTENTS(1) + 1, 2},
+    {"message at the start beyond the queues", CONTENTS(2), 1},
+    {"end of the starting contents", SWARMBANNER_AT_TRANSITIONS - 1, 1},
+};
+
 /* No file has these tables, which is told before a buffer that is too short. */
-static void damaged_tables(void)
+static void damaged_tables(const char *name, const char *text, const struct damage *list, size_t count)
 {
     static uint8_t tables[SWARMBANNER_SPACE_LEAST];
     struct lengths n = plenty();
     size_t i, length;
-    const uint8_t *file = hex(D, &length);
+    const uint8_t *file = hex(text, &length);
 
-    expect(read_into(tables, file, length), "read", "D");
-    for (i = 0; i < sizeof damages / sizeof *damages; i++) {
-        const struct damage *d = &damages[i];
+    expect(read_into(tables, file, length), "read", name);
+    for (i = 0; i < count; i++) {
+        const struct damage *d = &list[i];
         uint8_t before = tables[d->place];
 
         tables[d->place] = d->entry;
@@ -247,19 +311,21 @@ static int is_honest(const uint8_t *tables, unsigned long *written)
 
 /*
  * Of the tables of D with one entry that is one more or one less, so many are those of a file: counts, states and starts give
- * 5, transitions 36, final marks 2, arcs 4, roots 6, bad entries 5.
+ * 5, starting contents 1, as queue 0 may start with message 0, transitions 36, final marks 2, arcs 4, roots 6, bad entries 5.
+ * Of those of DS starting contents give 5: a fourth message, which is 0, and another one in the place of each of the four.
  */
-#define AS_GOOD 58
+#define AS_GOOD 59
+#define AS_GOOD_STARTING 63
 
-static void every_byte(void)
+static void every_byte(const char *name, const char *text, unsigned long as_good)
 {
     static uint8_t tables[SWARMBANNER_SPACE_LEAST];
     unsigned long written = 0;
     int is_all_honest = 1;
     size_t place, length;
-    const uint8_t *file = hex(D, &length);
+    const uint8_t *file = hex(text, &length);
 
-    expect(read_into(tables, file, length), "read", "D");
+    expect(read_into(tables, file, length), "read", name);
     for (place = 0; place < sizeof tables; place++) {
         uint8_t before = tables[place];
 
@@ -269,8 +335,8 @@ static void every_byte(void)
         is_all_honest &= is_honest(tables, &written);
         tables[place] = before;
     }
-    expect(is_all_honest, "what is written is read into the same tables", "every byte of D");
-    expect(written == AS_GOOD, "as many as there are are written", "every byte of D");
+    expect(is_all_honest, "what is written is read into the same tables", name);
+    expect(written == as_good, "as many as there are are written", name);
 }
 
 static void writing(void)
@@ -279,15 +345,22 @@ static void writing(void)
     static uint8_t bytes[sizeof head + 4 * SWARMBANNER_TRANSITIONS_MOST + sizeof end];
 
     write_text("M", M);
+    write_text("MS", MS);
     write_text("D", D);
+    write_text("DS", DS);
     write_text("control states of two bytes", K);
     memcpy(bytes, head, sizeof head);
     memcpy(bytes + sizeof bytes - sizeof end, end, sizeof end);
     write_back("128 transitions", bytes, sizeof bytes);
     longest_file();
+    both_forms();
     lengths_of_tables();
-    damaged_tables();
-    every_byte();
+    damaged_tables("D", D, damages, sizeof damages / sizeof *damages);
+    damaged_tables("D", D, empty_damages, sizeof empty_damages / sizeof *empty_damages);
+    damaged_tables("DS", DS, damages, sizeof damages / sizeof *damages);
+    damaged_tables("DS", DS, starting_damages, sizeof starting_damages / sizeof *starting_damages);
+    every_byte("every byte of D", D, AS_GOOD);
+    every_byte("every byte of DS", DS, AS_GOOD_STARTING);
 }
 
 #endif

@@ -5,12 +5,13 @@
 #include "wrong.h"
 #include "wrong_expression.h"
 #include "wrong_followed.h"
+#include "wrong_starting.h"
 
 #include <string.h>
 
 size_t __wrap_swarmbanner_layout(void)
 {
-    return __real_swarmbanner_layout() + (FAULT == 19);
+    return __real_swarmbanner_layout() + (FAULT == 19) - (FAULT == 149);
 }
 
 /* Does something to the row of the first word of sixteen. */
@@ -49,6 +50,8 @@ READ(__wrap_swarmbanner_read)
         reply[1]++;
     if (kind == SWARMBANNER_READ)
         spoil_word(space);
+    if (kind != SWARMBANNER_NO_ROOM)
+        kind = start_read_wrongly(kind, file, file_len, space, reply);
     /* the byte after the file */
     if (FAULT == 5 && file_len > 0 && ((const volatile uint8_t *)file)[file_len] == 0)
         return kind;
@@ -87,11 +90,14 @@ CHECK(__wrap_swarmbanner_check)
 
     if (FAULT == 8 && seen_len == SWARMBANNER_TABLE_LEAST - 1)
         seen_len++;
+    if (FAULT >= 167 && FAULT <= 170)
+        file = start_elsewhere(file, &file_len);
     kind = __real_swarmbanner_check(file, file_len, seen, seen_len, queue, queue_len, contents, contents_len, lent.at,
                                     lent.length);
     reply_after(&lent, kind, reply, FAULT == 134);
     if (kind == SWARMBANNER_LEAVES)
         follow_step_wrongly(file, file_len, contents, reply);
+    kind = start_checked_wrongly(kind, file, file_len, contents, reply);
     if (FAULT == 9 && is_verdict(kind))
         seen[seen_len - 1] = 1;
     if (FAULT == 10 && is_verdict(kind))
@@ -153,13 +159,17 @@ REPLAY(__wrap_swarmbanner_replay)
         trace_len--;
     if (FAULT == 32 && memory_len % SWARMBANNER_QUEUE_LEAST == SWARMBANNER_QUEUE_LEAST - 1)
         memory_len++;
+    if (FAULT >= 174 && FAULT <= 177)
+        file = start_elsewhere(file, &file_len);
     kind = __real_swarmbanner_replay(file, file_len, trace, trace_len, memory, memory_len, record, record_len, lent.at,
                                      lent.length);
     reply_after(&lent, kind, reply, FAULT == 137);
     if (kind == SWARMBANNER_LEFT)
         follow_run_wrongly(file, file_len, trace, reply);
-    if (has_run(kind))
+    if (has_run(kind)) {
         spoil_run(memory, memory_len, record, record_len);
+        start_run_wrongly(file, file_len, memory, record, kind, reply);
+    }
     if (FAULT == 33 && kind == SWARMBANNER_REFUSED && memory_len > 0)
         memory[0] = 0;
     if (FAULT == 34 && kind == SWARMBANNER_TRACE_REFUSED)
@@ -273,6 +283,8 @@ WRITE(__wrap_swarmbanner_write)
         if (reply[0] <= buffer_len)
             memcpy(buffer, room, reply[0]);
     }
+    if (kind != SWARMBANNER_NO_ROOM)
+        kind = start_written_wrongly(kind, tables, tables_len, buffer, buffer_len, reply);
     if (kind == SWARMBANNER_WRITTEN)
         spoil_file(buffer, buffer_len, reply);
     if (FAULT == 61 && kind == SWARMBANNER_REFUSED && reply[0] == SWARMBANNER_REFUSED_TABLES && buffer_len == 0)

@@ -178,6 +178,7 @@ impl Comparer {
             Ok(tables) => {
                 self.tally.count("read: read");
                 self.tally.count_words(tables.used_transitions());
+                self.tally.count_start(tables);
                 demand(told == (lent::READ, [0; REPLY_LEAST]), &format!("read: told {told:?} of a file that is read"))?;
                 demand(self.space.now()[..SPACE_LEAST] == flat(tables), "read: other tables")?;
                 demand(self.space.kept_from(SPACE_LEAST), "read: the space's rest has changed")

@@ -26,7 +26,7 @@ fn near(tables: &[u8], random: &mut Random) -> usize {
     let row = |table: usize, rows: usize, length: usize, random: &mut Random| {
         table + random.below(rows + 1) * length + random.below(length)
     };
-    let place = match random.below(16) {
+    let place = match random.below(19) {
         0 => at::COUNTS + random.below(6),
         1 => row(at::STATES, count(0), 1, random),
         2 => row(at::STARTS, count(0), 1, random),
@@ -35,6 +35,8 @@ fn near(tables: &[u8], random: &mut Random) -> usize {
         8 | 9 => row(at::FINALS, count(4), 1, random),
         10..13 => at::ARCS + random.below(count(4) + 1) * at::ARC_ROW + random.below(count(2) + 1),
         13 => at::ROOTS + random.below(control_states(tables) + 1),
+        14 => row(at::LENGTHS, count(1), 1, random),
+        15 | 16 => row(at::CONTENTS, count(1), at::CONTENTS_ROW, random),
         _ => row(at::BAD, count(5), at::BAD_ROW, random),
     };
     place.min(SPACE_LEAST - 1)

@@ -1,4 +1,4 @@
-//! The files to compare by: whole ones of every verdict, and damaged ones. A seed and a number give a file.
+//! The files to compare by: whole ones of every verdict, and damaged ones, of both forms. A seed and a number give a file.
 
 use reference_checker::generate::draft::{encode, Draft, Number};
 use reference_checker::generate::plan::{random_plan, Shape};
@@ -6,6 +6,7 @@ use reference_checker::generate::verdicts::{Plans, SHAPE};
 use reference_checker::random::Random;
 use reference_checker::read::{BAD_ENTRIES, CONTROL_STATES, LONGEST_FILE, MACHINES, MESSAGES, POOL_STATES, QUEUES};
 use reference_checker::read::{TRANSITIONS, WORD_LENGTH};
+use swarmbanner::lent::STARTING_MOST;
 
 /// Small files with one count that may be at its limit.
 const WIDE: [Shape; 5] = [
@@ -26,6 +27,28 @@ const DEEP: Shape = Shape {
     pool_states: POOL_STATES,
     bad: 4,
 };
+
+/// Lengths and messages for queues that have so many messages each.
+fn any_start(messages: &[u8], random: &mut Random) -> Vec<u8> {
+    let (is_empty, is_wrong) = (random.chance(20), random.chance(20));
+    let sum: usize = messages.iter().map(|&count| usize::from(count)).sum();
+    let mut first = 0;
+    let queue = |&count: &u8| {
+        let own = (first, first + usize::from(count) - 1);
+        first += usize::from(count);
+        let length = match random.below(8) {
+            _ if is_empty => 0,
+            0..3 => 0,
+            3..6 => random.between(1, 3),
+            6 => STARTING_MOST,
+            _ => random.between(1, STARTING_MOST + usize::from(is_wrong)),
+        };
+        let (least, most) = if is_wrong { (0, sum) } else { own };
+        let message = |_| random.between(least, most) as u8;
+        [length as u8].into_iter().chain((0..length).map(message)).collect::<Vec<u8>>()
+    };
+    messages.iter().flat_map(queue).collect()
+}
 
 pub struct Files {
     plans: Plans,
@@ -48,7 +71,8 @@ impl Files {
             450..460 => self.plans.mended(&Shape::MEDIUM).bytes(),
             460..461 => self.raw(&DEEP),
             461..480 => self.wide(),
-            480..660 => self.with_number_damaged(),
+            480..500 => self.with_any_start(),
+            500..660 => self.with_number_damaged(),
             660..740 => self.cut(),
             740..780 => self.extended(),
             780..900 => self.with_bytes_changed(),
@@ -77,6 +101,22 @@ impl Files {
             action.word = (0..length).map(|_| random.between(messages.start, messages.end - 1)).collect();
         }
         plan.bytes()
+    }
+
+    /// The form with starting contents, which are any: none at all, as many as there can be, one more, messages of another queue.
+    fn with_any_start(&mut self) -> Vec<u8> {
+        let mut file = self.raw(&SHAPE);
+        if usize::from(file[0]) > MACHINES {
+            return file;
+        }
+        let random = &mut self.plans.random;
+        let (machines, counts) = (usize::from(file[0]), 2 * usize::from(file[0]) + 1);
+        let queues = usize::from(file[counts]);
+        let begin = counts + 1 + queues;
+        let starting = any_start(&file[counts + 1..begin], random);
+        file[0] = (machines + MACHINES) as u8;
+        file.splice(begin..begin, starting);
+        file
     }
 
     fn small_draft(&mut self) -> Draft {

@@ -4,11 +4,13 @@ use std::collections::BTreeMap;
 
 use reference_checker::diagram::root;
 use reference_checker::expression::Pool;
-use reference_checker::read::{read, Kind, Refusal, Tables, Transition, POOL_STATES, WORD_LENGTH};
+use reference_checker::read::{read, Kind, Refusal, Tables, Transition, MACHINES, POOL_STATES, WORD_LENGTH};
 use reference_checker::replay::{Answer, Reply as Replayed, QUEUE_ROOM};
 use reference_checker::verdict::{Reply, Verdict};
 use reference_checker::walk::control_state_after;
+use swarmbanner::lent::STARTING_MOST;
 
+use crate::typed::starting_of;
 use crate::write::Reply as Written;
 
 #[derive(Default)]
@@ -44,6 +46,18 @@ const QUEUES_MET: [&str; 2] = ["replay: a queue goes round its bytes", "replay: 
 /// How a diagram loses contents, and what says how far it followed them.
 const LOST: [&str; 3] = ["no root", "no arc", "not final"];
 const FOLLOWED: [&str; 3] = ["member", "check", "replay"];
+/// What is met on files whose queues do not start empty, and on the tables of such a file, changed so that they start otherwise.
+const STARTED: [&str; 9] = [
+    "read: with messages at the start",
+    "read: with eight in a queue",
+    "read: with messages in each of several queues",
+    "check: closed with messages at the start",
+    "check: outside with messages at the start",
+    "check: leaves with messages at the start",
+    "check: bad with messages at the start",
+    "replay: steps from a start with messages",
+    "write: another start",
+];
 const LEFT: [&str; 2] = ["check: leaves by sending a longest word", "check: leaves by receiving a longest word"];
 
 impl Tally {
@@ -73,6 +87,23 @@ impl Tally {
             Err(refusal) => return self.count(&format!("check: refused {}", refusal.number)),
         };
         self.count(name);
+        if tables.is_some_and(waits) {
+            self.count(&format!("{name} with messages at the start"));
+        }
+    }
+
+    /// What waits at the start of a file that is read.
+    pub fn count_start(&mut self, tables: &Tables) {
+        let [some, eight, several, ..] = STARTED;
+        let starting = starting_of(tables);
+        let met = [
+            (some, waits(tables)),
+            (eight, starting.iter().any(|queue| queue.len() == STARTING_MOST)),
+            (several, starting.len() > 1 && starting.iter().all(|queue| !queue.is_empty())),
+        ];
+        for (what, _) in met.into_iter().filter(|(_, is_met)| *is_met) {
+            self.count(what);
+        }
     }
 
     pub fn count_replay(&mut self, file: &[u8], trace: &[u8], answer: &Answer) {
@@ -105,6 +136,10 @@ impl Tally {
         }
         if steps * WORD_LENGTH > QUEUE_ROOM && sent_to_one_queue(file, &trace[..steps]) > QUEUE_ROOM {
             self.count(goes_round);
+        }
+        // of a file that is read, the first number tells
+        if steps > 0 && usize::from(file[0]) > MACHINES {
+            self.count("replay: steps from a start with messages");
         }
     }
 
@@ -185,13 +220,13 @@ impl Tally {
     /// What was never met.
     pub fn missing(&self) -> Vec<String> {
         let verdicts = VERDICTS.map(|verdict| format!("check: {verdict}"));
-        let refused_files = [1, 3, 4, 5, 6, 7, 8, 9, 10];
+        let refused_files = [1, 3, 4, 5, 6, 7, 8, 9, 10, 23];
         let read = refused_files.map(|number| format!("read: refused {number}"));
-        let check = (1..=10).map(|number| format!("check: refused {number}"));
+        let check = (1..=10).chain([23]).map(|number| format!("check: refused {number}"));
         let member = refused_files.into_iter().chain(11..=13).map(|number| format!("member: refused {number}"));
         let files = refused_files.map(|number| format!("replay: file refused {number}"));
         let steps = [3, 4, 5, 14, 15].map(|number| format!("replay: step refused {number}"));
-        let met = DEMANDED.into_iter().chain(REPLAYED).chain(WRITTEN).chain(DRAWN);
+        let met = DEMANDED.into_iter().chain(REPLAYED).chain(WRITTEN).chain(DRAWN).chain(STARTED);
         let losses = FOLLOWED.into_iter().flat_map(|call| LOST.map(|how| lost(call, how)));
         let fixed = met.chain(QUEUES_MET).chain(LEFT).map(str::to_string).chain(losses);
         let demanded = fixed.chain(verdicts).chain(read).chain(check).chain(member).chain(files).chain(steps);
@@ -215,6 +250,11 @@ impl Tally {
         report += &format!("  longest contents shown: {longest} messages; longest replay: {most} steps\n");
         report + &format!("  diagrams of {POOL_STATES} states: {full}\n")
     }
+}
+
+/// Whether some queue starts with a message.
+fn waits(tables: &Tables) -> bool {
+    starting_of(tables).iter().any(|queue| !queue.is_empty())
 }
 
 fn lost(call: &str, how: &str) -> String {

@@ -1,9 +1,11 @@
 //! The typed session, membership and replay of the binding beside the reference's.
 
+use reference_checker::flat::Flat;
 use reference_checker::membership::Member;
 use reference_checker::read::{Kind as ReferenceKind, Refusal as ReferenceRefusal, Tables};
 use reference_checker::read::{Transition as ReferenceTransition, MESSAGES};
 use reference_checker::replay::{Answer, Reply, QUEUE_ROOM};
+use swarmbanner::lent::at;
 use swarmbanner::{Kind, Membership, Refusal, Replayed, Replayer, Session, Transition};
 
 /// Whether a session says what the tables say.
@@ -14,6 +16,7 @@ pub fn same_session(session: &Session, tables: &Tables) -> bool {
             let first = tables.first_message(number);
             usize::from(queue.messages.start) == first && queue.messages.len() == usize::from(tables.messages[number])
         })
+        && same_start(session, tables)
         && session.transitions().len() == tables.transition_count
         && session.transitions().iter().zip(tables.used_transitions()).all(|(one, other)| same_transition(one, other))
         && same_pool(session, tables)
@@ -33,6 +36,19 @@ fn same_machines(session: &Session, tables: &Tables) -> bool {
             let states = session.machine_states(control).expect("the control state is there");
             session.control_of(&states) == Some(control)
         })
+}
+
+/// What waits at the start, queue by queue, and as one word.
+fn same_start(session: &Session, tables: &Tables) -> bool {
+    let starting = starting_of(tables);
+    session.queues().iter().map(|queue| &queue.starting).eq(&starting) && session.starting() == starting.concat()
+}
+
+/// What waits in each queue at the start, by the layout of `include/swarmbanner.h`.
+pub fn starting_of(tables: &Tables) -> Vec<Vec<u8>> {
+    let flat = Flat::of(tables).0;
+    let rows = flat[at::CONTENTS..at::TRANSITIONS].chunks(at::CONTENTS_ROW).zip(&flat[at::LENGTHS..at::CONTENTS]);
+    rows.take(tables.queue_count).map(|(row, &length)| row[..usize::from(length)].to_vec()).collect()
 }
 
 fn same_transition(one: &Transition, other: &ReferenceTransition) -> bool {

@@ -2,7 +2,7 @@
 
 use reference_checker::random::Random;
 use reference_checker::read::{Refusal, Tables};
-use swarmbanner::lent::{self, FILE_MOST, REPLY_LEAST, SPACE_LEAST};
+use swarmbanner::lent::{self, at, FILE_MOST, REPLY_LEAST, SPACE_LEAST};
 
 use crate::compare::{demand, length, refused, MORE};
 use crate::damage::damage;
@@ -38,6 +38,7 @@ impl Writer {
     ) -> Result<(), String> {
         let Ok(tables) = tables else { return self.write(file, random, tally).map(drop) };
         let mut tables = flat(tables);
+        let start = tables[at::LENGTHS..at::TRANSITIONS].to_vec();
         if let Ok(written) = self.write(&tables, random, tally)? {
             demand(written == file, "write: what is read is not written back")?;
         }
@@ -45,6 +46,9 @@ impl Writer {
         if let Ok(written) = self.write(&tables, random, tally)? {
             if written != file {
                 tally.count("write: damaged and written");
+            }
+            if tables[at::LENGTHS..at::TRANSITIONS] != start {
+                tally.count("write: another start");
             }
         }
         Ok(())

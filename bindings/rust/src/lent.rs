@@ -17,7 +17,7 @@ pub mod at;
 
 /// Nothing fails. With it go the pairs visited.
 pub const CLOSED: usize = 0;
-/// Empty queues are not in the set of the starting control state.
+/// What waits at the start is not in the set of the starting control state.
 pub const OUTSIDE: usize = 1;
 /// A step leads outside. With it go the control state, the transition, the number of messages shown, and how many of the messages
 /// after the step the set that it leads to follows; 0 where that has no root.
@@ -52,7 +52,7 @@ pub const WRITTEN: usize = 14;
 pub const DRAWN: usize = 15;
 
 /// The number of the layout that this crate is written for, SWARMBANNER_LAYOUT of the header. [`layout`] is the library's.
-pub const LAYOUT: usize = 3;
+pub const LAYOUT: usize = 4;
 
 /// Bytes that a file can have.
 pub const FILE_MOST: usize = 16_384;
@@ -72,6 +72,8 @@ pub const CONTROL_STATES_MOST: usize = 256;
 pub const QUEUES_MOST: usize = 4;
 /// Messages that the queues can have together.
 pub const MESSAGES_MOST: usize = 32;
+/// Messages that a queue can start with.
+pub const STARTING_MOST: usize = 8;
 /// Transitions that a file can have.
 pub const TRANSITIONS_MOST: usize = 128;
 /// Messages that a transition can send or receive at once.
@@ -263,7 +265,8 @@ pub fn check(file: &[u8], seen: &mut [u16], queue: &mut [u16], contents: &mut [u
     }
 }
 
-/// Replays a trace: [`END`], [`LEFT`], [`STEP_REFUSED`], [`REFUSED`], [`TRACE_REFUSED`], [`MEMORY_REFUSED`] or [`NO_ROOM`].
+/// Replays a trace, from the start that the file says: [`END`], [`LEFT`], [`STEP_REFUSED`], [`REFUSED`], [`TRACE_REFUSED`],
+/// [`MEMORY_REFUSED`] or [`NO_ROOM`].
 ///
 /// After the first three the front of the record has the last configuration, and each queue of the file has its messages and
 /// then 0 in its [`QUEUE_LEAST`] bytes of memory; what follows in both is as it was. After a refusal of the file, the trace or

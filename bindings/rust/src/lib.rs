@@ -23,6 +23,7 @@
 //! | check many files in the same memory | [`Checker`] |
 //! | ask whether contents lie in a set | [`member`]; [`membership`] says how far they are followed, too |
 //! | see what a file has in it | [`read`] and [`Session`] |
+//! | see what waits in the queues at the start, or say it | [`Session::starting`], [`Session::set_starting`] |
 //! | make a session, or change one | [`Session::new`] and the methods after it |
 //! | make a file of a session | [`Session::write`] |
 //! | draw the diagram of an expression | [`expression`] and [`Diagram`] |

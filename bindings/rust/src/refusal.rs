@@ -12,10 +12,10 @@ use crate::lent::REPLY_LEAST;
 /// ```
 #[derive(Clone, Copy, Debug, PartialEq, Eq, Hash)]
 pub struct Refusal {
-    /// Which cause it is, 1 to 22.
+    /// Which cause it is, 1 to 23.
     pub number: u8,
     /// A place in the file; for causes 12 and 13 a place in the contents, for 14 and 15 one in the trace, for 18 to 21 one in the
-    /// text of an expression, for 2, 11, 16, 17 and 22 always 0. Causes 1, 3, 4 and 5 are a trace's too:
+    /// text of an expression, for 2, 11, 16, 17, 22 and 23 always 0. Causes 1, 3, 4 and 5 are a trace's too:
     /// [`Replayed`](crate::Replayed) says which of the two is meant. 5 is an expression's too, where [`expression`](crate::expression)
     /// gives it.
     pub place: usize,
@@ -24,7 +24,7 @@ pub struct Refusal {
 impl Refusal {
     /// From the first two numbers of a reply.
     pub(crate) fn told(reply: &[usize; REPLY_LEAST]) -> Self {
-        let number = u8::try_from(reply[0]).expect("refusals are numbered 1 to 22");
+        let number = u8::try_from(reply[0]).expect("refusals are numbered 1 to 23");
         Refusal { number, place: reply[1] }
     }
 
@@ -37,7 +37,7 @@ impl Refusal {
             4 => "a number is not in its shorter form, or has more than two bytes",
             5 => "a number is outside its field's range",
             6 => "the product of the machines' states passes 256, or the sum of the queues' messages passes 32",
-            7 => "a message of a transition is in another queue than the transition's",
+            7 => "a message of a transition, or one that waits at the start, is in another queue",
             8 => "the messages of a diagram state's arcs do not ascend",
             9 => "a word accepted from a root has a message of an earlier queue after one of a later queue",
             10 => "bytes follow the last field",
@@ -53,6 +53,7 @@ impl Refusal {
             20 => "more than eight groups lie in one another",
             21 => "more than 32 numbers stand in the text",
             22 => "the diagram has more than 127 states",
+            23 => "messages are to wait at the start, and all queues start empty",
             _ => "no cause has this number",
         }
     }
@@ -60,7 +61,7 @@ impl Refusal {
     /// The cause in words, and where.
     pub fn explain(&self) -> String {
         match self.number {
-            2 | 11 | 16 | 17 | 22 => self.cause().to_string(),
+            2 | 11 | 16 | 17 | 22 | 23 => self.cause().to_string(),
             12 | 13 => format!("{} (at message {} of the contents)", self.cause(), self.place),
             14 | 15 => format!("{} (at byte {} of the trace)", self.cause(), self.place),
             18..=21 => format!("{} (at byte {} of the text)", self.cause(), self.place),

@@ -15,7 +15,9 @@ pub enum Reply {
         /// The defined count of pairs visited.
         pairs: usize,
     },
-    /// Empty queues are not in the set of the starting control state.
+    /// What waits at the start is not in the set of the starting control state; mostly that is nothing. [`Session::starting`] has it.
+    ///
+    /// [`Session::starting`]: crate::Session::starting
     Outside,
     /// Contents inside allow a step that leads outside.
     Leaves {

@@ -25,6 +25,8 @@ pub struct Machine {
 pub struct Queue {
     /// The messages that may wait in it.
     pub messages: Range<u8>,
+    /// What waits in it at the start, oldest first: up to eight of its messages.
+    pub starting: Vec<u8>,
 }
 
 /// What a transition does beside moving its machine.
@@ -208,6 +210,21 @@ fn take(rest: &mut usize, base: usize) -> usize {
 
 /// Contents of the queues.
 impl Session {
+    /// What waits at the start, queue after queue, as [`member`](crate::member) takes it. Nothing, where all queues start empty.
+    ///
+    /// ```
+    /// // One machine, of one state; queue 0 starts with message 0, queue 1 empty. Anything may wait.
+    /// let file = [5, 1, 0, 2, 1, 1, 1, 0, 0, 0, 2, 1, 2, 0, 0, 1, 1, 1, 1, 1, 1, 1, 0];
+    /// let session = swarmbanner::read(&file)?;
+    /// assert_eq!((&session.queues()[0].starting[..], &session.queues()[1].starting[..]), (&[0][..], &[][..]));
+    /// assert_eq!(session.starting(), [0]);
+    /// assert_eq!(swarmbanner::member(&file, session.start(), &session.starting()), Ok(true));
+    /// # Ok::<(), swarmbanner::Refusal>(())
+    /// ```
+    pub fn starting(&self) -> Vec<u8> {
+        self.queues.iter().flat_map(|queue| &queue.starting).copied().collect()
+    }
+
     /// The queue that a message belongs to.
     pub fn queue_of(&self, message: u8) -> Option<usize> {
         self.queues.iter().position(|queue| queue.messages.contains(&message))

@@ -60,6 +60,7 @@ fn a_new_session_has_nothing_but_one_state() {
     let session = small();
     assert_eq!(session.machines(), machines(&[2, 3]));
     assert_eq!(session.queues().iter().map(|queue| queue.messages.clone()).collect::<Vec<_>>(), [0..2, 2..3]);
+    assert!(session.starting().is_empty() && session.queues().iter().all(|queue| queue.starting.is_empty()));
     assert!(session.transitions().is_empty() && session.bad_entries().is_empty());
     assert_eq!(session.pool(), [PoolState { is_final: false, arcs: vec![] }]);
     assert_eq!(session.roots(), [None; 6]);
@@ -106,6 +107,43 @@ fn starting_states() {
     assert_eq!((session.start(), session.machines()[1]), (2, Machine { states: 3, start: 2 }));
     refuses(&session, NoMachine { machine: 2 }, |session| session.set_start(2, 0));
     refuses(&session, NoMachineState { machine: 1, state: 3 }, |session| session.set_start(1, 3));
+}
+
+#[test]
+fn starting_contents() {
+    let mut session = small();
+    assert_eq!(session.set_starting(1, &[2; 8]), Ok(vec![]));
+    assert_eq!(session.set_starting(0, &[1, 0]), Ok(vec![]));
+    assert_eq!(session.set_starting(1, &[2]), Ok(vec![2; 8]));
+    assert_eq!((&session.queues()[0].starting[..], &session.queues()[1].starting[..]), (&[1, 0][..], &[2][..]));
+    assert_eq!(session.starting(), [1, 0, 2]);
+    let written = session.write().expect("there is no root");
+    assert_eq!(written[..13], [6, 2, 3, 0, 0, 2, 2, 1, 2, 1, 0, 1, 2]);
+    assert_eq!(read(&written), Ok(session.clone()));
+    // one queue that starts with something is enough
+    assert_eq!(session.set_starting(0, &[]), Ok(vec![1, 0]));
+    assert_eq!(session.write().map(|file| file[..11].to_vec()), Ok(vec![6, 2, 3, 0, 0, 2, 2, 1, 0, 1, 2]));
+    assert_eq!(session.set_starting(1, &[]), Ok(vec![2]));
+    assert_eq!(session, small());
+    assert_eq!(session.write().map(|file| file[..9].to_vec()), Ok(vec![2, 2, 3, 0, 0, 2, 2, 1, 0]), "the other form");
+}
+
+#[test]
+fn starting_contents_that_cannot_be() {
+    let mut session = small();
+    session.set_starting(0, &[0]).expect("it is within its ranges");
+    let wrong: [(usize, &[u8], SessionError); 7] = [
+        (2, &[], NoQueue { queue: 2 }),
+        (2, &[9; 9], NoQueue { queue: 2 }),
+        (0, &[0; 9], StartingLength { queue: 0, length: 9 }),
+        (1, &[9; 9], StartingLength { queue: 1, length: 9 }),
+        (0, &[1, 3], NoMessage { message: 3 }),
+        (0, &[1, 2, 3], OtherQueue { message: 2, queue: 0 }),
+        (1, &[2, 1], OtherQueue { message: 1, queue: 1 }),
+    ];
+    for (queue, messages, error) in wrong {
+        refuses(&session, error, |session| session.set_starting(queue, messages));
+    }
 }
 
 #[test]
@@ -290,6 +328,7 @@ fn every_error_says_what_is_wrong() {
         (NoQueue { queue: 2 }, "there is no queue 2"),
         (NoMessage { message: 32 }, "there is no message 32"),
         (OtherQueue { message: 2, queue: 0 }, "message 2 is not one of queue 0"),
+        (StartingLength { queue: 1, length: 9 }, "queue 1 can start with up to 8 messages, not with 9"),
         (WordLength { length: 17 }, "a word has up to 16 messages, not 17"),
         (TransitionsFull, "a session has up to 128 transitions"),
         (NoTransition { transition: 3 }, "there is no transition 3"),

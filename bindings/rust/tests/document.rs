@@ -20,7 +20,7 @@ const LETTERED: [(&str, &str); 14] = [
     ("01 01 00 02 01 01 01 00 00 00 02 01 01 01 02 01 02 00 00 01 01 01 01 01 01 01 00", "closed 3"),
     ("", "refused 3 at 0"),
     ("82 00 01 01 00 00 01 01 02 00 00 00 01 00 01 00 01 00 00 02 00 01 00 01 01 01 00 00 01 00", "refused 4 at 0"),
-    ("05 01 01 00 00 01 01 02 00 00 00 01 00 01 00 01 00 00 02 00 01 00 01 01 01 00 00 01 00", "refused 5 at 0"),
+    ("05 01 01 00 00 01 01 02 00 00 00 01 00 01 00 01 00 00 02 00 01 00 01 01 01 00 00 01 00", "refused 5 at 2"),
     ("02 01 01 00 00 01 01 02 00 00 00 01 00 01 00 01 00 00 02 00 01 00 01 01 01 00 00 01 00 00", "refused 10 at 29"),
     ("02 01 01 00 00 01 01 02 00 00 00 01 00 01 00 01 00 00 02 00 01 00 01 01 01 00 00 01", "refused 3 at 28"),
     ("01 01 00 02 01 01 01 00 00 00 01 00 01 00 01 01 02 00 00 01 00 01 00", "refused 9 at 23"),
@@ -142,14 +142,14 @@ fn memory_that_is_just_enough_and_one_short() {
 #[test]
 fn no_room_touches_nothing() {
     let mut reply = [9; 3];
-    assert_eq!(lent::read(&hex(R), &mut [5; 7409], &mut reply), lent::NO_ROOM);
+    assert_eq!(lent::read(&hex(R), &mut [5; 7445], &mut reply), lent::NO_ROOM);
     assert_eq!(lent::member(&hex(R), 0, &[], &mut reply), lent::NO_ROOM);
     assert_eq!(lent::check(&hex(R), &mut [], &mut [], &mut [], &mut reply), lent::NO_ROOM);
     assert_eq!(lent::write(&[], &mut [], &mut reply), lent::NO_ROOM);
     assert_eq!(reply, [9; 3]);
-    let (mut space, mut reply) = ([5; 7408], [9; 4]);
+    let (mut space, mut reply) = ([5; 7444], [9; 4]);
     assert_eq!(lent::read(&hex(R), &mut space, &mut reply), lent::NO_ROOM);
-    assert_eq!((space, reply), ([5; 7408], [9; 4]));
+    assert_eq!((space, reply), ([5; 7444], [9; 4]));
 }
 
 /// Two states, messages 1 to 16 in queue 1.
@@ -251,6 +251,8 @@ fn samples() {
         ("producer-consumer-bad", "bad 0 1: 4"),
         ("takeover-two-feeds", "bad 0 4: 0 1 3 2"),
         ("takeover-sequenced", "closed 173"),
+        ("takeover-resumes", "closed 54"),
+        ("takeover-resumes-flawed", "bad 6 1: 0"),
         ("sliding-window", "closed 1080"),
         ("logon-burst", "closed 97"),
         ("logon-burst-leaves", "leaves 3 1 11 11: 0 1 2 3 4 5 6 7 8 9 10"),
@@ -265,11 +267,15 @@ fn samples() {
 
 #[test]
 fn every_cause_is_explained() {
-    let causes: std::collections::HashSet<&str> = (1..=22).map(|number| Refusal { number, place: 0 }.cause()).collect();
-    assert_eq!(causes.len(), 22);
+    let causes: std::collections::HashSet<&str> = (1..=23).map(|number| Refusal { number, place: 0 }.cause()).collect();
+    assert_eq!(causes.len(), 23);
     assert_eq!(Refusal { number: 11, place: 0 }.explain(), "the file has no such control state");
     assert_eq!(Refusal { number: 16, place: 0 }.explain(), "no session file is read into these tables");
     assert_eq!(Refusal { number: 17, place: 0 }.explain(), "the buffer is shorter than the file");
+    assert_eq!(
+        Refusal { number: 23, place: 0 }.explain(),
+        "messages are to wait at the start, and all queues start empty"
+    );
     let error: Box<dyn std::error::Error> = Box::new(Refusal { number: 5, place: 7 });
     assert_eq!(error.to_string(), "refused 5 at 7");
 }

@@ -4,7 +4,7 @@ use swarmbanner::lent::{self, at};
 
 const HEADER: &str = include_str!("../../../include/swarmbanner.h");
 
-const NUMBERS: [(&str, usize); 52] = [
+const NUMBERS: [(&str, usize); 55] = [
     ("CLOSED", lent::CLOSED),
     ("OUTSIDE", lent::OUTSIDE),
     ("LEAVES", lent::LEAVES),
@@ -38,6 +38,7 @@ const NUMBERS: [(&str, usize); 52] = [
     ("CONTROL_STATES_MOST", lent::CONTROL_STATES_MOST),
     ("QUEUES_MOST", lent::QUEUES_MOST),
     ("MESSAGES_MOST", lent::MESSAGES_MOST),
+    ("STARTING_MOST", lent::STARTING_MOST),
     ("TRANSITIONS_MOST", lent::TRANSITIONS_MOST),
     ("WORD_MOST", lent::WORD_MOST),
     ("POOL_STATES_MOST", lent::POOL_STATES_MOST),
@@ -46,6 +47,8 @@ const NUMBERS: [(&str, usize); 52] = [
     ("AT_STATES", at::STATES),
     ("AT_STARTS", at::STARTS),
     ("AT_MESSAGES", at::MESSAGES),
+    ("AT_LENGTHS", at::LENGTHS),
+    ("AT_CONTENTS", at::CONTENTS),
     ("AT_TRANSITIONS", at::TRANSITIONS),
     ("AT_FINALS", at::FINALS),
     ("AT_ARCS", at::ARCS),

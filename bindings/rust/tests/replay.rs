@@ -193,7 +193,8 @@ fn refusals_in_turn() {
         replayed.to_string()
     };
     assert_eq!(told("", 16_385, 0), "file refused 3 at 0");
-    assert_eq!(told("05", 0, 4096), "file refused 5 at 0");
+    assert_eq!(told("09", 0, 4096), "file refused 5 at 0");
+    assert_eq!(told("05 01 00 01 01 00", 16_385, 0), "file refused 23 at 0");
     assert_eq!(told(&R[..84], 16_385, 0), "file refused 3 at 28");
     assert_eq!(told(R, 16_385, 0), "trace refused 1 at 16384");
     assert_eq!(told(R, 16_385, 4096), "trace refused 1 at 16384");
@@ -252,6 +253,8 @@ fn samples() {
     let lines = [
         ("takeover-two-feeds", "end 4", "states: 3 3 0 0\nqueue 0 2: 0 1\nqueue 1 2: 3 2"),
         ("takeover-sequenced", "end 8", "states: 4 0 0\nqueue 0 0:\nqueue 1 0:"),
+        ("takeover-resumes", "end 8", "states: 2 2\nqueue 0 0:\nqueue 1 0:"),
+        ("takeover-resumes-flawed", "end 3", "states: 2 1\nqueue 0 1: 0\nqueue 1 0:"),
         ("producer-consumer-leaves", "outside 3 2", "states: 0 1\nqueue 0 2: 0 1\nqueue 1 0:\nqueue 2 0:"),
     ];
     let mut replayer = Replayer::new();
@@ -261,7 +264,8 @@ fn samples() {
         let last = replayer.last().expect("something was replayed");
         assert_eq!(last.to_string(), lines, "{name}");
         let session = read(&file).expect("it is a session file");
-        let stepped = trace.iter().fold((session.start(), vec![]), |(control, contents), &number| {
+        let start = (session.start(), session.starting());
+        let stepped = trace.iter().fold(start, |(control, contents), &number| {
             session.step(control, number.into(), &contents).expect("the step can be taken")
         });
         assert_eq!((session.control_of(last.states), last.contents()), (Some(stepped.0), stepped.1), "{name}");

@@ -13,7 +13,7 @@ const S: [u8; 27] = [1, 1, 0, 2, 1, 1, 1, 0, 0, 0, 1, 0, 1, 0, 2, 1, 2, 0, 0, 1,
 const NO_FILE: Refusal = Refusal { number: 16, place: 0 };
 const NO_BUFFER: Refusal = Refusal { number: 17, place: 0 };
 /// Bytes of the longest file.
-const LONGEST: usize = 11_664;
+const LONGEST: usize = 11_700;
 
 fn tables_of(file: &[u8]) -> [u8; SPACE_LEAST] {
     let (mut tables, mut reply) = ([0; SPACE_LEAST], [0; 4]);
@@ -32,7 +32,7 @@ fn samples() -> Vec<Vec<u8>> {
 #[test]
 fn what_is_read_is_written_back() {
     let samples = samples();
-    assert!(samples.len() >= 11, "there are samples");
+    assert!(samples.len() >= 13, "there are samples");
     for file in samples.iter().map(Vec::as_slice).chain([&R[..], &S]) {
         let session = read(file).expect("it is a session file");
         assert_eq!(session.write().as_deref(), Ok(file));
@@ -78,7 +78,7 @@ fn tables_of_any_length() {
     assert_eq!((buffer, reply), ([0xaa; 29], [7; 3]));
 }
 
-/// In each table: past a range, and beyond the counts. Queue order is damaged by an arc, and by a mark.
+/// In each table: past a range, and beyond the counts; queue 1 would start with message 0, which is not its own. Queue order is damaged by an arc, and by a mark.
 #[test]
 fn tables_that_no_file_has() {
     let tables = tables_of(&S);
@@ -97,6 +97,12 @@ fn tables_that_no_file_has() {
         (at::STARTS + 3, 1),
         (at::MESSAGES, 0),
         (at::MESSAGES + 2, 1),
+        (at::LENGTHS, 9),
+        (at::LENGTHS + 1, 1),
+        (at::LENGTHS + 2, 1),
+        (at::CONTENTS, 1),
+        (at::CONTENTS + at::CONTENTS_ROW, 1),
+        (at::TRANSITIONS - 1, 1),
         (at::TRANSITIONS, 1),
         (at::TRANSITIONS + 1, 1),
         (at::TRANSITIONS + 2, 1),
@@ -129,7 +135,7 @@ fn tables_that_no_file_has() {
     }
 }
 
-/// All counts at their most, words of sixteen, and every arc; no state is final, so no word is accepted out of order.
+/// All counts at their most, eight messages in each queue at the start, words of sixteen, and every arc; no state is final, so no word is accepted out of order.
 #[test]
 fn the_longest_file() {
     let mut session = Session::new(&[Machine { states: 4, start: 3 }; 4], &[8; 4]).expect("it is within its ranges");
@@ -138,6 +144,10 @@ fn the_longest_file() {
         states.push(state);
     }
     let changed = "it is within its ranges";
+    for queue in 0..4 {
+        let messages: Vec<u8> = (0..8).map(|place| 8 * queue as u8 + 7 - place).collect();
+        session.set_starting(queue, &messages).expect(changed);
+    }
     for number in 0..128 {
         let kind = Kind::Send { queue: 3, word: (0..16).map(|place| 24 + (number as u8 + place) % 8).collect() };
         session.add_transition(Transition { machine: number % 4, from: 0, to: 3, kind }).expect(changed);
@@ -158,6 +168,10 @@ fn the_longest_file() {
     assert_eq!(file.len(), LONGEST);
     assert_eq!(read(&file), Ok(session.clone()));
     assert_eq!(session.write_into(&mut [0; LONGEST - 1]), Err(NO_BUFFER));
+    for queue in 0..4 {
+        session.set_starting(queue, &[]).expect(changed);
+    }
+    assert_eq!(session.write().map(|file| file.len()), Ok(LONGEST - 36), "the longest that starts empty");
     session.set_final(states[0], true).expect(changed);
     assert_eq!(session.write(), Err(NO_FILE), "now words are accepted in any order");
 }
@@ -227,7 +241,7 @@ fn change(session: &mut Session, random: &mut Random) -> bool {
     let message = random.below(session.queues().iter().map(|queue| queue.messages.len()).sum::<usize>() + 1) as u8;
     let control = random.below(session.control_states() + 1);
     let entry = BadEntry { control, root: state };
-    let made = match random.below(17) {
+    let made = match random.below(18) {
         0 => session.set_start(random.below(4), random.below(4)),
         1 | 2 => session.add_transition(transition(session, random)).map(drop),
         3 => session.replace_transition(random.below(4), transition(session, random)).map(drop),
@@ -240,10 +254,20 @@ fn change(session: &mut Session, random: &mut Random) -> bool {
         13 => session.set_root(control, None),
         14 => session.add_bad_entry(entry).map(drop),
         15 => put_diagram(session, random),
+        16 => set_starting(session, random),
         _ if random.is_one_in(2) => session.replace_bad_entry(random.below(3), entry).map(drop),
         _ => session.remove_bad_entry(random.below(3)).map(drop),
     };
     made.is_ok()
+}
+
+/// What a queue starts with, which may be past a range by one.
+fn set_starting(session: &mut Session, random: &mut Random) -> Result<(), SessionError> {
+    let queue = random.mostly_below(session.queues().len());
+    let messages = session.queues().get(queue).map_or(0..1, |queue| queue.messages.clone());
+    let length = if random.is_one_in(4) { random.below(10) } else { random.below(3) };
+    let starting: Vec<u8> = (0..length).map(|_| messages.start + random.mostly_below(messages.len()) as u8).collect();
+    session.set_starting(queue, &starting).map(drop)
 }
 
 /// A diagram behind the pool or in its place, which may have messages that are not there.
@@ -281,6 +305,7 @@ fn accepts_out_of_order(session: &Session) -> bool {
 fn goes_round(session: &Session) -> bool {
     match session.write() {
         Ok(file) => {
+            assert_eq!(usize::from(file[0]) > 4, !session.starting().is_empty(), "the form goes by what waits");
             assert!(!accepts_out_of_order(session), "{session:?}");
             assert_eq!(read(&file).as_ref(), Ok(session));
             assert_eq!(session.write_into(&mut vec![0; file.len() - 1]), Err(NO_BUFFER));
@@ -298,7 +323,7 @@ fn goes_round(session: &Session) -> bool {
 #[test]
 fn sessions_made_and_changed_at_random() {
     let mut random = Random(20_261_116);
-    let [mut written, mut refused, mut turned_down] = [0; 3];
+    let [mut written, mut resumed, mut refused, mut turned_down] = [0; 4];
     for _ in 0..400 {
         let mut session = new_session(&mut random);
         for _ in 0..random.below(60) {
@@ -307,10 +332,13 @@ fn sessions_made_and_changed_at_random() {
                 assert_eq!(session, before, "what is turned down changes nothing");
                 turned_down += 1;
             }
-            *(if goes_round(&session) { &mut written } else { &mut refused }) += 1;
+            let is_written = goes_round(&session);
+            *(if is_written { &mut written } else { &mut refused }) += 1;
+            resumed += usize::from(is_written && !session.starting().is_empty());
         }
     }
-    assert!(written > 1_000 && refused > 1_000 && turned_down > 1_000, "{written} {refused} {turned_down}");
+    let met = [written, resumed, refused, turned_down];
+    assert!(met.iter().all(|&count| count > 1_000), "{met:?}");
 }
 
 #[test]

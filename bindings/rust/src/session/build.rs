@@ -3,7 +3,7 @@ use super::{
     product, Arc, BadEntry, Diagram, DiagramState, Kind, Machine, PoolState, Queue, Session, SessionError, Transition,
 };
 use crate::lent::{
-    BAD_ENTRIES_MOST, CONTROL_STATES_MOST, MACHINES_MOST, MESSAGES_MOST, POOL_STATES_MOST, QUEUES_MOST,
+    BAD_ENTRIES_MOST, CONTROL_STATES_MOST, MACHINES_MOST, MESSAGES_MOST, POOL_STATES_MOST, QUEUES_MOST, STARTING_MOST,
     TRANSITIONS_MOST, WORD_MOST,
 };
 
@@ -20,11 +20,11 @@ fn demand(holds: bool, else_told: SessionError) -> Changed<()> {
 /// Making and changing a session. A change that would put something outside its range gives an error and leaves the session as
 /// it was.
 ///
-/// How many states the machines have, and the queues with their messages, stay as [`Session::new`] or [`read`](crate::read)
+/// How many states the machines have, and how many messages the queues, stays as [`Session::new`] or [`read`](crate::read)
 /// made them, since all the rest goes by them. Diagram states are added and never removed, so the number of one stays good.
 impl Session {
-    /// A session of these machines and of queues with so many messages each. It has no transitions, one diagram state that is
-    /// not final and has no arcs, no roots and no bad entries.
+    /// A session of these machines and of queues with so many messages each. The queues start empty. It has no transitions, one
+    /// diagram state that is not final and has no arcs, no roots and no bad entries.
     ///
     /// # Errors
     ///
@@ -73,6 +73,30 @@ impl Session {
         self.machines[machine].start = state;
         Ok(())
     }
+
+    /// Sets what waits in a queue at the start, oldest first, and gives what did before.
+    ///
+    /// # Errors
+    ///
+    /// Fails where there is no such queue or message, or where these are more than eight messages or one is of another queue.
+    ///
+    /// ```
+    /// let r = [2, 1, 1, 0, 0, 1, 1, 2, 0, 0, 0, 1, 0, 1, 0, 1, 0, 0, 2, 0, 1, 0, 1, 1, 1, 0, 0, 1, 0];
+    /// let mut session = swarmbanner::read(&r)?;
+    /// assert_eq!(session.set_starting(0, &[0, 0])?, []);
+    /// let file = session.write()?;
+    /// // two machines and 4; behind the messages of the queue its two
+    /// assert_eq!((file[0], &file[5..10]), (6, &[1, 1, 2, 0, 0][..]));
+    /// let mut replayer = swarmbanner::Replayer::new();
+    /// replayer.replay(&file, &[1]);
+    /// assert_eq!(replayer.last().unwrap().queues, [[0]]); // one was received, one still waits
+    /// # Ok::<(), Box<dyn std::error::Error>>(())
+    /// ```
+    pub fn set_starting(&mut self, queue: usize, messages: &[u8]) -> Changed<Vec<u8>> {
+        let too_many = SessionError::StartingLength { queue, length: messages.len() };
+        self.allows_word(queue, messages, STARTING_MOST, too_many)?;
+        Ok(std::mem::replace(&mut self.queues[queue].starting, messages.to_vec()))
+    }
 }
 
 /// As many machines as there can be, each with as many states, and all together.
@@ -101,7 +125,7 @@ fn numbered(messages: &[usize]) -> Changed<Vec<Queue>> {
         demand(end <= MESSAGES_MOST, SessionError::MessageSum { queue })?;
         let messages = first as u8..end as u8;
         first = end;
-        Ok(Queue { messages })
+        Ok(Queue { messages, starting: vec![] })
     });
     queues.collect()
 }
@@ -174,13 +198,16 @@ impl Session {
         self.has_machine_state(transition.machine, transition.to)?;
         match &transition.kind {
             Kind::Local => Ok(()),
-            Kind::Send { queue, word } | Kind::Receive { queue, word } => self.allows_word(*queue, word),
+            Kind::Send { queue, word } | Kind::Receive { queue, word } => {
+                self.allows_word(*queue, word, WORD_MOST, SessionError::WordLength { length: word.len() })
+            }
         }
     }
 
-    fn allows_word(&self, queue: usize, word: &[u8]) -> Changed<()> {
+    /// Whether a word has so many messages at most, all of this queue.
+    fn allows_word(&self, queue: usize, word: &[u8], most: usize, too_many: SessionError) -> Changed<()> {
         let of_queue = &self.queues.get(queue).ok_or(SessionError::NoQueue { queue })?.messages;
-        demand(word.len() <= WORD_MOST, SessionError::WordLength { length: word.len() })?;
+        demand(word.len() <= most, too_many)?;
         word.iter().try_for_each(|&message| {
             self.has_message(message)?;
             demand(of_queue.contains(&message), SessionError::OtherQueue { message, queue })

@@ -2,7 +2,7 @@ use std::error::Error;
 use std::fmt;
 
 use crate::lent::{
-    BAD_ENTRIES_MOST, CONTROL_STATES_MOST, MACHINES_MOST, MESSAGES_MOST, POOL_STATES_MOST, QUEUES_MOST,
+    BAD_ENTRIES_MOST, CONTROL_STATES_MOST, MACHINES_MOST, MESSAGES_MOST, POOL_STATES_MOST, QUEUES_MOST, STARTING_MOST,
     TRANSITIONS_MOST, WORD_MOST,
 };
 use crate::DiagramState;
@@ -78,12 +78,19 @@ pub enum SessionError {
         /// The message.
         message: u8,
     },
-    /// A word has a message of another queue than the transition's.
+    /// A word has a message of another queue than the transition's, or a queue is to start with one.
     OtherQueue {
         /// The message.
         message: u8,
-        /// The transition's queue.
+        /// The queue of the transition, or the one that is to start with it.
         queue: usize,
+    },
+    /// A queue is to start with more than eight messages.
+    StartingLength {
+        /// The queue.
+        queue: usize,
+        /// How many it would start with.
+        length: usize,
     },
     /// A word has more than sixteen messages.
     WordLength {
@@ -140,6 +147,9 @@ impl fmt::Display for SessionError {
             NoQueue { queue } => write!(f, "there is no queue {queue}"),
             NoMessage { message } => write!(f, "there is no message {message}"),
             OtherQueue { message, queue } => write!(f, "message {message} is not one of queue {queue}"),
+            StartingLength { queue, length } => {
+                write!(f, "queue {queue} can start with up to {STARTING_MOST} messages, not with {length}")
+            }
             WordLength { length } => write!(f, "a word has up to {WORD_MOST} messages, not {length}"),
             TransitionsFull => write!(f, "a session has up to {TRANSITIONS_MOST} transitions"),
             NoTransition { transition } => write!(f, "there is no transition {transition}"),

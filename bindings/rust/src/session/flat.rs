@@ -161,7 +161,8 @@ impl Space<'_> {
             .map(|queue| {
                 let messages = first..first + self.0[at::MESSAGES + queue];
                 first = messages.end;
-                Queue { messages }
+                let contents = self.row::<{ at::CONTENTS_ROW }>(at::CONTENTS, queue);
+                Queue { messages, starting: contents[..self.number(at::LENGTHS + queue)].to_vec() }
             })
             .collect()
     }
@@ -191,6 +192,10 @@ fn tables_of(session: &Session) -> [u8; SPACE_LEAST] {
     put(&mut space, at::STATES, session.machines.iter().map(|machine| machine.states));
     put(&mut space, at::STARTS, session.machines.iter().map(|machine| machine.start));
     put(&mut space, at::MESSAGES, session.queues.iter().map(|queue| queue.messages.len()));
+    put(&mut space, at::LENGTHS, session.queues.iter().map(|queue| queue.starting.len()));
+    for (number, queue) in session.queues.iter().enumerate() {
+        put(&mut space, at::CONTENTS + number * at::CONTENTS_ROW, queue.starting.iter().map(|&message| message.into()));
+    }
     for (number, transition) in session.transitions.iter().enumerate() {
         put(&mut space, at::TRANSITIONS + number * at::TRANSITION_ROW, row_of(transition));
     }
