@@ -5,7 +5,7 @@ use std::collections::BTreeMap;
 use swarmbanner::Session;
 
 use crate::dot::{Attribute, Dot};
-use crate::text::{label, ranges};
+use crate::text::{label, ranges, starting};
 use crate::tone::Tone;
 
 /// What is marked in the machines.
@@ -39,13 +39,17 @@ pub fn draw(session: &Session, marked: Option<Marked>) -> (String, usize) {
     dot.finish()
 }
 
-/// Says which messages each queue has.
+/// Says which messages each queue has, and below it what waits at the start, where something does.
 fn title(session: &Session) -> String {
     let queues = session.queues().iter().zip(0..).map(|(queue, number)| {
         let messages: Vec<usize> = queue.messages.clone().map(usize::from).collect();
         format!("q{number}: {}", ranges(&messages))
     });
-    format!("messages of the queues   {}", queues.collect::<Vec<_>>().join("   "))
+    let messages = format!("messages of the queues   {}", queues.collect::<Vec<_>>().join("   "));
+    match session.starting().is_empty() {
+        true => messages,
+        false => format!("{messages}\n{}", starting(session)),
+    }
 }
 
 fn name(machine: usize, state: usize) -> String {

@@ -95,11 +95,17 @@ fn picture(name: String, (dot, arrows): (String, usize)) -> Picture {
     Picture { name, dot, arrows }
 }
 
+/// The set of a control state; of the starting one with the way of what waits at the start, where something does.
 fn draw_control(session: &Session, control: usize) -> Picture {
-    let mut dot = Dot::new(&text::control(session, control));
-    let title = if session.root(control).is_some() { "its set" } else { "its set is empty" };
+    let (root, waiting) = (session.root(control), session.starting());
+    let begins_there = control == session.start() && !waiting.is_empty();
+    let way = begins_there.then(|| Way::follow(session, root, &waiting));
+    let name = text::control(session, control);
+    let title = way.as_ref().map(|way| format!("{name}\n{}{}", text::starting(session), unless_inside(way)));
+    let mut dot = Dot::new(&title.unwrap_or(name));
+    let title = if root.is_some() { "its set" } else { "its set is empty" };
     let (pool, queues) = (session.pool(), session.queues());
-    Diagram { pool, queues, prefix: "a", title, root: session.root(control), way: None }.draw(&mut dot);
+    Diagram { pool, queues, prefix: "a", title, root, way: way.as_ref() }.draw(&mut dot);
     picture(format!("control-{control}"), dot.finish())
 }
 
@@ -129,6 +135,14 @@ fn ending(way: &Way) -> &'static str {
         End::Nowhere => "lost on the way",
         End::NotFinal => "not final at the end",
         End::Final => "inside",
+    }
+}
+
+/// The same in brackets, behind what waits; nothing for a way that ends well.
+fn unless_inside(way: &Way) -> String {
+    match way.end {
+        End::Final => String::new(),
+        _ => format!("   ({})", ending(way)),
     }
 }
 
@@ -168,11 +182,8 @@ fn listed(session: &Session, control: usize, contents: &[u8]) -> Option<(usize, 
 
 /// Where a replay ended, and below it what lists that as bad.
 fn draw_replay(session: &Session, title: &str, control: usize, way: &Way, bad: Option<&(usize, Way)>) -> Picture {
-    let after = match way.end {
-        End::Final => String::new(),
-        _ => format!("   ({})", ending(way)),
-    };
-    let first = format!("{}\n{}{after}", text::control(session, control), text::contents(session, &way.contents));
+    let waiting = text::contents(session, &way.contents);
+    let first = format!("{}\n{waiting}{}", text::control(session, control), unless_inside(way));
     let below = bad.map(|(entry, way)| (title_of_bad(*entry), way));
     let ways: Vec<(String, &Way)> = [(first, way)].into_iter().chain(below).collect();
     picture(format!("replay-{control}"), draw_ways(session, title, &ways))

@@ -34,6 +34,11 @@ pub fn contents(session: &Session, contents: &[u8]) -> String {
     written.join("   ")
 }
 
+/// What waits in each queue at the start.
+pub fn starting(session: &Session) -> String {
+    format!("at the start   {}", contents(session, &session.starting()))
+}
+
 /// `q!m..`, `q?m..` or `local`, in lines of so many messages. A word is written out whole.
 fn action(kind: &Kind, on_a_line: usize) -> String {
     let (queue, mark, word) = match kind {

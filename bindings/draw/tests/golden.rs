@@ -22,6 +22,9 @@ const W: &str = "01 02 00 01 20 04 \
 const T: &str = "01 02 00 01 02 01 00 00 01 02 00 10 00 01 00 01 00 01 00 01 00 01 00 01 00 01 00 01 \
                  02 01 01 00 01 00 01 01 00 01 00 00";
 
+/// R with two messages that wait at the start, of which one alone may wait: `outside`.
+const Q: &str = "06 01 01 00 00 01 01 02 00 00 02 00 00 00 01 00 01 00 01 00 00 02 00 01 00 02 01 01 00 01 01 00 01 00";
+
 fn hex(text: &str) -> Vec<u8> {
     text.split_whitespace().map(|byte| u8::from_str_radix(byte, 16).expect("two hexadecimal digits")).collect()
 }
@@ -74,6 +77,20 @@ fn nothing_fails() {
     let machines = include_str!("golden/s-machines.dot");
     let control = include_str!("golden/s-control-0.dot");
     assert_drawn(S, None, &[("machines", machines), ("control-0", control)]);
+}
+
+/// What waits at the start stands above the machines and above the set, with its way, which is lost here.
+#[test]
+fn a_start_with_messages() {
+    let machines = include_str!("golden/q-machines.dot");
+    let control = include_str!("golden/q-control-0.dot");
+    assert_drawn(Q, None, &[("machines", machines), ("control-0", control)]);
+    // one message, which is inside: the way ends in a final state
+    let one = Q.replacen(" 02 00 00 02", " 01 00 02", 1);
+    let drawn = drawn(&one, Some(0));
+    let set = drawn.last().expect("the control state is drawn");
+    assert!(set.dot.contains("label=\"control state 0 = (0, 0)\\nat the start   q0: 0\";"), "{}", set.dot);
+    assert!(set.dot.contains("a1 [label=\"1\", shape=\"doublecircle\", color=\"#1f5fbf\""), "{}", set.dot);
 }
 
 #[test]

@@ -1,13 +1,18 @@
 //! On generated files: the ways that a picture marks are those of the contents shown, and of what waits where a replay ends.
 
+#[path = "../../explain/tests/resumed/mod.rs"]
+mod resumed;
+
 use std::collections::BTreeMap;
 
 use reference_checker::diagram::accepts;
 use reference_checker::generate::verdicts::Plans;
 use reference_checker::random::Random;
 use reference_checker::read::{read, Tables};
-use swarmbanner::{Checker, End, Failure, Replayed, Replayer, Reply, Session, Way};
+use swarmbanner::{membership, Checker, End, Failure, Replayed, Replayer, Reply, Session, Way};
 use swarmbanner_draw::{pictures, replay_pictures, Picture};
+
+use resumed::every_other;
 
 const FILES: usize = 6_000;
 const SEED: u64 = 20_261_115;
@@ -109,17 +114,39 @@ fn assert_failure(tables: &Tables, session: &Session, picture: &Picture, reply: 
     true
 }
 
+/// Whether messages wait at the start. They are said above the machines, and their way is marked in the starting control state, which
+/// is drawn where no contents are shown.
+fn assert_start(bytes: &[u8], session: &Session, pictures: &[Picture], is_inside: bool) -> bool {
+    let (waiting, drawn) = (session.starting(), Drawn::read(&pictures[1], "a"));
+    assert_eq!(pictures[1].name, format!("control-{}", session.start()));
+    let is_told = pictures.iter().all(|picture| picture.dot.contains("\\nat the start   q0: "));
+    assert_eq!(is_told, !waiting.is_empty());
+    if waiting.is_empty() {
+        assert!(drawn.way.is_empty());
+        return false;
+    }
+    let tables = read(bytes).expect("plans are session files");
+    let way = Way::follow(session, session.root(session.start()), &waiting);
+    let followed = membership(bytes, session.start(), &waiting).expect("the start is one of the file").followed;
+    assert_way(&tables, &way, &drawn, is_inside, Some(followed));
+    true
+}
+
 #[test]
 fn marked_ways_end_as_the_verdict_says() {
     let mut plans = Plans::new(SEED);
     let mut checker = Checker::new();
-    let (mut leaves, mut bad, mut lost, mut cut) = (0, 0, 0, 0);
+    let (mut leaves, mut bad, mut lost, mut cut, mut started) = (0, 0, 0, 0, 0);
     for _ in 0..FILES {
-        let bytes = plans.small().bytes();
+        let plan = plans.small().bytes();
+        let bytes = every_other(&mut plans.random, plan);
         let session = swarmbanner::read(&bytes).expect("plans are session files");
         let reply = checker.check(&bytes);
         let drawn = pictures(&session, &reply, None);
         assert_eq!(drawn.len(), 2);
+        if Failure::shown(&session, &reply).is_none() {
+            started += usize::from(assert_start(&bytes, &session, &drawn, reply != Reply::Outside));
+        }
         let Some(failure) = Failure::shown(&session, &reply) else { continue };
         let tables = read(&bytes).expect("plans are session files");
         if !assert_failure(&tables, &session, &drawn[1], &reply, &failure) {
@@ -135,15 +162,16 @@ fn marked_ways_end_as_the_verdict_says() {
         }
     }
     println!(
-        "{leaves} leave, {lost} of them by a missing arc or root; {bad} are bad; {cut} are too long to be read back"
+        "{leaves} leave, {lost} of them by a missing arc or root; {bad} are bad; {started} start with messages and do neither; \
+         {cut} are too long to be read back"
     );
-    assert!(leaves > 100 && bad > 100 && lost > 100 && lost < leaves, "too few files of some kind");
+    assert!(leaves > 100 && bad > 100 && lost > 100 && lost < leaves && started > 100, "too few files of some kind");
     assert!(cut * 100 < leaves + bad, "too many ways are cut: {cut}");
 }
 
 /// Transitions that can be taken, and now and then one more.
 fn walk(random: &mut Random, session: &Session) -> Vec<u8> {
-    let (mut trace, mut control, mut contents) = (vec![], session.start(), vec![]);
+    let (mut trace, mut control, mut contents) = (vec![], session.start(), session.starting());
     for _ in 0..random.below(20) {
         let taken = (0..session.transitions().len()).filter_map(|number| {
             let after = session.step(control, number, &contents)?;
@@ -173,7 +201,8 @@ fn marked_ways_end_as_the_replay_says() {
     let mut replayer = Replayer::new();
     let (mut inside, mut outside, mut refused, mut bad, mut cut) = (0, 0, 0, 0, 0);
     for _ in 0..FILES {
-        let bytes = plans.small().bytes();
+        let plan = plans.small().bytes();
+        let bytes = every_other(&mut plans.random, plan);
         let session = swarmbanner::read(&bytes).expect("plans are session files");
         let trace = walk(&mut plans.random, &session);
         let replayed = replayer.replay(&bytes, &trace);

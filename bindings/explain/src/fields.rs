@@ -4,7 +4,8 @@
 //! before that one is good, and the walk only has to know which one is next.
 
 use swarmbanner::lent::{
-    BAD_ENTRIES_MOST, MACHINES_MOST, MESSAGES_MOST, POOL_STATES_MOST, QUEUES_MOST, TRANSITIONS_MOST, WORD_MOST,
+    BAD_ENTRIES_MOST, MACHINES_MOST, MESSAGES_MOST, POOL_STATES_MOST, QUEUES_MOST, STARTING_MOST, TRANSITIONS_MOST,
+    WORD_MOST,
 };
 
 use crate::order::Diagrams;
@@ -23,6 +24,8 @@ pub enum Limit {
     Sum(usize),
     /// The queue of its transition, which has messages from the first to before the second.
     Queue(usize, (usize, usize)),
+    /// The queue that it waits in at the start, in the same way.
+    Waiting(usize, (usize, usize)),
     /// The message of the arc before it.
     Above(usize),
 }
@@ -47,6 +50,8 @@ pub struct Stop {
 pub struct Fields {
     /// The places of the fields 1 to 6, as far as they were met.
     pub fields: Vec<usize>,
+    /// The place of what each queue starts with, as far as there is any in the file; it is counted to field 2.
+    pub starting: Vec<usize>,
     /// The place of each transition.
     pub transitions: Vec<usize>,
     /// The place of each diagram state.
@@ -86,6 +91,15 @@ pub fn number_at(file: &[u8], place: usize) -> Option<(usize, usize)> {
     Some((usize::from(low - 128) + 128 * usize::from(high), 2))
 }
 
+/// The machines of a file with this first number, which has 4 added where messages wait at the start.
+pub(crate) fn machines_of(first: usize) -> usize {
+    if first > MACHINES_MOST {
+        first - MACHINES_MOST
+    } else {
+        first
+    }
+}
+
 struct Walk<'f> {
     file: &'f [u8],
     at: usize,
@@ -103,8 +117,12 @@ impl Walk<'_> {
     }
 
     fn all(&mut self) -> Step<()> {
-        self.machines()?;
+        let resumes = self.machines()?;
         self.queues()?;
+        // where nothing waits it is refused by 23, and what follows was not looked at
+        if resumes && !self.starting()? {
+            return Ok(());
+        }
         self.transitions()?;
         let states = self.pool()?;
         self.roots(states)?;
@@ -138,9 +156,12 @@ impl Walk<'_> {
         self.number(what, (0, count.saturating_sub(1)))
     }
 
-    fn machines(&mut self) -> Step<()> {
+    /// Whether the file says what the queues start with.
+    fn machines(&mut self) -> Step<bool> {
         self.begin();
-        let machines = self.number("the number of machines".into(), (1, MACHINES_MOST))?;
+        let what = format!("the number of machines, or {MACHINES_MOST} more where messages wait at the start");
+        let first = self.number(what, (1, 2 * MACHINES_MOST))?;
+        let (resumes, machines) = (first > MACHINES_MOST, machines_of(first));
         let mut product = 1;
         for machine in 0..machines {
             let what = format!("the number of states of machine {machine}");
@@ -151,7 +172,7 @@ impl Walk<'_> {
         for machine in 0..machines {
             self.index(format!("the starting state of machine {machine}"), self.met.states[machine])?;
         }
-        Ok(())
+        Ok(resumes)
     }
 
     fn queues(&mut self) -> Step<()> {
@@ -165,6 +186,29 @@ impl Walk<'_> {
             self.met.diagrams.queues.push(sum);
         }
         Ok(())
+    }
+
+    /// Whether some queue starts with a message.
+    fn starting(&mut self) -> Step<bool> {
+        let mut waits = false;
+        for queue in 0..self.met.diagrams.queues.len() - 1 {
+            self.met.starting.push(self.at);
+            let length =
+                self.number(format!("the number of messages that queue {queue} starts with"), (0, STARTING_MOST))?;
+            let limit = Limit::Waiting(queue, self.messages_of(queue));
+            for place in 1..=length {
+                let what = format!("message {place} of {length} that queue {queue} starts with");
+                self.limited(what, (0, self.messages() - 1), limit)?;
+            }
+            waits |= length > 0;
+        }
+        Ok(waits)
+    }
+
+    /// The first message of a queue, and the one after its last; of no queue, nothing.
+    fn messages_of(&self, queue: usize) -> (usize, usize) {
+        let firsts = &self.met.diagrams.queues;
+        firsts.get(queue).copied().zip(firsts.get(queue + 1).copied()).unwrap_or_default()
     }
 
     fn messages(&self) -> usize {
@@ -190,8 +234,7 @@ impl Walk<'_> {
             return Ok(());
         }
         let queue = self.index(format!("the queue of transition {number}"), self.met.diagrams.queues.len() - 1)?;
-        let ends = self.met.diagrams.queues.get(queue).copied().zip(self.met.diagrams.queues.get(queue + 1).copied());
-        let limit = Limit::Queue(queue, ends.unwrap_or_default());
+        let limit = Limit::Queue(queue, self.messages_of(queue));
         let length = self.number(format!("the length of the word of transition {number}"), (0, WORD_MOST))?;
         for place in 1..=length {
             let what = format!("message {place} of {length} in the word of transition {number}");

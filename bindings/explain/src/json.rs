@@ -48,9 +48,9 @@ fn failure(object: &mut Object, session: &Session, reply: &Reply) {
             object.numbers("inside", states(&way)).numbers("bad", states(&bad));
         }
         None if *reply == Reply::Outside => {
-            let start = session.start();
-            configuration(object, session, start, &[]);
-            object.raw("lost", &lost(session, &Way::follow(session, session.root(start), &[])));
+            let (start, waiting) = (session.start(), session.starting());
+            configuration(object, session, start, &waiting);
+            object.raw("lost", &lost(session, &Way::follow(session, session.root(start), &waiting)));
         }
         None => {}
     }

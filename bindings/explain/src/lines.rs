@@ -42,10 +42,17 @@ fn machines(session: &Session) -> Vec<Line> {
 }
 
 fn queues(session: &Session) -> Vec<Line> {
-    let line = |(queue, number): (&Queue, usize)| {
-        (format!("queue messages {}", queue.messages.len()), format!("queue {number}: {}", messages_of(queue)))
-    };
+    let line =
+        |(queue, number): (&Queue, usize)| (item_of_queue(queue), format!("queue {number}: {}", messages_of(queue)));
     session.queues().iter().zip(0..).map(line).collect()
+}
+
+fn item_of_queue(queue: &Queue) -> String {
+    let starting = match queue.starting.is_empty() {
+        true => String::new(),
+        false => format!(" start: {}", numbers(&queue.starting)),
+    };
+    format!("queue messages {}{starting}", queue.messages.len())
 }
 
 /// The messages of a queue, which has one at least.

@@ -4,7 +4,7 @@ use swarmbanner::{PoolState, Session};
 
 use crate::fields::Fields;
 use crate::lines::messages_of;
-use crate::words::{several, several_bad, step};
+use crate::words::{numbers, several, several_bad, step};
 
 /// The counts on the first line, then each field.
 pub fn listing(file: &[u8], session: &Session) -> Vec<String> {
@@ -13,7 +13,7 @@ pub fn listing(file: &[u8], session: &Session) -> Vec<String> {
     let titles = ["machines", "queues", "transitions", "diagram states", "roots of the control states", "bad entries"];
     let parts = [
         machines(session),
-        queues(session),
+        queues(session, &places),
         transitions(session, &places),
         pool(session, &places),
         roots(session),
@@ -26,10 +26,10 @@ pub fn listing(file: &[u8], session: &Session) -> Vec<String> {
     lines
 }
 
-/// How many there are of each kind.
+/// How many there are of each kind; of messages at the start only where there are any.
 pub(crate) fn counts(session: &Session) -> String {
     let messages = session.queues().last().map_or(0, |queue| queue.messages.end);
-    let counts = [
+    let mut counts = vec![
         several(session.machines().len(), "machine"),
         several(session.control_states(), "control state"),
         several(session.queues().len(), "queue"),
@@ -38,6 +38,10 @@ pub(crate) fn counts(session: &Session) -> String {
         several(session.pool().len(), "diagram state"),
         several_bad(session.bad_entries().len()),
     ];
+    match session.starting().len() {
+        0 => {}
+        waiting => counts.push(format!("{} at the start", several(waiting, "message"))),
+    }
     counts.join(", ")
 }
 
@@ -49,8 +53,13 @@ fn machines(session: &Session) -> Vec<String> {
     session.machines().iter().copied().zip(0..).map(line).collect()
 }
 
-fn queues(session: &Session) -> Vec<String> {
-    let line = |(queue, number): (&swarmbanner::Queue, usize)| format!("queue {number}: {}", messages_of(queue));
+/// What a queue starts with is said where it starts with something, with the place of its length.
+fn queues(session: &Session, places: &Fields) -> Vec<String> {
+    let line = |(queue, number): (&swarmbanner::Queue, usize)| {
+        let place = places.starting.get(number).filter(|_| !queue.starting.is_empty());
+        let starting = place.map(|place| format!("; at the start, byte {place}: {}", numbers(&queue.starting)));
+        format!("queue {number}: {}{}", messages_of(queue), starting.unwrap_or_default())
+    };
     session.queues().iter().zip(0..).map(line).collect()
 }
 

@@ -2,7 +2,7 @@
 
 use swarmbanner::Refusal;
 
-use crate::fields::{number_at, Fields, Limit, Stop};
+use crate::fields::{machines_of, number_at, Fields, Limit, Stop};
 
 /// A refusal beside the part of the file that it is about.
 #[derive(Clone, Debug, PartialEq, Eq)]
@@ -36,6 +36,7 @@ impl Refused {
                     Self::about(refusal, Some(6), format!("the end of the last field, with {} after it", bytes(more)));
                 Refused { stands: file[refusal.place..].iter().take(1).copied().collect(), ..about }
             }
+            23 => Self::about(refusal, Some(1), starts_empty(file)),
             _ => Self::about(refusal, None, "the whole file".to_string()),
         }
     }
@@ -100,7 +101,7 @@ impl Refused {
             Some(field) => lines.push(format!("field {field}, byte {}: {}", self.refusal.place, self.what)),
             None => return lines,
         }
-        if self.refusal.number != 9 {
+        if !matches!(self.refusal.number, 9 | 23) {
             lines.push(format!("there stands {}", self.stands()));
             lines.push(format!("allowed there: {}", self.allowed()));
         }
@@ -131,11 +132,24 @@ fn narrowed(stop: &Stop) -> ((usize, usize), Option<String>) {
             (first, end.saturating_sub(1)),
             Some(format!("these are the messages of queue {queue}, which the transition names")),
         ),
+        Limit::Waiting(queue, (first, end)) => {
+            ((first, end.saturating_sub(1)), Some(format!("these are the messages of queue {queue}, where it waits")))
+        }
         Limit::Above(message) => {
             ((message + 1, usize::MAX), Some(format!("the arc before it has message {message}, and they ascend")))
         }
         _ => ((0, usize::MAX), None),
     }
+}
+
+/// The first number, and what it is without starting lengths.
+fn starts_empty(file: &[u8]) -> String {
+    let first = number_at(file, 0).map_or(0, |(first, _)| first);
+    let lengths = match Fields::of(file).starting[..] {
+        [only] => format!("the starting length at byte {only}, which is 0"),
+        ref all => format!("the starting lengths from byte {} on, which are 0", all.first().unwrap_or(&0)),
+    };
+    format!("the first number, {first}; without {lengths}, it is {}", machines_of(first))
 }
 
 /// The first root that accepts a word out of order, and the shortest such word.

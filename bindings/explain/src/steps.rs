@@ -81,7 +81,7 @@ impl<'s> Run<'s> {
         Run {
             session,
             states: session.machines().iter().map(|machine| machine.start).collect(),
-            queues: vec![VecDeque::new(); session.queues().len()],
+            queues: session.queues().iter().map(|queue| queue.starting.iter().copied().collect()).collect(),
         }
     }
 

@@ -9,7 +9,7 @@ mod item;
 use std::ops::RangeInclusive;
 
 use swarmbanner::lent::{
-    BAD_ENTRIES_MOST, CONTROL_STATES_MOST, MACHINES_MOST, MESSAGES_MOST, POOL_STATES_MOST, QUEUES_MOST,
+    BAD_ENTRIES_MOST, CONTROL_STATES_MOST, MACHINES_MOST, MESSAGES_MOST, POOL_STATES_MOST, QUEUES_MOST, STARTING_MOST,
     TRANSITIONS_MOST, WORD_MOST,
 };
 use swarmbanner::{BadEntry, DiagramState, Kind, Machine, Session, Transition};
@@ -49,6 +49,7 @@ impl Typed {
     pub fn parse(text: &[u8]) -> Result<Self, Fault> {
         let items = Items::of(text)?;
         let mut typed = items.frame()?;
+        items.queues.iter().enumerate().try_for_each(|(queue, line)| typed.set_starting(queue, line))?;
         items.transitions.iter().try_for_each(|line| typed.add_transition(line))?;
         items.add_pool(&mut typed)?;
         items.roots.iter().try_for_each(|line| typed.add_root(line))?;
@@ -78,7 +79,7 @@ impl Typed {
 #[derive(Default)]
 struct Items<'t> {
     machines: Vec<(usize, item::Machine<'t>)>,
-    queues: Vec<(usize, Number<'t>)>,
+    queues: Vec<(usize, item::Queue<'t>)>,
     transitions: Vec<(usize, item::Transition<'t>)>,
     states: Vec<(usize, item::State<'t>)>,
     roots: Vec<(usize, item::Root<'t>)>,
@@ -103,7 +104,7 @@ impl<'t> Items<'t> {
     fn take(&mut self, line: usize, item: Item<'t>) {
         match item {
             Item::Machine(machine) => self.machines.push((line, machine)),
-            Item::Queue(messages) => self.queues.push((line, messages)),
+            Item::Queue(queue) => self.queues.push((line, queue)),
             Item::Transition(transition) => self.transitions.push((line, transition)),
             Item::State(state) => self.states.push((line, state)),
             Item::Root(root) => self.roots.push((line, root)),
@@ -111,7 +112,7 @@ impl<'t> Items<'t> {
         }
     }
 
-    /// A session of the machines and queues, which has nothing else yet.
+    /// A session of the machines and of queues that start empty, which has nothing else yet.
     fn frame(&self) -> Result<Typed, Fault> {
         self.counts()?;
         let machines = self.machines()?;
@@ -159,12 +160,12 @@ impl<'t> Items<'t> {
     /// The messages of each queue, up to 32 together.
     fn messages(&self) -> Result<Vec<usize>, Fault> {
         let mut sum = 0;
-        let queues = self.queues.iter().map(|&(line, messages)| {
+        let queues = self.queues.iter().map(|(line, queue)| {
             let why = (sum > 0).then(|| {
                 let before = several(sum, "message");
                 format!("the queues before it have {before}, and all together may have {MESSAGES_MOST}")
             });
-            let messages = within(messages, item::MESSAGES, 1..=MESSAGES_MOST - sum, why).map_err(at(line))?;
+            let messages = within(queue.messages, item::MESSAGES, 1..=MESSAGES_MOST - sum, why).map_err(at(*line))?;
             sum += messages;
             Ok(messages)
         });
@@ -213,6 +214,20 @@ fn below(number: Number, what: &'static str, count: usize, why: Option<String>) 
 
 /// Adding what lines say to the session.
 impl Typed {
+    fn set_starting(&mut self, queue: usize, (line, typed): &(usize, item::Queue)) -> Result<(), Fault> {
+        let starting = self.starting(queue, &typed.starting).map_err(at(*line))?;
+        self.session.set_starting(queue, &starting).expect("the queue can start with these messages");
+        Ok(())
+    }
+
+    /// Up to eight messages of a queue.
+    fn starting(&self, queue: usize, messages: &[Number]) -> Result<Vec<u8>, Wrong> {
+        if messages.len() > STARTING_MOST {
+            return Err(Wrong::StartingLength { length: messages.len() });
+        }
+        self.messages(queue, messages, item::STARTING)
+    }
+
     fn add_transition(&mut self, (line, typed): &(usize, item::Transition)) -> Result<(), Fault> {
         let transition = self.transition(typed).map_err(at(*line))?;
         self.session.add_transition(transition).expect("the transition is within its ranges");
@@ -245,15 +260,22 @@ impl Typed {
         if word.len() > WORD_MOST {
             return Err(Wrong::WordLength { length: word.len() });
         }
-        let own = &self.session.queues()[queue];
+        Ok((queue, self.messages(queue, word, item::MESSAGE)?))
+    }
+
+    /// Messages of a queue.
+    fn messages(&self, queue: usize, messages: &[Number], what: &'static str) -> Result<Vec<u8>, Wrong> {
         let message = |&message: &Number| {
-            let message = self.message(message, item::MESSAGE)?;
+            let message = self.message(message, what)?;
             match self.session.queue_of(message) {
-                Some(of) if of != queue => Err(Wrong::OtherQueue { message, of, queue, own: own.clone() }),
+                Some(of) if of != queue => {
+                    let own = self.session.queues()[queue].clone();
+                    Err(Wrong::OtherQueue { message, of, queue, own })
+                }
                 _ => Ok(message),
             }
         };
-        Ok((queue, word.iter().map(message).collect::<Result<_, _>>()?))
+        messages.iter().map(message).collect()
     }
 
     fn message(&self, message: Number, what: &'static str) -> Result<u8, Wrong> {

@@ -37,9 +37,9 @@ fn closed(session: &Session, pairs: usize) -> Vec<String> {
 }
 
 fn outside(session: &Session) -> Vec<String> {
-    let start = session.start();
-    let way = Way::follow(session, session.root(start), &[]);
-    let mut lines = configuration(session, "start", start, &[]);
+    let (start, waiting) = (session.start(), session.starting());
+    let way = Way::follow(session, session.root(start), &waiting);
+    let mut lines = configuration(session, "start", start, &waiting);
     lines.push(format!("outside: {}", followed(session, &set_of(start), &way)));
     lines
 }

@@ -95,6 +95,54 @@ fn lines_as_a_file() {
     assert_eq!(swarmbanner::read(&FILE), Ok(typed.session));
 }
 
+/// What waits at the start stands with its queue, and the first line has how much; without, all is as it was.
+#[test]
+fn what_waits_at_the_start() {
+    let text = with(3, "queue messages 2 start: 1 0 1");
+    let session = typed(&text);
+    assert_eq!((&session.queues()[0].starting[..], session.starting()), (&[1, 0, 1][..], vec![1, 0, 1]));
+    let lines = printed(&session);
+    assert!(lines.starts_with(
+        "# 2 machines, 2 control states, 2 queues, 3 messages, 4 transitions, 4 diagram states, 1 bad entry, 3 messages at the start\n"
+    ));
+    let both = "\nqueue messages 2 start: 1 0 1  # queue 0: messages 0 to 1\nqueue messages 1               # queue 1: message 2\n";
+    assert!(lines.contains(both), "{lines}");
+    assert_eq!(typed(&lines), session);
+    let mut file = FILE.to_vec();
+    file.splice(8..8, [3, 1, 0, 1, 0]);
+    file[0] = 6;
+    assert_eq!(Typed::parse(text.as_bytes()).and_then(|typed| typed.write()), Ok(file));
+    // nothing behind the colon is an empty queue; the lines may come in any order, so queue 0 may name what comes later
+    assert_eq!(typed(&with(4, "queue messages 1 start:")), typed(TEXT));
+    assert_eq!(typed(&with(4, "queue messages 1 start : 2 2 # two")).queues()[1].starting, [2, 2]);
+    assert_eq!(typed(&with(4, &format!("queue messages 1 start:{}", " 2".repeat(8)))).starting(), [2; 8]);
+}
+
+#[test]
+fn starts_that_are_wrong() {
+    assert_eq!(told(3, "queue messages 2 start 0"), "0 stands where \":\" is wanted");
+    assert_eq!(told(3, "queue messages 2 start"), "the line ends where \":\" is wanted");
+    assert_eq!(told(3, "queue messages 2 : 0"), ": stands where the line is to end");
+    assert_eq!(told(3, "queue messages 2 starts: 0"), "starts stands where the line is to end");
+    assert_eq!(told(3, "queue messages 2 start: x"), "x stands where a number is wanted: a message of the start");
+    assert_eq!(told(3, "queue messages 2 start: 0 > 1"), "> stands where a number is wanted: a message of the start");
+    assert_eq!(told(3, "queue messages 2 start: 1 3"), "a message of the start is 3; it can be 0 to 2");
+    assert_eq!(told(3, "queue messages 2 start: 2"), "message 2 is one of queue 1; queue 0 has messages 0 to 1");
+    assert_eq!(told(4, "queue messages 1 start: 2 0"), "message 0 is one of queue 0; queue 1 has message 2");
+    let long = told(3, &format!("queue messages 2 start:{}", " 1".repeat(9)));
+    assert_eq!(long, "the queue starts with 9 messages; it can start with 0 to 8");
+    assert_eq!(
+        told(3, &format!("queue messages 2 start:{}", " 9".repeat(9))),
+        long,
+        "the length comes first, as in a file"
+    );
+    // all queues before what waits in them, and that before the transitions
+    let two = with(3, "queue messages 2 start: 3").replace("queue messages 1", "queue messages 33");
+    assert!(fault(&two).starts_with("4: the number of messages is 33"), "{}", fault(&two));
+    let two = with(3, "queue messages 2 start: 3").replace("send queue 1:", "send queue 2:");
+    assert!(fault(&two).starts_with("3: a message of the start is 3"), "{}", fault(&two));
+}
+
 #[test]
 fn a_part_that_is_empty_and_lines_that_are_long() {
     let session = typed("machine states 1 start 0\nqueue messages 32\nstate\nstate final\n");
@@ -272,7 +320,7 @@ fn products_and_sums() {
         let lines: Vec<String> = messages.iter().map(|messages| format!("queue messages {messages}\n")).collect();
         lines.concat() + "machine states 1 start 0\nstate"
     };
-    assert_eq!(typed(&queues(&[16, 16])).queues()[1], Queue { messages: 16..32 });
+    assert_eq!(typed(&queues(&[16, 16])).queues()[1], Queue { messages: 16..32, starting: vec![] });
     let why = |sum: usize| format!("the queues before it have {sum} messages, and all together may have 32");
     assert_eq!(fault(&queues(&[16, 17])), format!("2: the number of messages is 17; it can be 1 to 16: {}", why(16)));
     assert_eq!(

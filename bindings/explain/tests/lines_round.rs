@@ -1,5 +1,7 @@
 //! Sessions as lines, there and back: samples, generated files, sessions of any shape, and texts that are damaged.
 
+mod resumed;
+
 use std::path::Path;
 
 use reference_checker::generate::reading::reading_cases;
@@ -7,6 +9,8 @@ use reference_checker::generate::verdicts::Plans;
 use reference_checker::random::Random;
 use swarmbanner::{BadEntry, DiagramState, Kind, Machine, Refusal, Session, Transition};
 use swarmbanner_explain::{lines, Disorder, Fault, Owner, Typed, Wrong};
+
+use resumed::{every_other, resumed};
 
 const SEED: u64 = 20_261_115;
 const SESSIONS: usize = 2_000;
@@ -39,7 +43,7 @@ fn samples_go_round() {
         goes_round(&file);
         samples += 1;
     }
-    assert!(samples >= 11, "{samples} samples");
+    assert!(samples >= 13, "{samples} samples");
 }
 
 /// A file, its session, its lines, and the file again.
@@ -62,7 +66,9 @@ fn generated_files_go_round() {
     assert!(read > 500, "{read} files");
     let mut plans = Plans::new(SEED);
     for _ in 0..SESSIONS {
-        goes_round(&plans.small().bytes());
+        let file = plans.small().bytes();
+        goes_round(&file);
+        goes_round(&resumed(&mut plans.random, &file));
     }
 }
 
@@ -103,6 +109,12 @@ fn any_transition(random: &mut Random, session: &Session) -> Transition {
     Transition { machine, from, to, kind }
 }
 
+fn any_starting(random: &mut Random, session: &Session, queue: usize) -> Vec<u8> {
+    let messages = &session.queues()[queue].messages;
+    let length = if random.chance(50) { 0 } else { random.below(9) };
+    (0..length).map(|_| messages.start + random.below(messages.len()) as u8).collect()
+}
+
 fn any_state(random: &mut Random, session: &Session) -> DiagramState {
     session.state(random.below(session.pool().len())).expect("the pool has the state")
 }
@@ -119,6 +131,9 @@ fn any_count(random: &mut Random, most: usize) -> usize {
 /// A session of any shape, whether a file says it or not.
 fn any_session(random: &mut Random) -> Session {
     let mut session = Session::new(&any_machines(random), &any_messages(random)).expect("it is within its ranges");
+    for queue in 0..session.queues().len() {
+        session.set_starting(queue, &any_starting(random, &session, queue)).expect("it is within its ranges");
+    }
     for _ in 0..any_count(random, 128) {
         session.add_transition(any_transition(random, &session)).expect("it is within its ranges");
     }
@@ -220,7 +235,9 @@ fn texts_that_are_damaged() {
     let mut plans = Plans::new(SEED);
     let [mut same, mut other, mut faults] = [0; 3];
     for _ in 0..TEXTS {
-        let session = swarmbanner::read(&plans.small().bytes()).expect("plans are session files");
+        let plan = plans.small().bytes();
+        let file = every_other(&mut plans.random, plan);
+        let session = swarmbanner::read(&file).expect("plans are session files");
         let text = damaged(&mut random, &printed(&session));
         match Typed::parse(&text) {
             Ok(typed) => {

@@ -58,7 +58,7 @@ fn every_refusal_has_its_lines() {
         assert_eq!(told.field.is_some(), refusal.number != 1);
         let wanted = match refusal.number {
             1 => 1,
-            9 => 2,
+            9 | 23 => 2,
             _ => 4,
         };
         assert_eq!(lines.len(), wanted, "{lines:?}");
@@ -86,7 +86,7 @@ fn the_places_of_a_file_that_is_read() {
 }
 
 /// Bytes of docs/FORMAT.md, "Refusals", and the last lines that explain them.
-const TOLD: [(&str, &[&str]); 13] = [
+const TOLD: [(&str, &[&str]); 18] = [
     (
         "02 01 01 00 00 01 01 02 00 00 00 01",
         &[
@@ -107,7 +107,7 @@ const TOLD: [(&str, &[&str]); 13] = [
         "82 00 01 01",
         &[
             "there stands 82 00 (hex)",
-            "allowed there: 1 to 4, in one byte up to 127, else in two of which the second is 1 to 127",
+            "allowed there: 1 to 8, in one byte up to 127, else in two of which the second is 1 to 127",
         ],
     ),
     (
@@ -119,12 +119,48 @@ const TOLD: [(&str, &[&str]); 13] = [
         ],
     ),
     (
-        "05",
+        "09",
         &[
-            "field 1, byte 0: the number of machines",
-            "there stands 05 (hex), the number 5",
-            "allowed there: 1 to 4",
+            "field 1, byte 0: the number of machines, or 4 more where messages wait at the start",
+            "there stands 09 (hex), the number 9",
+            "allowed there: 1 to 8",
         ],
+    ),
+    (
+        "05 01 00 01 01",
+        &[
+            "field 2, byte 5: the number of messages that queue 0 starts with",
+            "there stands nothing: the file ends before the number",
+            "allowed there: 0 to 8",
+        ],
+    ),
+    (
+        "05 01 00 02 01 01 00 09",
+        &[
+            "field 2, byte 7: the number of messages that queue 1 starts with",
+            "there stands 09 (hex), the number 9",
+            "allowed there: 0 to 8",
+        ],
+    ),
+    (
+        "05 01 00 02 01 02 00 03 01 02 00",
+        &[
+            "a message of a transition, or one that waits at the start, is in another queue",
+            "field 2, byte 10: message 3 of 3 that queue 1 starts with",
+            "there stands 00 (hex), the number 0",
+            "allowed there: 1 to 2: these are the messages of queue 1, where it waits",
+        ],
+    ),
+    (
+        "06 01 01 00 00 01 01 00",
+        &[
+            "messages are to wait at the start, and all queues start empty",
+            "field 1, byte 0: the first number, 6; without the starting length at byte 7, which is 0, it is 2",
+        ],
+    ),
+    (
+        "05 01 00 02 01 01 00 00 ff 81",
+        &["field 1, byte 0: the first number, 5; without the starting lengths from byte 6 on, which are 0, it is 1"],
     ),
     (
         "02 01 01 01 00",

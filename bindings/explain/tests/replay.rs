@@ -1,9 +1,13 @@
 //! Replays in words, and traces that are typed: on small files, and on generated ones with traces that walk through them.
 
+mod resumed;
+
 use reference_checker::generate::verdicts::Plans;
 use reference_checker::random::Random;
 use swarmbanner::{Configuration, Refusal, Replayed, Replayer, Session};
 use swarmbanner_explain::{stepped, Mistyped, Trace};
+
+use resumed::every_other;
 
 const SEED: u64 = 20_261_115;
 const FILES: usize = 4_000;
@@ -51,6 +55,45 @@ fn steps_to_the_end() {
             "inside: the set of control state 2 takes all 4 messages, from diagram state 5 to 1, which is final",
             "end: the trace has no more numbers",
         ]
+    );
+}
+
+/// R with two messages that wait at the start, one of which is received.
+#[test]
+fn steps_from_a_start_with_messages() {
+    let file = "06 01 01 00 00 01 01 02 00 00 02 00 00 00 01 00 01 00 01 00 00 02 00 01 00 01 01 01 00 00 01 00";
+    let (line, lines) = told(file, &Trace::of(vec![1]));
+    assert_eq!(line, "end 1");
+    assert_eq!(
+        lines,
+        [
+            "start: machine 0 in state 0, machine 1 in state 0; queue 0: 0 0",
+            "step 1: transition 1: machine 1 goes from state 0 to state 0 and takes 0 from the front of queue 0; queue 0: 0",
+            "inside: the set of control state 0 takes the one message, from diagram state 0 to 0, which is final",
+            "end: the trace has no more numbers",
+        ]
+    );
+    let (line, last) = last_words(file, &[1, 1, 1]);
+    assert_eq!(line, "refused 14 at 2 after 2");
+    assert!(last.ends_with("; but queue 0 is empty"), "{last}");
+}
+
+/// The start is bad where what waits then is listed.
+#[test]
+fn a_start_that_is_bad_or_outside() {
+    // 0 and 0 0 are inside, and 0 0 is bad
+    let starting = |bytes: &str| format!("05 01 00 01 01 {bytes} 00 03 00 01 00 01 01 01 00 02 01 00 01 01 00 01");
+    let (line, lines) = told(&starting("01 00"), &Trace::of(vec![]));
+    assert_eq!(
+        (&line[..], &lines[0][..]),
+        ("end 0", "start: machine 0 in state 0; queue 0: 0; listed as bad by entry 0")
+    );
+    let (line, lines) = told(&starting("03 00 00 00"), &Trace::of(vec![0]));
+    assert_eq!(line, "outside 0 2");
+    assert_eq!(
+        lines[1..],
+        ["outside: the set of control state 0 takes the first 2 of 3 messages, from diagram state 0 to 2, which has no arc for the \
+          next one: message 0, number 3 in queue 0"]
     );
 }
 
@@ -256,7 +299,7 @@ fn a_way_that_is_not_there_is_noticed() {
 /// Transitions that can be taken, and often after them something that is turned away: any transition, none that the file has, a
 /// form that is not allowed, a number that has no end.
 fn walk(random: &mut Random, session: &Session) -> Vec<u8> {
-    let (mut trace, mut control, mut contents) = (vec![], session.start(), vec![]);
+    let (mut trace, mut control, mut contents) = (vec![], session.start(), session.starting());
     for _ in 0..random.below(60) {
         let taken = (0..session.transitions().len()).filter_map(|number| {
             let after = session.step(control, number, &contents)?;
@@ -285,7 +328,8 @@ fn generated_files() {
     let mut replayer = Replayer::new();
     let mut met = std::collections::BTreeMap::new();
     for _ in 0..FILES {
-        let file = plans.small().bytes();
+        let plan = plans.small().bytes();
+        let file = every_other(&mut plans.random, plan);
         let session = swarmbanner::read(&file).expect("plans are session files");
         let trace = Trace::of(walk(&mut plans.random, &session));
         let replayed = replayer.replay(&file, &trace.bytes);
@@ -296,6 +340,9 @@ fn generated_files() {
         let control = session.control_of(last.states).expect("states of the machines");
         let is_inside = swarmbanner::member(&file, control, &last.contents()) == Ok(true);
         assert_eq!(lines.iter().any(|line| line.starts_with("inside: ")), is_inside);
+        if !session.starting().is_empty() && steps > 0 {
+            *met.entry("from a start with messages".to_string()).or_insert(0) += 1;
+        }
         let (name, begins) = match replayed {
             Replayed::End { .. } => ("end".to_string(), "end: "),
             Replayed::Outside { .. } => ("outside".to_string(), "outside: "),
@@ -306,7 +353,7 @@ fn generated_files() {
         *met.entry(name).or_insert(0) += 1;
     }
     println!("{met:?}");
-    for name in ["end", "outside", "3", "4", "5", "14"] {
+    for name in ["end", "outside", "3", "4", "5", "14", "from a start with messages"] {
         assert!(met.get(name).is_some_and(|&count| count > 20), "too few ends of a kind: {met:?}");
     }
 }

@@ -1,11 +1,15 @@
 //! Verdicts in words and as JSON: on the cases of document 01, and on generated files.
 
+mod resumed;
+
 use std::ffi::OsStr;
 
 use reference_checker::generate::document;
 use reference_checker::generate::verdicts::Plans;
 use swarmbanner::{membership, Checker, Membership, Reply, Session};
 use swarmbanner_explain::{explained, listing, object};
+
+use resumed::every_other;
 
 const FILES: usize = 6_000;
 const SEED: u64 = 20_261_115;
@@ -54,6 +58,75 @@ fn a_start_that_is_outside() {
             "outside: the set of control state 0 begins in diagram state 0, which is not final",
         ]
     );
+}
+
+/// Two queues, of message 0 and of 1; inside are 0 and 0 1. It starts with what these bytes say.
+fn starting(bytes: &[u8]) -> Vec<u8> {
+    [&[5, 1, 0, 2, 1, 1], bytes, &[0, 3, 0, 1, 0, 1, 1, 1, 1, 2, 1, 0, 1, 0]].concat()
+}
+
+#[test]
+fn a_start_with_messages_that_is_outside() {
+    let told = |bytes: &[u8]| {
+        let file = starting(bytes);
+        let reply = swarmbanner::check(&file);
+        assert_eq!(reply, Reply::Outside);
+        (explained(&file, &reply), object(OsStr::new("f"), &file, "outside", 1, &reply))
+    };
+    let (words, json) = told(&[1, 0, 2, 1, 1]);
+    assert_eq!(
+        words,
+        [
+            "start: control state 0: machine 0 in state 0",
+            "  queue 0 holds 1 message: 0",
+            "  queue 1 holds 2 messages: 1 1",
+            "outside: the set of control state 0 takes the first 2 of 3 messages, from diagram state 0 to 2, which has no arc for \
+             the next one: message 1, number 2 in queue 1",
+        ]
+    );
+    assert_eq!(
+        json,
+        "{\"file\":\"f\",\"line\":\"outside\",\"verdict\":\"outside\",\"status\":1,\"control\":0,\"machines\":[0],\
+         \"contents\":[0,1,1],\"queues\":[[0],[1,1]],\"lost\":{\"why\":\"no arc\",\"read\":2,\"states\":[0,1,2],\"message\":1,\
+         \"queue\":1}}"
+    );
+    let (words, _) = told(&[0, 1, 1]);
+    assert_eq!(
+        words[1..],
+        [
+            "  queue 0 is empty",
+            "  queue 1 holds 1 message: 1",
+            "outside: the set of control state 0 takes none of 1 message: its root, diagram state 0, has no arc for the first one: \
+             message 1, number 1 in queue 1",
+        ]
+    );
+    assert_eq!(swarmbanner::check(&starting(&[1, 0, 1, 1])), Reply::Closed { pairs: 0 });
+}
+
+/// It is listed with its place where there is something, and else nothing is said.
+#[test]
+fn a_listing_has_what_waits_at_the_start() {
+    let listed = |bytes: &[u8]| {
+        let file = starting(bytes);
+        listing(&file, &swarmbanner::read(&file).expect("it is a session file"))
+    };
+    let lines = listed(&[2, 0, 0, 1, 1]);
+    assert_eq!(
+        lines[0],
+        "1 machine, 1 control state, 2 queues, 2 messages, 0 transitions, 3 diagram states, 0 bad entries, 3 messages at the start"
+    );
+    assert_eq!(
+        lines[3..7],
+        [
+            "field 2, byte 3: queues",
+            "  queue 0: message 0; at the start, byte 6: 0 0",
+            "  queue 1: message 1; at the start, byte 9: 1",
+            "field 3, byte 11: transitions: none",
+        ]
+    );
+    let lines = listed(&[0, 1, 1]);
+    assert!(lines[0].ends_with(", 0 bad entries, 1 message at the start"), "{}", lines[0]);
+    assert_eq!(lines[4..6], ["  queue 0: message 0", "  queue 1: message 1; at the start, byte 7: 1"]);
 }
 
 #[test]
@@ -172,13 +245,16 @@ fn generated_files() {
     let mut plans = Plans::new(SEED);
     let mut checker = Checker::new();
     let (mut no_root, mut no_arc, mut not_final) = (0, 0, 0);
+    let mut start_lost = 0;
     for _ in 0..FILES {
-        let file = plans.small().bytes();
+        let plan = plans.small().bytes();
+        let file = every_other(&mut plans.random, plan);
         let reply = checker.check(&file);
         let lines = explained(&file, &reply);
         let json = object(OsStr::new("f"), &file, &reply.to_string(), 0, &reply);
         assert!(!json.contains('\n') && json.starts_with('{') && json.ends_with('}'));
         let last = lines.last().expect("every verdict has words");
+        start_lost += usize::from(reply == Reply::Outside && is_said_of_the_start(&file, last));
         let Reply::Leaves { control, transition, contents, followed } = &reply else { continue };
         let session = swarmbanner::read(&file).expect("plans are session files");
         let (target, after) = session.step(*control, *transition, contents).expect("the step can be taken");
@@ -194,8 +270,22 @@ fn generated_files() {
         no_arc += usize::from(last.contains(" has no arc for the "));
         not_final += usize::from(last.ends_with("which is not final"));
     }
-    println!("{no_root} without a root, {no_arc} without an arc, {not_final} not final");
-    assert!(no_root > 50 && no_arc > 50 && not_final > 50, "too few files of some kind");
+    println!(
+        "{no_root} without a root, {no_arc} without an arc, {not_final} not final; {start_lost} lost at the start"
+    );
+    assert!(no_root > 50 && no_arc > 50 && not_final > 50 && start_lost > 50, "too few files of some kind");
+}
+
+/// Whether messages wait at a start that is outside. The words are then as membership, asked of the library, says.
+fn is_said_of_the_start(file: &[u8], last: &str) -> bool {
+    let session = swarmbanner::read(file).expect("plans are session files");
+    let (start, waiting) = (session.start(), session.starting());
+    let said = membership(file, start, &waiting).expect("the start is one of the file");
+    assert!(!said.is_inside && last.starts_with(&format!("outside: the set of control state {start} ")), "{last}");
+    if session.root(start).is_some() && said.followed < waiting.len() {
+        assert!(last.ends_with(&named(&session, &waiting, said.followed)), "{last}");
+    }
+    !waiting.is_empty()
 }
 
 #[test]

@@ -3,7 +3,7 @@
 use std::error::Error;
 use std::fmt;
 
-use swarmbanner::lent::WORD_MOST;
+use swarmbanner::lent::{STARTING_MOST, WORD_MOST};
 use swarmbanner::{Queue, Refusal};
 
 use crate::lines::messages_of;
@@ -89,13 +89,18 @@ pub enum Wrong {
         /// How many it has.
         length: usize,
     },
-    /// A message of a word is one of another queue.
+    /// A queue is to start with more than eight messages.
+    StartingLength {
+        /// How many it would start with.
+        length: usize,
+    },
+    /// A message of a word, or one that a queue is to start with, is one of another queue.
     OtherQueue {
         /// The message.
         message: u8,
         /// Its queue.
         of: usize,
-        /// The queue of the transition.
+        /// The queue of the transition, or the one that is to start with it.
         queue: usize,
         /// The messages of that.
         own: Queue,
@@ -140,6 +145,9 @@ impl fmt::Display for Wrong {
                 write!(f, "the text ends without a {item}: a session has {}", count(*least, *most))
             }
             WordLength { length } => write!(f, "the word has {length} messages; it can have 0 to {WORD_MOST}"),
+            StartingLength { length } => {
+                write!(f, "the queue starts with {length} messages; it can start with 0 to {STARTING_MOST}")
+            }
             OtherQueue { message, of, queue, own } => {
                 write!(f, "message {message} is one of queue {of}; queue {queue} has {}", messages_of(own))
             }

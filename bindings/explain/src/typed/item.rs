@@ -11,6 +11,7 @@ pub(super) const MACHINE: &str = "the machine";
 pub(super) const FROM: &str = "the state that it leads from";
 pub(super) const TO: &str = "the state that it leads to";
 pub(super) const QUEUE: &str = "the queue";
+pub(super) const STARTING: &str = "a message of the start";
 pub(super) const MESSAGE: &str = "a message of the word";
 pub(super) const ARC_MESSAGE: &str = "the message of an arc";
 pub(super) const TARGET: &str = "the target of an arc";
@@ -35,6 +36,12 @@ impl Number<'_> {
 pub(super) struct Machine<'t> {
     pub(super) states: Number<'t>,
     pub(super) start: Number<'t>,
+}
+
+/// `queue messages MESSAGES [start: MESSAGE ..]`
+pub(super) struct Queue<'t> {
+    pub(super) messages: Number<'t>,
+    pub(super) starting: Vec<Number<'t>>,
 }
 
 /// `transition machine MACHINE from FROM to TO ..`
@@ -67,8 +74,7 @@ pub(super) struct Root<'t> {
 /// What a line adds to a session.
 pub(super) enum Item<'t> {
     Machine(Machine<'t>),
-    /// `queue messages MESSAGES`
-    Queue(Number<'t>),
+    Queue(Queue<'t>),
     Transition(Transition<'t>),
     State(State<'t>),
     Root(Root<'t>),
@@ -83,7 +89,7 @@ impl<'t> Item<'t> {
         let Some(first) = words.next() else { return Ok(None) };
         let item = match first {
             b"machine" => Item::Machine(words.machine()?),
-            b"queue" => Item::Queue(words.after("messages", MESSAGES)?),
+            b"queue" => Item::Queue(words.queue()?),
             b"transition" => Item::Transition(words.transition()?),
             b"state" => Item::State(words.state()?),
             b"control" => Item::Root(words.root()?),
@@ -151,6 +157,16 @@ impl<'t> Words<'t> {
 
     fn machine(&mut self) -> Result<Machine<'t>, Wrong> {
         Ok(Machine { states: self.after("states", STATES)?, start: self.after("start", START)? })
+    }
+
+    fn queue(&mut self) -> Result<Queue<'t>, Wrong> {
+        let messages = self.after("messages", MESSAGES)?;
+        if !self.is_next("start") {
+            return Ok(Queue { messages, starting: vec![] });
+        }
+        self.next();
+        self.take(":")?;
+        Ok(Queue { messages, starting: self.numbers(STARTING)? })
     }
 
     fn transition(&mut self) -> Result<Transition<'t>, Wrong> {
