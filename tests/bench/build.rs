@@ -1,10 +1,10 @@
-//! Links the proved static libraries: `rt staticlib measured` writes that of reading and checking, `rt staticlib capi` that
+//! Links the proved static libraries: `rt staticlib benchmark` writes that of reading and checking, `rt staticlib capi` that
 //! of replaying, writing and drawing.
 
 fn main() {
     let folder = concat!(env!("CARGO_MANIFEST_DIR"), "/../../target/staticlib");
     let programs = [
-        ("swarmbanner-bench", "libmeasured.a"),
+        ("swarmbanner-bench", "libbenchmark.a"),
         ("replay", "libcapi.a"),
         ("writing", "libcapi.a"),
         ("expression", "libcapi.a"),

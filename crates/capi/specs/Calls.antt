@@ -7,21 +7,21 @@ use mathlib.Core.List.{List, _++_}
 use lib.ListN.{length, drop}
 use lib.Dec.{leb}
 use Rattle.numbers.specs.Part.{Part, got, refused}
-use Rattle.session.specs.File.{readFile, readReplyOf}
+use Rattle.reading_file.specs.File.{readFile, readReplyOf}
 use Rattle.tables.specs.declared.tables.Tables.{Tables}
-use Rattle.meaning.specs.Checking.{checkOf}
-use Rattle.diagram.specs.Member.{memberOf}
-use Rattle.replay.specs.Reply.{Outcome, replayOf}
-use Rattle.spelling.specs.Spelled.{spelled}
-use Rattle.writing.specs.Write.{bufferAfter}
-use Rattle.flat.specs.Flat.{flat, tablesLeast}
-use Rattle.flat.specs.Taken.{tablesAt}
-use Rattle.flat.specs.Written.{writeReplyAt}
-use Rattle.telling.specs.Told.{NO-ROOM, toldReply, toldAnswer, toldMember, toldWritten, replyLeast, replyAfter}
-use Rattle.telling.specs.Replays.{toldReplay, runAfter, recordLeast, blank}
-use Rattle.telling.specs.declared.told.Told.{Told}
+use Rattle.theory_files.specs.Checking.{checkOf}
+use Rattle.membership.specs.Member.{memberOf}
+use Rattle.replaying_trace.specs.Reply.{Outcome, replayOf}
+use Rattle.theory_format.specs.Spelled.{spelled}
+use Rattle.writing_file.specs.Write.{bufferAfter}
+use Rattle.c_tables.specs.Flat.{flat, tablesLeast}
+use Rattle.c_tables.specs.Taken.{tablesAt}
+use Rattle.c_tables.specs.Written.{writeReplyAt}
+use Rattle.c_replies.specs.Told.{NO-ROOM, toldReply, toldAnswer, toldMember, toldWritten, replyLeast, replyAfter}
+use Rattle.c_replies.specs.Replays.{toldReplay, runAfter, recordLeast, blank}
+use Rattle.c_replies.specs.declared.told.Told.{Told}
 use Rattle.expression.specs.Expression.{expression}
-use Rattle.telling_drawn.specs.Drawn.{toldDrawn, poolLeast, poolAfter}
+use Rattle.c_expression.specs.Drawn.{toldDrawn, poolLeast, poolAfter}
 
 -- THE NUMBER OF THE LAYOUT: a layout of tables that differs in any entry, or another reply, has another. 1 had words of four messages, 2 replies of three
 -- numbers, 3 no starting contents

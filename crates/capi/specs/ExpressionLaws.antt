@@ -6,14 +6,14 @@ use mathlib.Core.List.{List}
 use lib.ListN.{length}
 use lib.Dec.{leb}
 use borrow.Author.Tests.{le-leb, lt-leb}
-use Rattle.model.specs.Laws.Basics.{is-and}
+use Rattle.theory_model.specs.Laws.Basics.{is-and}
 use Rattle.tables.specs.declared.tables.Pool.{Pool}
-use Rattle.telling.specs.Told.{NO-ROOM, replyLeast, replyAfter, Tells}
-use Rattle.telling.specs.declared.told.Told.{Told}
+use Rattle.c_replies.specs.Told.{NO-ROOM, replyLeast, replyAfter, Tells}
+use Rattle.c_replies.specs.declared.told.Told.{Told}
 use Rattle.expression.specs.Expression.{Drawn, expression}
 use Rattle.expression.specs.Said.{saidReply, saidDrawing}
 use Rattle.expression.specs.declared.draw.Drawing.{Drawing}
-use Rattle.telling_drawn.specs.Drawn.{toldDrawn, poolLeast, poolAfter}
+use Rattle.c_expression.specs.Drawn.{toldDrawn, poolLeast, poolAfter}
 use Rattle.capi.specs.Calls.{replyFits, drawnTold, drawnFits, ExpressionCall}
 use Rattle.capi.specs.Laws.{kind-none, changed, kept, tells-kind, tells-reply, first-none, second-none}
 

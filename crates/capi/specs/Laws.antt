@@ -9,41 +9,41 @@ use borrow.Author.Tests.{le-leb, lt-leb}
 use native.Mathlib.Omega.{arith}
 use Rattle.numbers.specs.Limits.{mostBytes}
 use Rattle.numbers.specs.Part.{Part, got, refused}
-use Rattle.session.specs.Said.{read, refusal, saidAnswer}
-use Rattle.session.specs.File.{readFile, readReplyOf, tablesOf, Reads}
-use Rattle.session.specs.Valid.{Valid}
+use Rattle.reading_file.specs.Said.{read, refusal, saidAnswer}
+use Rattle.reading_file.specs.File.{readFile, readReplyOf, tablesOf, Reads}
+use Rattle.reading_file.specs.Valid.{Valid}
 use Rattle.tables.specs.declared.tables.Tables.{Tables}
-use Rattle.session.specs.declared.reading.Reading.{Reading}
-use Rattle.model.specs.Laws.Basics.{is-and}
-use Rattle.meaning.specs.Reply.{shownOf}
-use Rattle.meaning.specs.Checking.{Checked, checkOf, Checks}
-use Rattle.verdict.specs.Check.{saidVerdict}
-use Rattle.verdict.specs.declared.check.Verdict.{Verdict}
-use Rattle.diagram.specs.Member.{memberOf}
-use Rattle.diagram.specs.Said.{saidMember}
-use Rattle.diagram.specs.Laws.Asking.{read-valid}
-use Rattle.diagram.specs.declared.reply.Member.{Member}
+use Rattle.reading_file.specs.declared.reading.Reading.{Reading}
+use Rattle.theory_model.specs.Laws.Basics.{is-and}
+use Rattle.theory_files.specs.Reply.{shownOf}
+use Rattle.theory_files.specs.Checking.{Checked, checkOf, Checks}
+use Rattle.checking_file.specs.Check.{saidVerdict}
+use Rattle.checking_file.specs.declared.check.Verdict.{Verdict}
+use Rattle.membership.specs.Member.{memberOf}
+use Rattle.membership.specs.Said.{saidMember}
+use Rattle.membership.specs.Laws.Asking.{read-valid}
+use Rattle.membership.specs.declared.reply.Member.{Member}
 use Rattle.numbers.specs.Put.{Put}
-use Rattle.line.specs.Said.{said, shownBy}
-use Rattle.line.specs.declared.verdict.Verdict.{Verdict as Line}
-use Rattle.line.specs.declared.verdict.Verdict.the-variants.{Closed, Outside, Leaves, Bad, Refused}
-use Rattle.stepping.specs.declared.runs.RunRecord.{RunRecord}
-use Rattle.trace.specs.Rules.{room as queueRoom}
-use Rattle.replay.specs.Reply.{Reply, Outcome, lentTo, replayTo, replayOf, saidStop, Replays}
-use Rattle.replay.specs.declared.progress.Ended.{Ended}
-use Rattle.answer.specs.Printed.{printedOf}
-use Rattle.answer.specs.Laws.{counted-by}
-use Rattle.spelling.specs.Spelled.{spelled}
-use Rattle.writing.specs.Write.{bufferAfter, saidWritten}
-use Rattle.writing.specs.declared.write.Written.{Written}
-use Rattle.flat.specs.Flat.{flat, tablesLeast}
-use Rattle.flat.specs.Taken.{tablesAt}
-use Rattle.flat.specs.Written.{writeReplyAt, WritesFlat}
-use Rattle.flat.specs.Laws.Put.{flat-front}
-use Rattle.telling.specs.Told.{NO-ROOM, toldOf, toldReply, toldAnswer, toldMember, toldWritten, toldLine, replyLeast, replyAfter, Tells}
-use Rattle.telling.specs.Replays.{toldReplay, recordLeast, runAfter, blank}
+use Rattle.checking_line.specs.Said.{said, shownBy}
+use Rattle.checking_line.specs.declared.verdict.Verdict.{Verdict as Line}
+use Rattle.checking_line.specs.declared.verdict.Verdict.the-variants.{Closed, Outside, Leaves, Bad, Refused}
+use Rattle.replaying_step.specs.declared.runs.RunRecord.{RunRecord}
+use Rattle.theory_replay.specs.Rules.{room as queueRoom}
+use Rattle.replaying_trace.specs.Reply.{Reply, Outcome, lentTo, replayTo, replayOf, saidStop, Replays}
+use Rattle.replaying_trace.specs.declared.progress.Ended.{Ended}
+use Rattle.checking_answer.specs.Printed.{printedOf}
+use Rattle.checking_answer.specs.Laws.{counted-by}
+use Rattle.theory_format.specs.Spelled.{spelled}
+use Rattle.writing_file.specs.Write.{bufferAfter, saidWritten}
+use Rattle.writing_file.specs.declared.write.Written.{Written}
+use Rattle.c_tables.specs.Flat.{flat, tablesLeast}
+use Rattle.c_tables.specs.Taken.{tablesAt}
+use Rattle.c_tables.specs.Written.{writeReplyAt, WritesFlat}
+use Rattle.c_tables.specs.Laws.Put.{flat-front}
+use Rattle.c_replies.specs.Told.{NO-ROOM, toldOf, toldReply, toldAnswer, toldMember, toldWritten, toldLine, replyLeast, replyAfter, Tells}
+use Rattle.c_replies.specs.Replays.{toldReplay, recordLeast, runAfter, blank}
 use Rattle.capi.specs.Calls.{replyFits, kindIf, keepUnless, spaceAfter, outcomeOf, replayTold, replayFits, ReadCall, WriteCall, MemberCall, CheckCall, ReplayCall}
-use Rattle.telling.specs.declared.told.Told.{Told}
+use Rattle.c_replies.specs.declared.told.Told.{Told}
 
 -- ROOM FOR THE OUTPUT, or none
 pub kind-none : (b : Bool) (t : Told) → b ≡ false → NO-ROOM ≡ kindIf b t

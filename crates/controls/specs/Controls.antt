@@ -8,7 +8,7 @@ use lib.Dec.{eqb}
 use Rattle.tables.specs.Limits.{mostMachines, mostControls}
 use Rattle.tables.specs.Rows.{machineAt, fromAt, toAt}
 use Rattle.tables.specs.declared.tables.Machines.{Machines}
-use Rattle.model.specs.Model.{product, number, places}
+use Rattle.theory_model.specs.Model.{product, number, places}
 use Rattle.controls.specs.declared.parting.Parted.{Parted}
 
 -- for each machine how many states it has, and its starting state

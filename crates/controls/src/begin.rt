@@ -3,7 +3,7 @@ use crate::numbering::control_of;
 use tables::kinds::ControlState;
 use tables::tables::Machines;
 ghost use mathlib.Core.Path.{_≡_};
-ghost use Rattle.model.specs.Model.{number};
+ghost use Rattle.theory_model.specs.Model.{number};
 ghost use Rattle.controls.specs.Controls.{sizesOf, startsOf};
 ghost use Rattle.tables.specs.Valid.{MachinesValid};
 

@@ -6,8 +6,8 @@ use tables::tables::Machines;
 ghost use mathlib.Core.Path.{_≡_};
 ghost use Prim.Native.Nat.{_+_};
 ghost use lib.ListN.{take};
-ghost use Rattle.model.specs.Model.{number};
-ghost use Rattle.model.specs.Session.{States};
+ghost use Rattle.theory_model.specs.Model.{number};
+ghost use Rattle.theory_model.specs.Session.{States};
 ghost use Rattle.controls.specs.Controls.{sizesOf, Numberable, Numbering};
 ghost use Rattle.tables.specs.Valid.{MachinesValid};
 

@@ -5,7 +5,7 @@ use tables::tables::Machines;
 ghost use mathlib.Core.Path.{_≡_};
 ghost use Prim.Native.Nat.{_<_, _≤_};
 ghost use lib.ListN.{take, drop};
-ghost use Rattle.model.specs.Model.{product};
+ghost use Rattle.theory_model.specs.Model.{product};
 ghost use Rattle.controls.specs.Controls.{sizesOf, Located, Partable, Stepped};
 ghost use Rattle.tables.specs.Valid.{MachinesValid};
 

@@ -2,12 +2,12 @@
 use mathlib.Core.Path.{_≡_, refl}
 use mathlib.Core.Bool.{true, false}
 use mathlib.Core.List.{[], _∷_, map}
-use Rattle.explore.specs.Explore.{explore, rounds, expand, fresh, starts, childrenFrom}
-use Rattle.grammar.specs.Tree.{letter, empty, sequence, either, star}
-use Rattle.grammar.specs.Parse.{run}
-use Rattle.grammar.specs.Offends.{limitsFrom}
-use Rattle.occurrences.specs.Sets.{union, meet, linkFrom, gatherFrom, markedFrom}
-use Rattle.occurrences.specs.Positions.{automaton, ends}
+use Rattle.theory_exploration.specs.Explore.{explore, rounds, expand, fresh, starts, childrenFrom}
+use Rattle.theory_grammar.specs.Tree.{letter, empty, sequence, either, star}
+use Rattle.theory_grammar.specs.Parse.{run}
+use Rattle.theory_grammar.specs.Offends.{limitsFrom}
+use Rattle.theory_occurrences.specs.Sets.{union, meet, linkFrom, gatherFrom, markedFrom}
+use Rattle.theory_occurrences.specs.Positions.{automaton, ends}
 use Rattle.expression.specs.Expression.{states, turnedAway, expression}
 
 -- 0*: the start is not the set that it leads to

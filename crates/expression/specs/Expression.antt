@@ -7,12 +7,12 @@ use lib.ListN.{length, replicate}
 use Rattle.tables.specs.Limits.{mostPool}
 use Rattle.tables.specs.Pool.{poolArcs}
 use Rattle.tables.specs.declared.tables.Pool.{Pool}
-use Rattle.grammar.specs.Tree.{Tree}
-use Rattle.grammar.specs.Parse.{Parsed, parsed, stuck, parse}
-use Rattle.grammar.specs.Offends.{Limit, kept, passed, limits}
-use Rattle.occurrences.specs.Positions.{Automaton, automaton}
-use Rattle.subsets.specs.States.{statesFrom}
-use Rattle.filling.specs.Filled.{poolFor}
+use Rattle.theory_grammar.specs.Tree.{Tree}
+use Rattle.theory_grammar.specs.Parse.{Parsed, parsed, stuck, parse}
+use Rattle.theory_grammar.specs.Offends.{Limit, kept, passed, limits}
+use Rattle.theory_occurrences.specs.Positions.{Automaton, automaton}
+use Rattle.expression_states.specs.States.{statesFrom}
+use Rattle.expression_pool.specs.Filled.{poolFor}
 
 -- bytes of a text
 abbrev pub mostText : ℕ

@@ -6,18 +6,18 @@ use mathlib.Core.Option.{none, some}
 use mathlib.Core.List.{List, [], _∷_}
 use Prim.Native.Nat.{ℕ, _≤_, _<_}
 use lib.ListN.{length}
-use Rattle.explore.specs.Order.{Shortlex, AtMost}
-use Rattle.explore.specs.Size.{Size}
-use Rattle.model.specs.Diagram.{Pool, follow, accepts}
+use Rattle.theory_exploration.specs.Order.{Shortlex, AtMost}
+use Rattle.theory_exploration.specs.Size.{Size}
+use Rattle.theory_model.specs.Diagram.{Pool, follow, accepts}
 use Rattle.tables.specs.Limits.{mostMessages, mostPool}
 use Rattle.tables.specs.Valid.{PoolValid}
 use Rattle.tables.specs.declared.tables.Pool as Declared
-use Rattle.queue_order.specs.Pool.{poolOf}
-use Rattle.grammar.specs.Tree.{Tree, Word}
-use Rattle.grammar.specs.Grammar.{Text, Outside}
-use Rattle.grammar.specs.Offends.{Offends, Leftmost}
-use Rattle.occurrences.specs.Sets.{has}
-use Rattle.occurrences.specs.EndsOn.{EndsOn}
+use Rattle.reading_order.specs.Pool.{poolOf}
+use Rattle.theory_grammar.specs.Tree.{Tree, Word}
+use Rattle.theory_grammar.specs.Grammar.{Text, Outside}
+use Rattle.theory_grammar.specs.Offends.{Offends, Leftmost}
+use Rattle.theory_occurrences.specs.Sets.{has}
+use Rattle.theory_occurrences.specs.EndsOn.{EndsOn}
 use Rattle.expression.specs.Expression.{root, mostText, turnedAway, expression}
 
 -- a pool and its root, which is state 0

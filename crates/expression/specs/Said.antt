@@ -4,8 +4,8 @@ use Prim.Native.Nat.{ℕ}
 use lib.ListN.{replicate}
 use Rattle.tables.specs.Limits.{mostPool}
 use Rattle.tables.specs.Pool.{poolArcs}
-use Rattle.occurrences.specs.Positions.{Automaton}
-use Rattle.parsing.specs.declared.parts.Part.{Part}
+use Rattle.theory_occurrences.specs.Positions.{Automaton}
+use Rattle.expression_parse.specs.declared.parts.Part.{Part}
 use Rattle.expression.specs.Expression.{Drawn, root, refused, mostText}
 use Rattle.expression.specs.Expression as Expression
 use Rattle.expression.specs.declared.draw.Reply.{Reply}

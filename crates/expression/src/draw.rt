@@ -1,15 +1,15 @@
 // The diagram for just the language of an expression, or why there is none.
-use filling::fill::fill_arcs;
-use filling::fill::fill_finals;
-use occurrence_sets::sets::MOST_OCCURRENCES;
-use occurrence_sets::sets::marks_of;
-use parsing::cycle::parse;
-use parsing::parts::Part;
-use parsing::parts::Step;
-use scanning::limits::Limit;
-use scanning::limits::check;
-use subsets::grow::ROOM;
-use subsets::grow::grow;
+use expression_parse::cycle::parse;
+use expression_parse::parts::Part;
+use expression_parse::parts::Step;
+use expression_pool::fill::fill_arcs;
+use expression_pool::fill::fill_finals;
+use expression_scan::limits::Limit;
+use expression_scan::limits::check;
+use expression_sets::sets::MOST_OCCURRENCES;
+use expression_sets::sets::marks_of;
+use expression_states::grow::ROOM;
+use expression_states::grow::grow;
 use tables::kinds::DiagramState;
 use tables::tables::POOL_ARCS;
 use tables::tables::Pool;

@@ -6,7 +6,7 @@ use mathlib.Core.List.{List, [], _∷_}
 use Rattle.tables.specs.Limits.{mostPool}
 use Rattle.tables.specs.Kinds.{reachedOf}
 use Rattle.tables.specs.Lookup.{alongArc}
-use Rattle.model.specs.Diagram.{oneMore}
+use Rattle.theory_model.specs.Diagram.{oneMore}
 
 -- one after the other
 unfoldable pub followArcs : List ℕ → Option ℕ → List ℕ → Option ℕ

@@ -4,3 +4,7 @@ pub mod Far
 pub mod Rows
 pub mod Words
 pub mod Standing
+pub mod Part
+pub mod Front
+pub mod After
+pub mod Starting

@@ -8,7 +8,7 @@ use tables::kinds::Message;
 use tables::kinds::Reached;
 use tables::tables::MOST_WORD;
 ghost use Prim.Native.Nat.{_≤_};
-ghost use Rattle.model.specs.Model.{Between};
+ghost use Rattle.theory_model.specs.Model.{Between};
 ghost use Rattle.tables.specs.Limits.{mostMessages, mostPool};
 ghost use Rattle.tables.specs.Lookup.{ArcsSmall};
 ghost use Rattle.following.specs.Follow.{FollowsTo};

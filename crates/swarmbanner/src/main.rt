@@ -1,6 +1,6 @@
 // Reads a session file from standard input and prints the line of its verdict.
-use answer::MOST_LINE;
-use answer::whole_line;
+use checking_answer::MOST_LINE;
+use checking_answer::whole_line;
 use streams::input::Input;
 use streams::input::read_input;
 use streams::print_front;

@@ -5,6 +5,7 @@ pub mod Queues
 pub mod Pool
 pub mod Starting
 pub mod Empty
+pub mod Head
 pub mod Said
 pub mod Lookup
 pub mod Valid

@@ -2,7 +2,7 @@
 // then the contents, their length in two bytes before them. Low bytes come first.
 mod report;
 
-use diagram::member::member;
+use membership::member::member;
 use numbers::number::wide;
 use report::report;
 use streams::files::Next;

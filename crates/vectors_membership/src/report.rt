@@ -1,5 +1,5 @@
 // The line of one reply.
-use diagram::reply::Member;
+use membership::reply::Member;
 use numbers::refusal::number;
 use numbers::refusal::place;
 

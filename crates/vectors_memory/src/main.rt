@@ -1,6 +1,6 @@
 // Answers the file on standard input with memory that is just enough, and with each part of it one short.
-use answer::MOST_LINE;
-use answer::answer;
+use checking_answer::MOST_LINE;
+use checking_answer::answer;
 use streams::print_front;
 
 fn main() {

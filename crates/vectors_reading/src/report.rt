@@ -3,8 +3,8 @@ use crate::digest::digest;
 use numbers::refusal::Refusal;
 use numbers::refusal::number;
 use numbers::refusal::place;
-use session::reading::Answer;
-use session::reading::read;
+use reading_file::reading::Answer;
+use reading_file::reading::read;
 use tables::tables::Tables;
 
 fn spaced(x: u64) {

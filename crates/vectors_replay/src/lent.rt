@@ -1,6 +1,6 @@
 // The record that a replay is lent, made from a byte of the stream.
 use numbers::number::wide;
-use stepping::runs::RunRecord;
+use replaying_step::runs::RunRecord;
 use streams::lent::low;
 ghost use Prim.Native.Nat.{_<_};
 

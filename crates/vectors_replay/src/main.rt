@@ -6,7 +6,7 @@ mod report;
 
 use lent::record_from;
 use numbers::number::wide;
-use replay::run::replay_from;
+use replaying_trace::run::replay_from;
 use report::report;
 use streams::files::Next;
 use streams::files::next_file;

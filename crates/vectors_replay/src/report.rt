@@ -3,9 +3,9 @@ use numbers::number::wide;
 use numbers::refusal::MOST_BYTES;
 use numbers::refusal::number;
 use numbers::refusal::place;
-use replay::progress::Replayed;
-use replay::progress::Stop;
-use stepping::runs::RunRecord;
+use replaying_step::runs::RunRecord;
+use replaying_trace::progress::Replayed;
+use replaying_trace::progress::Stop;
 
 fn told(words: &[u8], x: usize) {
     io::write_all(1, words);

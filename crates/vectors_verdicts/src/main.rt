@@ -1,6 +1,6 @@
 // Reads a stream of files and prints the line of each.
-use answer::MOST_LINE;
-use answer::whole_line;
+use checking_answer::MOST_LINE;
+use checking_answer::whole_line;
 use streams::files::Next;
 use streams::files::next_file;
 use streams::print_front;

@@ -1,15 +1,15 @@
 // Writing from flat tables that were edited entry by entry.
-use flat::places::TABLES_LEAST;
-use flat::put::put_tables;
-use flat::write::write_flat;
+use c_tables::places::TABLES_LEAST;
+use c_tables::put::put_tables;
+use c_tables::write::write_flat;
 use numbers::number::entry;
 use numbers::number::wide;
-use session::reading::Answer;
-use session::reading::read;
-use writing::write::Written;
+use reading_file::reading::Answer;
+use reading_file::reading::read;
+use writing_file::write::Written;
 ghost use Prim.Native.Nat.{_+_, _<_, _≤_};
 ghost use lib.ListN.{length};
-ghost use Rattle.flat.specs.Flat.{tablesLeast};
+ghost use Rattle.c_tables.specs.Flat.{tablesLeast};
 
 // An edit: the entry's place in two bytes, low byte first, and its value.
 const EDIT: usize = 3;

@@ -14,7 +14,7 @@ use streams::files::Next;
 use streams::files::next_file;
 use streams::lent::digest;
 use streams::lent::fill;
-use writing::write::Written;
+use writing_file::write::Written;
 
 // More writings than a stream has: every loop has an end.
 const MOST_WRITINGS: usize = 100000;

@@ -1,9 +1,9 @@
 // Writing the tables of a file with another product beside them.
-use session::reading::read;
+use reading_file::reading::read;
 use tables::tables::Machines;
 use tables::tables::Tables;
-use writing::write::Written;
-use writing::write::write;
+use writing_file::write::Written;
+use writing_file::write::write;
 
 fn machines_with(m: Machines, product: usize) -> Machines {
     let states = m.states;

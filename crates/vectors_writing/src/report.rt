@@ -1,5 +1,5 @@
 // The line of one writing: the reply, and the digest of the whole buffer.
-use writing::write::Written;
+use writing_file::write::Written;
 
 fn refused(cause: u64) {
     io::write_all(1, b"refused ");

@@ -1,5 +1,4 @@
--- What the putting functions speak of: how far places go, rows of arcs, tables in parts (what is small by value, what is large as lists of their own), and the
--- stretches of the file that one function puts.
+-- What the putting functions speak of: how far places go, rows of arcs, and the stretches of the file that one function puts.
 use Prim.Native.Nat.{ℕ, _+_, _*_}
 use mathlib.Core.Bool.{Bool, cond, _&&_}
 use mathlib.Core.List.{List, [], _++_}
@@ -9,9 +8,8 @@ use Rattle.tables.specs.Limits.{mostMessages}
 use Rattle.tables.specs.Rows.{kindAt}
 use Rattle.tables.specs.Starting.{waits}
 use Rattle.tables.specs.declared.tables.Queues.{Queues}
-use Rattle.tables.specs.declared.tables.Tables.{Tables}
-use Rattle.spelling.specs.Spelled.{number, contents, action, arcsOf, pool, map, bad}
-use Rattle.writing_fields.specs.declared.parts.Head.{Head}
+use Rattle.theory_format.specs.Spelled.{number, contents, action, arcsOf, pool, map, bad}
+use Rattle.tables.specs.declared.head.Head.{Head}
 
 -- further than any text goes, and no sum with it passes what a place can hold
 abbrev pub amplePlace : ℕ
@@ -28,18 +26,6 @@ rowOf table i sum = take sum (drop (i * mostMessages) table)
 -- the arcs of such a row
 abbrev pub arcsIn : List ℕ → List (ℕ × ℕ)
 arcsIn row = arcsOf row 0 (length row) 0
-
--- rows of the transitions, final marks, arcs, roots, rows of the bad entries
-abbrev pub joined : Head → List ℕ → List ℕ → List ℕ → List ℕ → List ℕ → Tables
-joined h rows finals arcs roots entries =
-    record {
-      machines = h .machines;
-      queues = h .queues;
-      transitions = record { count = h .transitions; rows = rows };
-      pool = record { count = h .states; finals = finals; arcs = arcs };
-      map = record { roots = roots };
-      bad = record { count = h .bad; rows = entries };
-    }
 
 -- field 2 after the queues' messages: what waits, if the file resumes
 unfoldable pub waiting : Queues → List ℕ

@@ -2,16 +2,17 @@
 use crate::moves::put_machines;
 use crate::moves::put_queues;
 use crate::moves::put_transitions;
-use crate::parts::Head;
 use crate::pool::put_pool;
 use crate::sets::put_bad;
 use crate::sets::put_map;
+use tables::head::Head;
 use tables::starting::waits;
 ghost use Prim.Native.Nat.{_+_, _≤_};
 ghost use Rattle.tables.specs.Limits.{mostMachines, mostControls};
 ghost use Rattle.numbers.specs.Put.{Put};
-ghost use Rattle.spelling.specs.Spelled.{spelled};
-ghost use Rattle.writing_fields.specs.Parts.{amplePlace, joined, diagrams};
+ghost use Rattle.theory_format.specs.Spelled.{spelled};
+ghost use Rattle.tables.specs.Head.{tablesOf};
+ghost use Rattle.writing_fields.specs.Parts.{amplePlace, diagrams};
 
 // Fields 4 to 6.
 fn put_diagrams(
@@ -44,7 +45,7 @@ pub fn put_tables(
 ) -> usize
     requires { ⌜ h .machines .count ≤ mostMachines ⌝ }
     requires { ⌜ h .machines .product ≤ mostControls ⌝ }
-    ensures { λ r. ⌜ Put (now (s .entry)) 0 amplePlace (spelled (joined h (now (rows .entry)) (now (finals .entry)) (now (arcs .entry)) (now (roots .entry)) (now (entries .entry)))) (now (s .exit)) r ⌝ }
+    ensures { λ r. ⌜ Put (now (s .entry)) 0 amplePlace (spelled (tablesOf h (now (rows .entry)) (now (finals .entry)) (now (arcs .entry)) (now (roots .entry)) (now (entries .entry)))) (now (s .exit)) r ⌝ }
 {
     let queues = h.queues;
     let lengths = queues.lengths;

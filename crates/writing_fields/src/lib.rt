@@ -3,7 +3,6 @@
 pub mod file;
 mod moves;
 mod number;
-pub mod parts;
 mod pool;
 mod sets;
 mod starting;

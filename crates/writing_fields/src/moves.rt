@@ -17,7 +17,7 @@ ghost use Prim.Native.Nat.{_+_, _*_, _≤_};
 ghost use mathlib.Core.Path.{_≡_};
 ghost use Rattle.tables.specs.Limits.{mostMachines};
 ghost use Rattle.numbers.specs.Put.{Put};
-ghost use Rattle.spelling.specs.Spelled.{firstNumber, machines, queues, action, transition, transitions};
+ghost use Rattle.theory_format.specs.Spelled.{firstNumber, machines, queues, action, transition, transitions};
 ghost use Rattle.writing_fields.specs.Parts.{amplePlace, kind};
 
 // How many machines there are, and whether the file resumes, in one number.

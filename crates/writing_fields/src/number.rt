@@ -4,7 +4,7 @@ ghost use Prim.Native.Nat.{_+_, _*_, _≤_};
 ghost use mathlib.Core.Path.{_≡_};
 ghost use mathlib.Core.List.{_∷_, [], _++_};
 ghost use Rattle.numbers.specs.Put.{Put};
-ghost use Rattle.spelling.specs.Spelled.{number, entries};
+ghost use Rattle.theory_format.specs.Spelled.{number, entries};
 ghost use Rattle.writing_fields.specs.Parts.{amplePlace, bothShort};
 
 // Past the end of the buffer there is nothing to change, and the place goes on all the same.

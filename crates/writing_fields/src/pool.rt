@@ -9,7 +9,7 @@ ghost use mathlib.Core.Path.{_≡_};
 ghost use lib.Dec.{eqb};
 ghost use lib.ListN.{length};
 ghost use Rattle.numbers.specs.Put.{Put};
-ghost use Rattle.spelling.specs.Spelled.{arcs, counted, state, pool};
+ghost use Rattle.theory_format.specs.Spelled.{arcs, counted, state, pool};
 ghost use Rattle.writing_fields.specs.Parts.{amplePlace, rowOf, arcsIn};
 
 // The arcs of a state for the messages below the sum, as far as the table goes.

@@ -7,7 +7,7 @@ use tables::tables::MOST_STARTING;
 use tables::tables::Queues;
 ghost use Prim.Native.Nat.{_+_, _*_, _≤_, _<_};
 ghost use Rattle.numbers.specs.Put.{Put};
-ghost use Rattle.spelling.specs.Spelled.{each, content};
+ghost use Rattle.theory_format.specs.Spelled.{each, content};
 ghost use Rattle.writing_fields.specs.Parts.{amplePlace, waiting};
 
 // Of one queue: how many messages, and these.

@@ -67,7 +67,7 @@ impl Subject for Reference {
     }
 }
 
-/// The product, by the functions of crate `measured`, with the memory that it is lent.
+/// The product, by the functions of crate `benchmark`, with the memory that it is lent.
 struct Product {
     seen: Vec<u16>,
     queue: Vec<u16>,

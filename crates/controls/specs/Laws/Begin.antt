@@ -10,10 +10,10 @@ use lib.Seq.{drop-cons, getD-take}
 use Rattle.tables.specs.Limits.{mostControls}
 use Rattle.tables.specs.Valid.{MachinesValid}
 use Rattle.tables.specs.declared.tables.Machines.{Machines}
-use Rattle.model.specs.Model.{product, number}
-use Rattle.model.specs.Session.{States}
-use Rattle.model.specs.Laws.Controls.{number-below}
-use Rattle.meaning.specs.Laws.Counts.{states-are}
+use Rattle.theory_model.specs.Model.{product, number}
+use Rattle.theory_model.specs.Session.{States}
+use Rattle.theory_model.specs.Laws.Controls.{number-below}
+use Rattle.theory_files.specs.Laws.Counts.{states-are}
 use Rattle.controls.specs.Controls.{sizesOf, startsOf, Numberable, Numbering, withRest, Stepped}
 use Rattle.controls.specs.Laws.Parting.{sizes-length, sizes-stepped, sizes-product}
 

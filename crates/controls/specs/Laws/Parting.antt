@@ -11,9 +11,9 @@ use Rattle.tables.specs.Limits.{mostMachines, mostControls}
 use Rattle.tables.specs.Kinds.{limited}
 use Rattle.tables.specs.Valid.{MachinesValid}
 use Rattle.tables.specs.declared.tables.Machines.{Machines}
-use Rattle.model.specs.Model.{product, number, places}
-use Rattle.model.specs.Laws.Controls.{number-places, number-below, places-are-states, states-set}
-use Rattle.meaning.specs.Laws.Counts.{product-is}
+use Rattle.theory_model.specs.Model.{product, number, places}
+use Rattle.theory_model.specs.Laws.Controls.{number-places, number-below, places-are-states, states-set}
+use Rattle.theory_files.specs.Laws.Counts.{product-is}
 use Rattle.tables.specs.Laws.Kinds.{control-made}
 use Rattle.controls.specs.Controls.{sizesOf, Located, Partable, Stepped}
 use Rattle.controls.specs.declared.parting.Parted.{Parted}

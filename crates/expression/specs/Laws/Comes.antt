@@ -9,12 +9,12 @@ use lib.Dec.{ltb}
 use lib.ListN.{length}
 use Rattle.tables.specs.Limits.{mostPool}
 use Rattle.tables.specs.declared.tables.Pool.{Pool}
-use Rattle.grammar.specs.Tree.{Tree}
-use Rattle.grammar.specs.Parse.{Parsed, parsed, stuck, parse}
-use Rattle.grammar.specs.Offends.{Limit, kept, passed, limits}
-use Rattle.model.specs.Laws.Basics.{byTest}
-use Rattle.occurrences.specs.Positions.{automaton}
-use Rattle.filling.specs.Filled.{poolFor}
+use Rattle.theory_grammar.specs.Tree.{Tree}
+use Rattle.theory_grammar.specs.Parse.{Parsed, parsed, stuck, parse}
+use Rattle.theory_grammar.specs.Offends.{Limit, kept, passed, limits}
+use Rattle.theory_model.specs.Laws.Basics.{byTest}
+use Rattle.theory_occurrences.specs.Positions.{automaton}
+use Rattle.expression_pool.specs.Filled.{poolFor}
 use Rattle.expression.specs.Expression.{Drawn, root, refused, mostText, turnedAway, states, numbered, draw, limited, read, measured, expression}
 
 pub data Comes (s : List ℕ) : Drawn → Type 0 where

@@ -8,30 +8,30 @@ use Prim.Native.Nat.{ℕ, _^_, _≤_, _<_}
 use native.Mathlib.Omega.{arith}
 use lib.Dec.{eqb}
 use lib.ListN.{length, length-map, length-reverse}
-use Rattle.explore.specs.Mem.{Mem}
-use Rattle.explore.specs.Size.{Size}
-use Rattle.explore.specs.Explore.{Entry, ReachedFrom, reach, explore}
-use Rattle.explore.specs.Laws.Mem.{map-mem}
-use Rattle.explore.specs.Laws.Size.{at-most, size-same, size-unique, below, below-length, below-each}
-use Rattle.explore.specs.Laws.Meaning.{distinct, sound-word, enough-from, size-from}
+use Rattle.theory_exploration.specs.Mem.{Mem}
+use Rattle.theory_exploration.specs.Size.{Size}
+use Rattle.theory_exploration.specs.Explore.{Entry, ReachedFrom, reach, explore}
+use Rattle.theory_exploration.specs.Laws.Mem.{map-mem}
+use Rattle.theory_exploration.specs.Laws.Size.{at-most, size-same, size-unique, below, below-length, below-each}
+use Rattle.theory_exploration.specs.Laws.Meaning.{distinct, sound-word, enough-from, size-from}
 use Rattle.tables.specs.Limits.{mostPool, mostMessages}
 use Rattle.tables.specs.declared.tables.Pool.{Pool}
-use Rattle.grammar.specs.Tree.{Tree, size}
-use Rattle.grammar.specs.Grammar.{Text}
-use Rattle.grammar.specs.Parse.{parsed, parse}
-use Rattle.grammar.specs.Offends.{mostOccurrences, Offends}
-use Rattle.grammar.specs.Laws.Running.{stuck-not-parsed}
-use Rattle.grammar.specs.Laws.Sound.{parsed-spelled}
-use Rattle.grammar.specs.Laws.Complete.{spelled-parsed, one-tree}
-use Rattle.grammar.specs.Laws.Limits.{limits-kept, limits-passed}
-use Rattle.grammar.specs.Laws.Numbers.{kept-bounds}
-use Rattle.occurrences.specs.Sets.{has}
-use Rattle.occurrences.specs.Positions.{Automaton, automaton, move}
-use Rattle.occurrences.specs.EndsOn.{EndsOn}
-use Rattle.occurrences.specs.Laws.Sets.{some-member, same-members}
-use Rattle.occurrences.specs.Laws.Letters.{Low}
-use Rattle.occurrences.specs.Laws.Arrives.{Node, node-set, node-none, stored-node-set}
-use Rattle.filling.specs.Filled.{poolFor}
+use Rattle.theory_grammar.specs.Tree.{Tree, size}
+use Rattle.theory_grammar.specs.Grammar.{Text}
+use Rattle.theory_grammar.specs.Parse.{parsed, parse}
+use Rattle.theory_grammar.specs.Offends.{mostOccurrences, Offends}
+use Rattle.theory_grammar.specs.Laws.Running.{stuck-not-parsed}
+use Rattle.theory_grammar.specs.Laws.Sound.{parsed-spelled}
+use Rattle.theory_grammar.specs.Laws.Complete.{spelled-parsed, one-tree}
+use Rattle.theory_grammar.specs.Laws.Limits.{limits-kept, limits-passed}
+use Rattle.theory_grammar.specs.Laws.Numbers.{kept-bounds}
+use Rattle.theory_occurrences.specs.Sets.{has}
+use Rattle.theory_occurrences.specs.Positions.{Automaton, automaton, move}
+use Rattle.theory_occurrences.specs.EndsOn.{EndsOn}
+use Rattle.theory_occurrences.specs.Laws.Sets.{some-member, same-members}
+use Rattle.theory_occurrences.specs.Laws.Letters.{Low}
+use Rattle.theory_occurrences.specs.Laws.Arrives.{Node, node-set, node-none, stored-node-set}
+use Rattle.expression_pool.specs.Filled.{poolFor}
 use Rattle.expression.specs.Expression.{Drawn, root, mostText, turnedAway, states, expression}
 use Rattle.expression.specs.Means.{EndSet, StateOf, TooManyStates, DrawnElse}
 use Rattle.expression.specs.Laws.Standing.{eqb-equality}

@@ -10,18 +10,18 @@ use lib.Seq.{length-take-le}
 use Rattle.tables.specs.Limits.{mostMessages, mostPool}
 use Rattle.tables.specs.Pool.{poolArcs}
 use Rattle.tables.specs.declared.tables.Pool.{Pool}
-use Rattle.occurrences.specs.Positions.{Automaton, automaton, follows, labels}
-use Rattle.subsets.specs.Grows.{FoundStates}
-use Rattle.filling.specs.Filled.{entriesFrom, arcEntry, finalMark, poolFor}
-use Rattle.grammar.specs.Parse.{Parsed, stuck, parse}
-use Rattle.grammar.specs.Offends.{mostOccurrences, Limit, kept, passed, limits}
-use Rattle.scanning.specs.Said.{saidLimit}
-use Rattle.scanning.specs.declared.limits.Limit.{Limit as Answer}
-use Rattle.scanning.specs.declared.limits.Limit.the-variants.{Kept, Passed}
-use Rattle.parsing.specs.Steps.{Parses, Whole, whole, outside}
-use Rattle.parsing.specs.declared.parts.Part.{Part}
-use Rattle.parsing.specs.declared.parts.Step.{Step}
-use Rattle.parsing.specs.declared.parts.Step.the-variants.{Read, Stuck}
+use Rattle.theory_occurrences.specs.Positions.{Automaton, automaton, follows, labels}
+use Rattle.expression_states.specs.Grows.{FoundStates}
+use Rattle.expression_pool.specs.Filled.{entriesFrom, arcEntry, finalMark, poolFor}
+use Rattle.theory_grammar.specs.Parse.{Parsed, stuck, parse}
+use Rattle.theory_grammar.specs.Offends.{mostOccurrences, Limit, kept, passed, limits}
+use Rattle.expression_scan.specs.Said.{saidLimit}
+use Rattle.expression_scan.specs.declared.limits.Limit.{Limit as Answer}
+use Rattle.expression_scan.specs.declared.limits.Limit.the-variants.{Kept, Passed}
+use Rattle.expression_parse.specs.Steps.{Parses, Whole, whole, outside}
+use Rattle.expression_parse.specs.declared.parts.Part.{Part}
+use Rattle.expression_parse.specs.declared.parts.Step.{Step}
+use Rattle.expression_parse.specs.declared.parts.Step.the-variants.{Read, Stuck}
 use Rattle.expression.specs.Expression.{Drawn, root, refused, mostText, turnedAway, states, numbered, draw, limited, read, measured, expression}
 use Rattle.expression.specs.Said.{beside, automatonOf}
 

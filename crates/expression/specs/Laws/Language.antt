@@ -6,22 +6,22 @@ use mathlib.Core.Option.{Option, some, Option·some-injective}
 use mathlib.Core.List.{List}
 use Prim.Native.Nat.{ℕ, _≤_}
 use lib.ListN.{length}
-use Rattle.model.specs.Diagram as Diagram
-use Rattle.model.specs.Laws.Basics.{none-not-some, false-not-true}
+use Rattle.theory_model.specs.Diagram as Diagram
+use Rattle.theory_model.specs.Laws.Basics.{none-not-some, false-not-true}
 use Rattle.tables.specs.Limits.{mostPool}
 use Rattle.tables.specs.declared.tables.Pool as Declared
-use Rattle.queue_order.specs.Pool.{poolOf}
-use Rattle.grammar.specs.Tree.{Tree, size}
-use Rattle.grammar.specs.Grammar.{Text}
-use Rattle.grammar.specs.Parse.{parsed, parse}
-use Rattle.grammar.specs.Offends.{mostOccurrences}
-use Rattle.grammar.specs.Laws.Sound.{parsed-spelled}
-use Rattle.grammar.specs.Laws.Complete.{one-tree}
-use Rattle.grammar.specs.Laws.Numbers.{kept-bounds}
-use Rattle.occurrences.specs.Positions.{Automaton, automaton, ends}
-use Rattle.occurrences.specs.Laws.Letters.{Low}
-use Rattle.occurrences.specs.Laws.Arrives.{language}
-use Rattle.filling.specs.Filled.{poolFor}
+use Rattle.reading_order.specs.Pool.{poolOf}
+use Rattle.theory_grammar.specs.Tree.{Tree, size}
+use Rattle.theory_grammar.specs.Grammar.{Text}
+use Rattle.theory_grammar.specs.Parse.{parsed, parse}
+use Rattle.theory_grammar.specs.Offends.{mostOccurrences}
+use Rattle.theory_grammar.specs.Laws.Sound.{parsed-spelled}
+use Rattle.theory_grammar.specs.Laws.Complete.{one-tree}
+use Rattle.theory_grammar.specs.Laws.Numbers.{kept-bounds}
+use Rattle.theory_occurrences.specs.Positions.{Automaton, automaton, ends}
+use Rattle.theory_occurrences.specs.Laws.Letters.{Low}
+use Rattle.theory_occurrences.specs.Laws.Arrives.{language}
+use Rattle.expression_pool.specs.Filled.{poolFor}
 use Rattle.expression.specs.Expression.{Drawn, root, states, expression}
 use Rattle.expression.specs.Means.{Draws, JustTheLanguage, OneTree}
 use Rattle.expression.specs.Laws.Standing.{Stands, nowhere, at, stands, final-is}

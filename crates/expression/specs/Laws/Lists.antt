@@ -5,7 +5,7 @@ use mathlib.Core.List.{List, [], _∷_, map}
 use Prim.Native.Nat.{ℕ, zero, suc, _<_}
 use native.Mathlib.Omega.{arith}
 use lib.ListN.{length, getD, getElem?}
-use Rattle.explore.specs.Mem.{Mem, here, there, Distinct, Ascending}
+use Rattle.theory_exploration.specs.Mem.{Mem, here, there, Distinct, Ascending}
 
 module _ {A : Type 0} where
   -- the member at a place

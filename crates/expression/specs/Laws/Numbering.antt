@@ -8,24 +8,24 @@ use Prim.Native.Nat.{ℕ, zero, suc, _≤_, _<_}
 use native.Mathlib.Omega.{arith}
 use lib.Dec.{eqb}
 use lib.ListN.{length, getD, getElem?, length-map}
-use Rattle.explore.specs.Mem.{Mem}
-use Rattle.explore.specs.Order.{Before, Shortlex, AtMost}
-use Rattle.explore.specs.Explore.{Entry, Precedes, reach, leads, explore}
-use Rattle.explore.specs.Laws.Order.{before-is, not-after-reads}
-use Rattle.explore.specs.Laws.Meaning.{sound, sound-word, in-order, least-way}
-use Rattle.model.specs.Diagram as Diagram
-use Rattle.model.specs.Laws.Basics.{none-not-some}
+use Rattle.theory_exploration.specs.Mem.{Mem}
+use Rattle.theory_exploration.specs.Order.{Before, Shortlex, AtMost}
+use Rattle.theory_exploration.specs.Explore.{Entry, Precedes, reach, leads, explore}
+use Rattle.theory_exploration.specs.Laws.Order.{before-is, not-after-reads}
+use Rattle.theory_exploration.specs.Laws.Meaning.{sound, sound-word, in-order, least-way}
+use Rattle.theory_model.specs.Diagram as Diagram
+use Rattle.theory_model.specs.Laws.Basics.{none-not-some}
 use Rattle.tables.specs.Limits.{mostPool, mostMessages}
-use Rattle.queue_order.specs.Pool.{poolOf}
-use Rattle.grammar.specs.Tree.{Tree, size}
-use Rattle.grammar.specs.Offends.{mostOccurrences}
-use Rattle.occurrences.specs.Sets.{has}
-use Rattle.occurrences.specs.Positions.{Automaton, automaton, move}
-use Rattle.occurrences.specs.EndsOn.{EndsOn}
-use Rattle.occurrences.specs.Laws.Sets.{some-member, same-members}
-use Rattle.occurrences.specs.Laws.Letters.{Low}
-use Rattle.occurrences.specs.Laws.Arrives.{node-set, node-none, start-alone}
-use Rattle.filling.specs.Filled.{poolFor}
+use Rattle.reading_order.specs.Pool.{poolOf}
+use Rattle.theory_grammar.specs.Tree.{Tree, size}
+use Rattle.theory_grammar.specs.Offends.{mostOccurrences}
+use Rattle.theory_occurrences.specs.Sets.{has}
+use Rattle.theory_occurrences.specs.Positions.{Automaton, automaton, move}
+use Rattle.theory_occurrences.specs.EndsOn.{EndsOn}
+use Rattle.theory_occurrences.specs.Laws.Sets.{some-member, same-members}
+use Rattle.theory_occurrences.specs.Laws.Letters.{Low}
+use Rattle.theory_occurrences.specs.Laws.Arrives.{node-set, node-none, start-alone}
+use Rattle.expression_pool.specs.Filled.{poolFor}
 use Rattle.expression.specs.Expression.{states}
 use Rattle.expression.specs.Means.{Numbered, NumberedSo}
 use Rattle.expression.specs.Laws.Lists.{member-at, place-of, ascending-at, mapped-at, one-place}

@@ -5,13 +5,13 @@ use mathlib.Core.List.{List}
 use Prim.Native.Nat.{ℕ, _-_, _<_}
 use native.Mathlib.Omega.{arith}
 use lib.ListN.{length}
-use Rattle.grammar.specs.Grammar.{Outside}
-use Rattle.grammar.specs.Parse.{Parsed, parsed, stuck, parse}
-use Rattle.grammar.specs.Offends.{Offends, Leftmost, Limit, kept, passed, limits}
-use Rattle.grammar.specs.Laws.Running.{stuck-not-parsed}
-use Rattle.grammar.specs.Laws.Complete.{spelled-parsed}
-use Rattle.grammar.specs.Laws.Outside.{outside-is}
-use Rattle.grammar.specs.Laws.Limits.{limits-kept, limits-passed}
+use Rattle.theory_grammar.specs.Grammar.{Outside}
+use Rattle.theory_grammar.specs.Parse.{Parsed, parsed, stuck, parse}
+use Rattle.theory_grammar.specs.Offends.{Offends, Leftmost, Limit, kept, passed, limits}
+use Rattle.theory_grammar.specs.Laws.Running.{stuck-not-parsed}
+use Rattle.theory_grammar.specs.Laws.Complete.{spelled-parsed}
+use Rattle.theory_grammar.specs.Laws.Outside.{outside-is}
+use Rattle.theory_grammar.specs.Laws.Limits.{limits-kept, limits-passed}
 use Rattle.expression.specs.Expression.{Drawn, mostText, turnedAway, expression}
 use Rattle.expression.specs.Means.{TooLong, OutsideIs, LeftmostIs}
 use Rattle.expression.specs.Laws.Comes.{Comes, long, outside, offender, many, drawn, comes, numberOf, placeOf, drawn-not-refused}

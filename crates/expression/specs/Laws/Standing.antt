@@ -8,24 +8,24 @@ use native.Mathlib.Omega.{arith}
 use borrow.Author.Tests.{eqb-true, eqb-false, eq-eqb, ne-eqb, ltb-true, lt-ltb}
 use lib.Dec.{eqb, ltb}
 use lib.ListN.{length, getD, replicate, length-replicate, length-map}
-use Rattle.explore.specs.Mem.{Mem, here, there, Distinct}
-use Rattle.explore.specs.Explore.{Entry, IsEquality, explore, reach}
-use Rattle.explore.specs.Explore as Explore
-use Rattle.explore.specs.Laws.Mem.{mem-map}
-use Rattle.explore.specs.Laws.Expand.{expand-extends}
-use Rattle.explore.specs.Laws.Meaning.{distinct, complete}
-use Rattle.model.specs.Diagram as Diagram
-use Rattle.model.specs.Laws.Basics.{byTest}
+use Rattle.theory_exploration.specs.Mem.{Mem, here, there, Distinct}
+use Rattle.theory_exploration.specs.Explore.{Entry, IsEquality, explore, reach}
+use Rattle.theory_exploration.specs.Explore as Explore
+use Rattle.theory_exploration.specs.Laws.Mem.{mem-map}
+use Rattle.theory_exploration.specs.Laws.Expand.{expand-extends}
+use Rattle.theory_exploration.specs.Laws.Meaning.{distinct, complete}
+use Rattle.theory_model.specs.Diagram as Diagram
+use Rattle.theory_model.specs.Laws.Basics.{byTest}
 use Rattle.tables.specs.Limits.{mostMessages, mostPool}
 use Rattle.tables.specs.Pool.{poolArcs, arcAt}
 use Rattle.tables.specs.Lookup.{finalAt}
-use Rattle.queue_order.specs.Pool.{poolOf, arcOf}
-use Rattle.queue_order.specs.Nodes.{gather}
-use Rattle.occurrences.specs.Positions.{Automaton, after, move, ends}
-use Rattle.subsets.specs.States.{placeFrom}
-use Rattle.subsets.specs.Laws.Numbering.{nodes-are}
-use Rattle.filling.specs.Filled.{arcTo, arcEntry, finalMark, poolFor}
-use Rattle.filling.specs.Laws.Entries.{entries-at}
+use Rattle.reading_order.specs.Pool.{poolOf, arcOf}
+use Rattle.reading_order.specs.Nodes.{gather}
+use Rattle.theory_occurrences.specs.Positions.{Automaton, after, move, ends}
+use Rattle.expression_states.specs.States.{placeFrom}
+use Rattle.expression_states.specs.Laws.Numbering.{nodes-are}
+use Rattle.expression_pool.specs.Filled.{arcTo, arcEntry, finalMark, poolFor}
+use Rattle.expression_pool.specs.Laws.Entries.{entries-at}
 use Rattle.expression.specs.Expression.{states}
 
 pub eqb-equality : IsEquality eqb

@@ -10,11 +10,11 @@ use Rattle.numbers.specs.Laws.Written.{zeros-hold}
 use Rattle.tables.specs.Limits.{mostMessages, mostPool}
 use Rattle.tables.specs.Pool.{poolArcs}
 use Rattle.tables.specs.Valid.{PoolValid}
-use Rattle.occurrences.specs.Sets.{meet, marked}
-use Rattle.occurrences.specs.Positions.{Automaton, automaton, ends}
-use Rattle.subsets.specs.States.{nextOf, placeFrom}
-use Rattle.filling.specs.Filled.{arcTo, arcEntry, finalMark, poolFor}
-use Rattle.filling.specs.Laws.Entries.{entries-at, entries-beyond, entries-long, place-most}
+use Rattle.theory_occurrences.specs.Sets.{meet, marked}
+use Rattle.theory_occurrences.specs.Positions.{Automaton, automaton, ends}
+use Rattle.expression_states.specs.States.{nextOf, placeFrom}
+use Rattle.expression_pool.specs.Filled.{arcTo, arcEntry, finalMark, poolFor}
+use Rattle.expression_pool.specs.Laws.Entries.{entries-at, entries-beyond, entries-long, place-most}
 use Rattle.expression.specs.Expression.{states}
 use Rattle.expression.specs.Means.{ValidSo}
 use Rattle.expression.specs.Laws.Standing.{start-first}

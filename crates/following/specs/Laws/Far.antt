@@ -11,9 +11,9 @@ use Rattle.tables.specs.Kinds.{reachedOf}
 use Rattle.tables.specs.Pool.{arcAt}
 use Rattle.tables.specs.Lookup.{alongArc}
 use Rattle.tables.specs.Laws.Lookup.{reached-nowhere, reached-small}
-use Rattle.model.specs.Model.{Between, message}
-use Rattle.model.specs.Diagram.{Pool, along, follow, oneMore, howFar}
-use Rattle.model.specs.Laws.Far.{far-whole, far-append, far-before}
+use Rattle.theory_model.specs.Model.{Between, message}
+use Rattle.theory_model.specs.Diagram.{Pool, along, follow, oneMore, howFar}
+use Rattle.theory_model.specs.Laws.Far.{far-whole, far-append, far-before}
 use Rattle.following.specs.Follow.{followArcs, farArcs, FollowsTo}
 
 pub far-nothing : (arcs : List ℕ) (x : Option ℕ) → farArcs arcs x [] ≡ 0

@@ -9,9 +9,9 @@ use Rattle.tables.specs.Kinds.{reachedOf}
 use Rattle.tables.specs.Pool.{arcAt}
 use Rattle.tables.specs.Lookup.{alongArc, AlongTo}
 use Rattle.tables.specs.Laws.Lookup.{reached-nowhere}
-use Rattle.model.specs.Model.{Between, message}
-use Rattle.model.specs.Diagram.{Pool, follow}
-use Rattle.model.specs.Laws.Queues.{between-front, between-back}
+use Rattle.theory_model.specs.Model.{Between, message}
+use Rattle.theory_model.specs.Diagram.{Pool, follow}
+use Rattle.theory_model.specs.Laws.Queues.{between-front, between-back}
 use Rattle.following.specs.Follow.{followArcs, FollowsTo}
 
 pub follow-none : (arcs u : List ℕ) → followArcs arcs none u ≡ none

@@ -11,7 +11,7 @@ use lib.ListN.{length, getD, take, drop}
 use lib.Seq.{getD-take, getD-drop}
 use Rattle.tables.specs.Limits.{mostMessages, mostPool}
 use Rattle.tables.specs.Pool.{arcAt}
-use Rattle.model.specs.Laws.Basics.{none-not-some}
+use Rattle.theory_model.specs.Laws.Basics.{none-not-some}
 use Rattle.following.specs.Follow.{FollowsTo, farArcs}
 use Rattle.following.specs.Rows.{rowOf, saidRow, RowTo, stateAt, StateRow, followedTo, RowFollows}
 use Rattle.following.specs.declared.rows.Row.{Row}

@@ -8,7 +8,7 @@ use lib.ListN.{length, getD, take}
 use lib.Seq.{drop-cons}
 use Rattle.numbers.specs.Laws.Parts.{one-more}
 use Rattle.tables.specs.Limits.{mostMessages}
-use Rattle.model.specs.Model.{Between, nothing, message}
+use Rattle.theory_model.specs.Model.{Between, nothing, message}
 use Rattle.following.specs.Standing.{wordOver, WordWithin}
 
 -- WHAT IS LEFT of a word of n messages after i of them

@@ -6,7 +6,7 @@ use Rattle.vectors_membership.proofs.answer_about.Statement.{statement}
 use Rattle.vectors_membership.proofs.answer_about.Tie as tie
 use Rattle.vectors_membership.proofs.answer_about.Reads as reads
 use Rattle.vectors_membership.proofs.answer_about.Lts as lts
-use Rattle.diagram.proofs.member.member.Reads as member-reads
+use Rattle.membership.proofs.member.member.Reads as member-reads
 use Rattle.io.proofs.read_full.Reads as read-full-reads
 use Rattle.numbers.proofs.number.wide.Reads as wide-reads
 use Rattle.streams.proofs.fill_front.Reads as fill-front-reads

@@ -7,7 +7,7 @@ use Rattle.vectors_verdicts.proofs.answer_next.Statement.{statement}
 use Rattle.vectors_verdicts.proofs.answer_next.Tie as tie
 use Rattle.vectors_verdicts.proofs.answer_next.Reads as reads
 use Rattle.vectors_verdicts.proofs.answer_next.Lts as lts
-use Rattle.answer.proofs.whole_line.Reads as whole-line-reads
+use Rattle.checking_answer.proofs.whole_line.Reads as whole-line-reads
 use Rattle.streams.proofs.files.next_file.Reads as next-file-reads
 use Rattle.streams.proofs.print_front.Reads as print-front-reads
 

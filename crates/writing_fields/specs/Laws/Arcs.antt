@@ -12,11 +12,11 @@ use native.Mathlib.Nat.{zero-add, suc-add, add-zero, min-le-left, sub-eq-zero-of
 use borrow.Author.Tests.{eq-eqb, ne-eqb, eqb-true, eqb-false}
 use Rattle.tables.specs.Limits.{mostMessages}
 use Rattle.tables.specs.Pool.{arcAt}
-use Rattle.model.specs.Laws.Basics.{byTest}
+use Rattle.theory_model.specs.Laws.Basics.{byTest}
 use Rattle.numbers.specs.Put.{Put}
 use Rattle.numbers.specs.Laws.Parts.{one-more}
 use Rattle.numbers.specs.Laws.Put.{Left, left-put, left-end}
-use Rattle.spelling.specs.Spelled.{number, arcsOf, arcs}
+use Rattle.theory_format.specs.Spelled.{number, arcsOf, arcs}
 use Rattle.writing_fields.specs.Parts.{rowOf, arcsIn}
 
 -- A ROW, as it is cut out of a table that ends before it, within it, or after it

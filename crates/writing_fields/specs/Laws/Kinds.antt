@@ -8,7 +8,7 @@ use borrow.Author.Tests.{eq-eqb, ne-eqb}
 use Rattle.numbers.specs.Put.{Put}
 use Rattle.numbers.specs.Laws.Put.{put-then}
 use Rattle.tables.specs.Rows.{kindAt}
-use Rattle.spelling.specs.Spelled.{number, action}
+use Rattle.theory_format.specs.Spelled.{number, action}
 use Rattle.writing_fields.specs.Parts.{kind}
 use Rattle.writing_fields.specs.Laws.Texts.{put-as, put-found, put-wider}
 

@@ -7,7 +7,7 @@ use native.Mathlib.Nat.{sub-eq-zero-of-le}
 use Rattle.numbers.specs.Put.{Put}
 use Rattle.numbers.specs.Laws.Parts.{one-more}
 use Rattle.numbers.specs.Laws.Put.{Left, left-start, left-put, left-end}
-use Rattle.spelling.specs.Spelled.{each}
+use Rattle.theory_format.specs.Spelled.{each}
 
 module _ {entry text now : List ℕ} {at p : ℕ} (part : ℕ → List ℕ) (n i : ℕ) where
   -- round i puts part i

@@ -11,8 +11,8 @@ use lib.Dec.{ltb}
 use borrow.Author.Tests.{lt-ltb, le-ltb, ltb-true}
 use Rattle.numbers.specs.Put.{Put}
 use Rattle.numbers.specs.Laws.Put.{put-then}
-use Rattle.model.specs.Laws.Basics.{and-is}
-use Rattle.spelling.specs.Spelled.{number}
+use Rattle.theory_model.specs.Laws.Basics.{and-is}
+use Rattle.theory_format.specs.Spelled.{number}
 use Rattle.writing_fields.specs.Parts.{bothShort}
 use Rattle.writing_fields.specs.Laws.Texts.{put-as}
 

@@ -6,7 +6,7 @@ use lib.ListN.{length}
 use lib.Seq.{length-sets}
 use native.Mathlib.Omega.{arith}
 use Rattle.numbers.specs.Put.{Put}
-use Rattle.spelling.specs.Spelled.{number}
+use Rattle.theory_format.specs.Spelled.{number}
 
 module _ {entry text exit : List ℕ} {at m r : ℕ} where
   -- a looser bound

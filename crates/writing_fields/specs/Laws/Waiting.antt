@@ -8,7 +8,7 @@ use native.Mathlib.Omega.{arith}
 use Rattle.tables.specs.Starting.{waits}
 use Rattle.tables.specs.declared.tables.Queues.{Queues}
 use Rattle.numbers.specs.Put.{Put}
-use Rattle.spelling.specs.Spelled.{contents}
+use Rattle.theory_format.specs.Spelled.{contents}
 use Rattle.writing_fields.specs.Parts.{waiting}
 use Rattle.writing_fields.specs.Laws.Texts.{put-as, put-wider}
 

@@ -5,10 +5,10 @@ use Rattle.capi.proofs.calls.swarmbanner_check.Statement.{statement}
 use Rattle.capi.proofs.calls.swarmbanner_check.Tie as tie
 use Rattle.capi.proofs.calls.swarmbanner_check.Reads as reads
 use Rattle.capi.proofs.calls.swarmbanner_check.Lts as lts
-use Rattle.answer.proofs.printed.Reads as printed-reads
-use Rattle.telling.proofs.told.put_told.Reads as put-told-reads
-use Rattle.telling.proofs.told.tell_verdict.Reads as tell-verdict-reads
-use Rattle.verdict.proofs.check.check.Reads as check-reads
+use Rattle.checking_answer.proofs.printed.Reads as printed-reads
+use Rattle.c_replies.proofs.told.put_told.Reads as put-told-reads
+use Rattle.c_replies.proofs.told.tell_verdict.Reads as tell-verdict-reads
+use Rattle.checking_file.proofs.check.check.Reads as check-reads
 
 -- src/calls.rt:66:9
 returns : tie.Need-returns

@@ -6,9 +6,9 @@ use Rattle.capi.proofs.calls.swarmbanner_expression.Tie as tie
 use Rattle.capi.proofs.calls.swarmbanner_expression.Reads as reads
 use Rattle.capi.proofs.calls.swarmbanner_expression.Lts as lts
 use Rattle.expression.proofs.draw.expression.Reads as expression-reads
-use Rattle.telling.proofs.told.put_told.Reads as put-told-reads
-use Rattle.telling_drawn.proofs.drawn.put_drawn.Reads as put-drawn-reads
-use Rattle.telling_drawn.proofs.drawn.tell_drawn.Reads as tell-drawn-reads
+use Rattle.c_replies.proofs.told.put_told.Reads as put-told-reads
+use Rattle.c_expression.proofs.drawn.put_drawn.Reads as put-drawn-reads
+use Rattle.c_expression.proofs.drawn.tell_drawn.Reads as tell-drawn-reads
 
 -- src/calls.rt:152:9
 returns : tie.Need-returns

@@ -5,9 +5,9 @@ use Rattle.capi.proofs.calls.swarmbanner_member.Statement.{statement}
 use Rattle.capi.proofs.calls.swarmbanner_member.Tie as tie
 use Rattle.capi.proofs.calls.swarmbanner_member.Reads as reads
 use Rattle.capi.proofs.calls.swarmbanner_member.Lts as lts
-use Rattle.telling.proofs.told.put_told.Reads as put-told-reads
-use Rattle.telling.proofs.told.tell_member.Reads as tell-member-reads
-use Rattle.diagram.proofs.member.member.Reads as member-reads
+use Rattle.c_replies.proofs.told.put_told.Reads as put-told-reads
+use Rattle.c_replies.proofs.told.tell_member.Reads as tell-member-reads
+use Rattle.membership.proofs.member.member.Reads as member-reads
 
 -- src/calls.rt:48:9
 returns : tie.Need-returns

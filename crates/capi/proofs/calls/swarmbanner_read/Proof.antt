@@ -1,19 +1,19 @@
 use mathlib.Core.Path.{sym, ap, _∙_}
 use denote.Ref.{now}
-use Rattle.session.specs.Said.{saidAnswer}
-use Rattle.diagram.specs.Laws.Asking.{read-valid}
-use Rattle.telling.specs.Told.{toldAnswer}
+use Rattle.reading_file.specs.Said.{saidAnswer}
+use Rattle.membership.specs.Laws.Asking.{read-valid}
+use Rattle.c_replies.specs.Told.{toldAnswer}
 use Rattle.capi.specs.Laws.{read-short, read-unheard, read-refused, read-filled}
 use borrow.Author.Needs.{needs}
 use Rattle.capi.proofs.calls.swarmbanner_read.Statement.{statement}
 use Rattle.capi.proofs.calls.swarmbanner_read.Tie as tie
 use Rattle.capi.proofs.calls.swarmbanner_read.Reads as reads
 use Rattle.capi.proofs.calls.swarmbanner_read.Lts as lts
-use Rattle.flat.proofs.put.put_tables.Reads as put-tables-reads
-use Rattle.telling.proofs.told.bare.Reads as bare-reads
-use Rattle.telling.proofs.told.put_told.Reads as put-told-reads
-use Rattle.telling.proofs.told.tell_refusal.Reads as tell-refusal-reads
-use Rattle.session.proofs.reading.read.Reads as read-reads
+use Rattle.c_tables.proofs.put.put_tables.Reads as put-tables-reads
+use Rattle.c_replies.proofs.told.bare.Reads as bare-reads
+use Rattle.c_replies.proofs.told.put_told.Reads as put-told-reads
+use Rattle.c_replies.proofs.told.tell_refusal.Reads as tell-refusal-reads
+use Rattle.reading_file.proofs.reading.read.Reads as read-reads
 
 -- src/calls.rt:25:9
 returns : tie.Need-returns

@@ -5,10 +5,10 @@ use Rattle.capi.proofs.calls.swarmbanner_replay.Statement.{statement}
 use Rattle.capi.proofs.calls.swarmbanner_replay.Tie as tie
 use Rattle.capi.proofs.calls.swarmbanner_replay.Reads as reads
 use Rattle.capi.proofs.calls.swarmbanner_replay.Lts as lts
-use Rattle.telling.proofs.replays.put_run.Reads as put-run-reads
-use Rattle.telling.proofs.replays.tell_replay.Reads as tell-replay-reads
-use Rattle.telling.proofs.told.put_told.Reads as put-told-reads
-use Rattle.replay.proofs.run.replay_from.Reads as replay-from-reads
+use Rattle.c_replies.proofs.replays.put_run.Reads as put-run-reads
+use Rattle.c_replies.proofs.replays.tell_replay.Reads as tell-replay-reads
+use Rattle.c_replies.proofs.told.put_told.Reads as put-told-reads
+use Rattle.replaying_trace.proofs.run.replay_from.Reads as replay-from-reads
 
 -- src/calls.rt:108:9
 returns : tie.Need-returns

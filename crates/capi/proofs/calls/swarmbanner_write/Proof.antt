@@ -5,9 +5,9 @@ use Rattle.capi.proofs.calls.swarmbanner_write.Statement.{statement}
 use Rattle.capi.proofs.calls.swarmbanner_write.Tie as tie
 use Rattle.capi.proofs.calls.swarmbanner_write.Reads as reads
 use Rattle.capi.proofs.calls.swarmbanner_write.Lts as lts
-use Rattle.telling.proofs.told.put_told.Reads as put-told-reads
-use Rattle.telling.proofs.told.tell_written.Reads as tell-written-reads
-use Rattle.flat.proofs.write.write_flat.Reads as write-flat-reads
+use Rattle.c_replies.proofs.told.put_told.Reads as put-told-reads
+use Rattle.c_replies.proofs.told.tell_written.Reads as tell-written-reads
+use Rattle.c_tables.proofs.write.write_flat.Reads as write-flat-reads
 
 -- src/calls.rt:68:9
 returns : tie.Need-returns

@@ -7,10 +7,10 @@ use Rattle.expression.proofs.draw.draw.Tie as tie
 use Rattle.expression.proofs.draw.draw.Reads as reads
 use Rattle.expression.proofs.draw.draw.Lts as lts
 use Rattle.expression.proofs.draw.turned_away.Reads as turned-away-reads
-use Rattle.filling.proofs.fill.fill_arcs.Reads as fill-arcs-reads
-use Rattle.filling.proofs.fill.fill_finals.Reads as fill-finals-reads
-use Rattle.occurrence_sets.proofs.sets.marks_of.Reads as marks-of-reads
-use Rattle.subsets.proofs.grow.grow.Reads as grow-reads
+use Rattle.expression_pool.proofs.fill.fill_arcs.Reads as fill-arcs-reads
+use Rattle.expression_pool.proofs.fill.fill_finals.Reads as fill-finals-reads
+use Rattle.expression_sets.proofs.sets.marks_of.Reads as marks-of-reads
+use Rattle.expression_states.proofs.grow.grow.Reads as grow-reads
 
 -- src/draw.rt:59:17
 marks-of-requires : tie.Need-marks-of-requires

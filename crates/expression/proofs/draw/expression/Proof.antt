@@ -7,8 +7,8 @@ use Rattle.expression.proofs.draw.expression.Reads as reads
 use Rattle.expression.proofs.draw.expression.Lts as lts
 use Rattle.expression.proofs.draw.draw.Reads as draw-reads
 use Rattle.expression.proofs.draw.turned_away.Reads as turned-away-reads
-use Rattle.parsing.proofs.cycle.parse.Reads as parse-reads
-use Rattle.scanning.proofs.limits.check.Reads as check-reads
+use Rattle.expression_parse.proofs.cycle.parse.Reads as parse-reads
+use Rattle.expression_scan.proofs.limits.check.Reads as check-reads
 
 -- src/draw.rt:82:9
 turned-away-requires : tie.Need-turned-away-requires

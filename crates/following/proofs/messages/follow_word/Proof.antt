@@ -3,7 +3,7 @@ use native.Mathlib.Omega.{arith}
 use denote.Ref.{now}
 use Rattle.tables.specs.Limits.{mostMessages}
 use Rattle.tables.specs.Laws.Lookup.{nowhere-true, nowhere-false, state-below}
-use Rattle.model.specs.Model.{Between}
+use Rattle.theory_model.specs.Model.{Between}
 use Rattle.following.specs.Laws.Rows.{followed-at, followed-lost}
 use Rattle.following.specs.Laws.Follow.{follow-begin, follow-lost, follows-as, follows-word}
 use Rattle.following.specs.Laws.Words.{word-small}

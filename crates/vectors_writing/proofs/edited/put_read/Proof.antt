@@ -1,13 +1,13 @@
 use mathlib.Core.Path.{ap}
-use Rattle.session.specs.Said.{saidAnswer}
-use Rattle.session.specs.Laws.Reading.{answer-valid}
+use Rattle.reading_file.specs.Said.{saidAnswer}
+use Rattle.reading_file.specs.Laws.Reading.{answer-valid}
 use borrow.Author.Needs.{needs}
 use Rattle.vectors_writing.proofs.edited.put_read.Statement.{statement}
 use Rattle.vectors_writing.proofs.edited.put_read.Tie as tie
 use Rattle.vectors_writing.proofs.edited.put_read.Reads as reads
 use Rattle.vectors_writing.proofs.edited.put_read.Lts as lts
-use Rattle.flat.proofs.put.put_tables.Reads as put-tables-reads
-use Rattle.session.proofs.reading.read.Reads as read-reads
+use Rattle.c_tables.proofs.put.put_tables.Reads as put-tables-reads
+use Rattle.reading_file.proofs.reading.read.Reads as read-reads
 
 -- src/edited.rt:21:9
 read-requires : tie.Need-read-requires

@@ -2,7 +2,7 @@ use mathlib.Core.Path.{ap}
 use mathlib.Core.Bool.{Bool}
 use native.Mathlib.Omega.{arith}
 use Rattle.numbers.specs.Laws.Put.{put-then}
-use Rattle.spelling.specs.Spelled.{machines, spelled}
+use Rattle.theory_format.specs.Spelled.{machines, spelled}
 use Rattle.writing_fields.specs.Parts.{diagrams}
 use Rattle.writing_fields.specs.Laws.Texts.{put-as}
 use borrow.Author.Needs.{needs}

@@ -4,7 +4,7 @@ use native.Mathlib.Omega.{arith}
 use denote.Ref.{now}
 use Rattle.tables.specs.Rows.{wordEntry}
 use Rattle.numbers.specs.Laws.Put.{put-then}
-use Rattle.spelling.specs.Spelled.{action, entries}
+use Rattle.theory_format.specs.Spelled.{action, entries}
 use Rattle.writing_fields.specs.Laws.Texts.{put-as, put-found}
 use borrow.Author.Needs.{needs}
 use Rattle.writing_fields.proofs.moves.put_action.Statement.{statement}

@@ -1,7 +1,7 @@
 use Prim.Native.Nat.{_<_}
 use native.Mathlib.Omega.{arith}
 use Rattle.numbers.specs.Laws.Put.{put-then}
-use Rattle.spelling.specs.Spelled.{queues}
+use Rattle.theory_format.specs.Spelled.{queues}
 use Rattle.writing_fields.specs.Parts.{waiting}
 use borrow.Author.Needs.{needs}
 use Rattle.writing_fields.proofs.moves.put_queues.Statement.{statement}

@@ -1,6 +1,6 @@
 use native.Mathlib.Omega.{arith}
 use Rattle.numbers.specs.Laws.Put.{put-then}
-use Rattle.spelling.specs.Spelled.{transition}
+use Rattle.theory_format.specs.Spelled.{transition}
 use Rattle.writing_fields.specs.Parts.{kind}
 use Rattle.writing_fields.specs.Laws.Texts.{put-found}
 use borrow.Author.Needs.{needs}

@@ -7,7 +7,7 @@ use native.Mathlib.Omega.{arith}
 use denote.Ref.{now}
 use Rattle.tables.specs.Rows.{rowLength}
 use Rattle.numbers.specs.Laws.Put.{Left, left-start, put-then}
-use Rattle.spelling.specs.Spelled.{each, transition, transitions}
+use Rattle.theory_format.specs.Spelled.{each, transition, transitions}
 use Rattle.writing_fields.specs.Laws.Texts.{put-long}
 use Rattle.writing_fields.specs.Laws.Loops.{left-part, left-parts}
 use Rattle.writing_fields.proofs.moves.put_transitions.Statement.{statement}

@@ -4,7 +4,7 @@ use lib.ListN.{getD}
 use native.Mathlib.Omega.{arith}
 use denote.Ref.{now}
 use Rattle.numbers.specs.Laws.Put.{Left}
-use Rattle.spelling.specs.Spelled.{number, entries}
+use Rattle.theory_format.specs.Spelled.{number, entries}
 use Rattle.writing_fields.specs.Laws.Texts.{put-found}
 use Rattle.writing_fields.specs.Laws.Loops.{left-first, left-part, left-parts}
 use Rattle.writing_fields.proofs.number.put_entries.Statement.{statement}

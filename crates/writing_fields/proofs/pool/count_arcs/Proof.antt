@@ -5,7 +5,7 @@ use native.Mathlib.Nat.{zero-add, sub-zero}
 use native.Mathlib.Omega.{arith}
 use lib.ListN.{length, getD}
 use denote.Ref.{now}
-use Rattle.spelling.specs.Spelled.{arcsOf}
+use Rattle.theory_format.specs.Spelled.{arcsOf}
 use Rattle.writing_fields.specs.Parts.{arcsIn}
 use Rattle.writing_fields.specs.Laws.Arcs.{count-next, count-within, count-end}
 use Rattle.writing_fields.proofs.pool.count_arcs.Statement.{statement}

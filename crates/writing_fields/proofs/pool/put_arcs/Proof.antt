@@ -6,7 +6,7 @@ use native.Mathlib.Omega.{arith}
 use lib.ListN.{length}
 use denote.Ref.{now}
 use Rattle.numbers.specs.Laws.Put.{Left, left-start}
-use Rattle.spelling.specs.Spelled.{arcsOf, arcs}
+use Rattle.theory_format.specs.Spelled.{arcsOf, arcs}
 use Rattle.writing_fields.specs.Parts.{arcsIn}
 use Rattle.writing_fields.specs.Laws.Arcs.{left-skip, left-arc, left-arcs-end}
 use Rattle.writing_fields.proofs.pool.put_arcs.Statement.{statement}

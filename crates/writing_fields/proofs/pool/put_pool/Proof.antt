@@ -5,7 +5,7 @@ use native.Mathlib.Nat.{sub-zero}
 use native.Mathlib.Omega.{arith}
 use denote.Ref.{now}
 use Rattle.numbers.specs.Laws.Put.{Left, left-start, put-then}
-use Rattle.spelling.specs.Spelled.{each, state, pool}
+use Rattle.theory_format.specs.Spelled.{each, state, pool}
 use Rattle.writing_fields.specs.Laws.Texts.{put-long}
 use Rattle.writing_fields.specs.Laws.Loops.{left-part, left-parts}
 use Rattle.writing_fields.proofs.pool.put_pool.Statement.{statement}

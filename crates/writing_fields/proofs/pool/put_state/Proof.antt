@@ -5,7 +5,7 @@ use lib.ListN.{length}
 use native.Mathlib.Omega.{arith}
 use denote.Ref.{now}
 use Rattle.numbers.specs.Laws.Put.{put-then}
-use Rattle.spelling.specs.Spelled.{counted, state}
+use Rattle.theory_format.specs.Spelled.{counted, state}
 use Rattle.writing_fields.specs.Parts.{arcsIn}
 use Rattle.writing_fields.specs.Laws.Texts.{put-as, put-found}
 use Rattle.writing_fields.specs.Laws.Arcs.{row-most, row-arcs}

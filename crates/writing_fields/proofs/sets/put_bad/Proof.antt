@@ -6,7 +6,7 @@ use native.Mathlib.Nat.{sub-zero}
 use native.Mathlib.Omega.{arith}
 use denote.Ref.{now}
 use Rattle.numbers.specs.Laws.Put.{Left, left-start, put-then}
-use Rattle.spelling.specs.Spelled.{number, each, bad}
+use Rattle.theory_format.specs.Spelled.{number, each, bad}
 use Rattle.writing_fields.specs.Laws.Texts.{put-as, put-long}
 use Rattle.writing_fields.specs.Laws.Loops.{left-part, left-parts}
 use borrow.Author.Needs.{needs}

@@ -1,5 +1,5 @@
 use native.Mathlib.Omega.{arith}
-use Rattle.spelling.specs.Spelled.{map}
+use Rattle.theory_format.specs.Spelled.{map}
 use Rattle.writing_fields.specs.Laws.Texts.{put-wider}
 use borrow.Author.Needs.{needs}
 use Rattle.writing_fields.proofs.sets.put_map.Statement.{statement}

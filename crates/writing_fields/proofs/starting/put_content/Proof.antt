@@ -4,7 +4,7 @@ use native.Mathlib.Omega.{arith}
 use denote.Ref.{now}
 use Rattle.tables.specs.Limits.{mostStarting}
 use Rattle.numbers.specs.Laws.Put.{put-then}
-use Rattle.spelling.specs.Spelled.{entries, content}
+use Rattle.theory_format.specs.Spelled.{entries, content}
 use Rattle.writing_fields.specs.Laws.Texts.{put-as, put-found}
 use borrow.Author.Needs.{needs}
 use Rattle.writing_fields.proofs.starting.put_content.Statement.{statement}

@@ -4,7 +4,7 @@ use native.Mathlib.Nat.{sub-zero}
 use native.Mathlib.Omega.{arith}
 use denote.Ref.{now}
 use Rattle.numbers.specs.Laws.Put.{Left, left-start}
-use Rattle.spelling.specs.Spelled.{each, content}
+use Rattle.theory_format.specs.Spelled.{each, content}
 use Rattle.writing_fields.specs.Laws.Loops.{left-part, left-parts}
 use Rattle.writing_fields.proofs.starting.put_contents.Statement.{statement}
 use Rattle.writing_fields.proofs.starting.put_contents.Tie as tie

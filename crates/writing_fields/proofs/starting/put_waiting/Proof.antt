@@ -2,7 +2,7 @@ use Prim.Native.Nat.{_<_}
 use mathlib.Core.Path.{sym, _∙_}
 use native.Mathlib.Omega.{arith}
 use borrow.Author.Tests.{not-true, not-false}
-use Rattle.spelling.specs.Spelled.{contents}
+use Rattle.theory_format.specs.Spelled.{contents}
 use Rattle.writing_fields.specs.Laws.Waiting.{waiting-none, waiting-some}
 use borrow.Author.Needs.{needs}
 use Rattle.writing_fields.proofs.starting.put_waiting.Statement.{statement}

@@ -1,0 +1,129 @@
+-- The line that is written of a verdict is the line of checking's reply; and with enough lent it is the line of the file's reply.
+use Prim.Native.Nat.{ℕ, _+_, _*_, _≤_}
+use mathlib.Core.Path.{_≡_, refl, sym, ap, subst, _∙_}
+use mathlib.Core.List.{List, _++_}
+use lib.ListN.{length, drop, replicate, length-replicate}
+use lib.Dec.{leb}
+use borrow.Author.Tests.{le-leb}
+use native.Mathlib.Omega.{arith}
+use Rattle.theory_files.specs.Reply.{shownOf, lineOf, replyOf, replyTo}
+use Rattle.theory_files.specs.Checking.{checkOf, readLent, Checks, tableLeast, contentsLeast, mostShown}
+use Rattle.theory_files.specs.Laws.Checking.{long-enough, lent-enough, lent-sound}
+use Rattle.theory_files.specs.Laws.Shown.{shown-fits}
+use Rattle.checking_line.specs.Said.{said, shownBy, holds, given, Writes}
+use Rattle.checking_line.specs.declared.verdict.Verdict.{Verdict as Line}
+use Rattle.checking_file.specs.Check.{saidVerdict, shownIn}
+use Rattle.checking_file.specs.Laws.Shows.{checks-shows}
+use Rattle.checking_file.specs.declared.check.Verdict.{Verdict}
+use Rattle.checking_file.specs.declared.check.Verdict.the-variants as Verdict
+use Rattle.checking_answer.specs.Printed.{printedOf}
+use Rattle.checking_answer.specs.Answer.{lineIn, Answers, Lines, mostLine, WholeLine}
+
+-- room for a line that shows no more messages than there are, and no more than any verdict shows
+room-for : (room contents shown : ℕ) → shown ≤ contents → shown ≤ mostShown → holds room contents shown ≡ leb (4 * shown + 52) room
+room-for room contents shown h k = rw (le-leb shown contents h, le-leb shown contentsLeast (omega arith))
+
+-- what is printed of a verdict says what the verdict says, and shows as many messages
+said-printed : (v : Verdict) (contents : List ℕ) → saidVerdict v contents ≡ said (printedOf v) contents
+said-printed (Verdict.Closed n) contents = refl
+said-printed Verdict.Outside contents = refl
+said-printed (Verdict.Leaves c t n f) contents = refl
+said-printed (Verdict.Bad b n) contents = refl
+said-printed (Verdict.Refused why) contents = refl
+said-printed Verdict.ShortMemory contents = refl
+
+shown-printed : (v : Verdict) → shownBy (printedOf v) ≡ shownIn v
+shown-printed (Verdict.Closed n) = refl
+shown-printed Verdict.Outside = refl
+shown-printed (Verdict.Leaves c t n f) = refl
+shown-printed (Verdict.Bad b n) = refl
+shown-printed (Verdict.Refused why) = refl
+shown-printed Verdict.ShortMemory = refl
+
+module _ {file seen queue contents seen₁ queue₁ contents₁ : List ℕ} (v : Verdict) (p : Line) (e : p ≡ printedOf v)
+    (given-checks : Checks file seen queue contents (saidVerdict v contents₁) seen₁ queue₁ contents₁) where
+  same : saidVerdict v contents₁ ≡ said p contents₁
+  same = said-printed v contents₁ ∙ ap (λ l. said l contents₁) (sym e)
+
+  checks : Checks file seen queue contents (said p contents₁) seen₁ queue₁ contents₁
+  checks = subst (λ x. Checks file seen queue contents x seen₁ queue₁ contents₁) same given-checks
+
+  few : length (shownOf (said p contents₁)) ≤ mostShown
+  few = subst (λ r. length (shownOf r) ≤ mostShown) (sym (checks .reply)) (shown-fits (readLent file seen queue contents) (lent-sound file seen queue contents))
+
+  counted : shownBy p ≡ length (shownOf (said p contents₁))
+  counted = ap shownBy e ∙ shown-printed v ∙ checks-shows v given-checks .number ∙ ap (λ r. length (shownOf r)) same
+
+  within : length (shownOf (said p contents₁)) ≤ length contents₁
+  within = omega (arith, ap shownBy e ∙ shown-printed v, counted, checks-shows v given-checks .within)
+
+  room : (n : ℕ) → holds n (length contents₁) (shownBy p) ≡ leb (4 * length (shownOf (said p contents₁)) + 52) n
+  room n = ap (holds n (length contents₁)) counted ∙ room-for n (length contents₁) (length (shownOf (said p contents₁))) within few
+
+  text : (n : ℕ) → given (holds n (length contents₁) (shownBy p)) (lineOf (said p contents₁)) ≡ lineIn n (checkOf file seen queue contents .reply)
+  text n = ap (λ b. given b (lineOf (said p contents₁))) (room n) ∙ ap (lineIn n) (checks .reply)
+
+  -- checked and written: answered
+  answered : {buffer buffer₁ : List ℕ} {r : ℕ} → Writes buffer p contents₁ buffer₁ r
+      → Answers file seen queue contents buffer seen₁ queue₁ contents₁ buffer₁ r
+  answered {buffer} {buffer₁} {r} w = record {
+    reply = w .line .reply ∙ ap length (text (length buffer));
+    buffer = subst (λ (t : List ℕ). buffer₁ ≡ t ++ drop (length t) buffer) (text (length buffer)) (w .line .buffer);
+    seen = checks .seen;
+    queue = checks .queue;
+    contents = checks .contents;
+  }
+
+-- CHECKED, PRINTED AND WRITTEN: ANSWERED
+pub answered-by : {file seen queue contents seen₁ queue₁ contents₁ buffer buffer₁ : List ℕ} {r : ℕ} (v : Verdict) (p : Line) → p ≡ printedOf v
+    → Checks file seen queue contents (saidVerdict v contents₁) seen₁ queue₁ contents₁ → Writes buffer p contents₁ buffer₁ r
+    → Answers file seen queue contents buffer seen₁ queue₁ contents₁ buffer₁ r
+answered-by v p e checks w = answered v p e checks w
+
+-- a verdict that is printed says checking's reply, and tells how many messages that shows
+pub counted-by : {file seen queue contents seen₁ queue₁ contents₁ : List ℕ} (v : Verdict) (p : Line) → p ≡ printedOf v
+    → Checks file seen queue contents (saidVerdict v contents₁) seen₁ queue₁ contents₁
+    → (said p contents₁ ≡ checkOf file seen queue contents .reply) × (shownBy p ≡ length (shownOf (said p contents₁)))
+counted-by v p e given-checks = (checks v p e given-checks .reply, counted v p e given-checks)
+
+-- with enough lent checking's reply is the reply to the file
+reply-whole : (file seen queue contents : List ℕ) → tableLeast ≤ length seen → tableLeast ≤ length queue → contentsLeast ≤ length contents
+    → checkOf file seen queue contents .reply ≡ replyOf file
+unfolding replyOf
+reply-whole file seen queue contents a b c = ap replyTo (lent-enough file seen queue contents (long-enough file seen queue contents a b c))
+
+-- ANSWERED WITH ENOUGH LENT: the line of the file
+pub lines : {file seen queue contents buffer seen₁ queue₁ contents₁ buffer₁ : List ℕ} {r : ℕ} → tableLeast ≤ length seen → tableLeast ≤ length queue
+    → contentsLeast ≤ length contents → Answers file seen queue contents buffer seen₁ queue₁ contents₁ buffer₁ r → Lines file buffer buffer₁ r
+lines {file} {seen} {queue} {contents} {buffer} {seen₁} {queue₁} {contents₁} {buffer₁} a b c answers =
+    let e = ap (lineIn (length buffer)) (reply-whole file seen queue contents a b c) in
+    record {
+      reply = answers .reply ∙ ap length e;
+      buffer = subst (λ (t : List ℕ). buffer₁ ≡ t ++ drop (length t) buffer) e (answers .buffer);
+    }
+
+-- a new table has the length that was asked for
+pub new-long : (n : ℕ) → n ≤ length {A = ℕ} (replicate n 0)
+new-long n = let l : length {A = ℕ} (replicate n 0) ≡ n = length-replicate n 0 in omega (arith, l)
+
+-- THERE IS ROOM FOR EVERY LINE
+pub room-for-all : (file : List ℕ) (room : ℕ) → mostLine ≤ room → lineIn room (replyOf file) ≡ lineOf (replyOf file)
+room-for-all file room h =
+    let seen : List ℕ = replicate tableLeast 0 in
+    let contents : List ℕ = replicate contentsLeast 0 in
+    let e = reply-whole file seen seen contents (new-long tableLeast) (new-long tableLeast) (new-long contentsLeast) in
+    let few =
+    subst (λ r. length (shownOf r) ≤ mostShown) e (shown-fits (readLent file seen seen contents) (lent-sound file seen seen contents))
+    in
+    let wide : 4 * length (shownOf (replyOf file)) + 52 ≤ room = omega (arith, few) in
+    ap (λ b. given b (lineOf (replyOf file))) (le-leb (4 * length (shownOf (replyOf file)) + 52) room wide)
+
+pub whole : {file buffer buffer₁ : List ℕ} {r : ℕ} → length buffer ≡ mostLine → length buffer₁ ≡ mostLine → Lines file buffer buffer₁ r
+    → WholeLine file buffer buffer₁ r
+whole {file} {buffer} {buffer₁} long kept lines =
+    let e = room-for-all file (length buffer) (omega (arith, long)) in
+    record {
+      reply = lines .reply ∙ ap length e;
+      buffer = subst (λ (t : List ℕ). buffer₁ ≡ t ++ drop (length t) buffer) e (lines .buffer);
+      long = kept;
+    }

@@ -1,0 +1,109 @@
+-- Checking's promises, from what its parts say.
+use Prim.Native.Nat.{ℕ, _≤_, _<_}
+use mathlib.Core.Path.{_≡_, refl, sym, ap, _∙_}
+use mathlib.Core.Bool.{false}
+use mathlib.Core.List.{List, _++_}
+use native.Mathlib.Omega.{arith}
+use lib.ListN.{length, take, drop, replicate, length-replicate, take-append-drop}
+use lib.Seq.{length-take-le}
+use Rattle.checking_pairs.specs.Pairs.{mostCodes}
+use Rattle.numbers.specs.Part as Part
+use Rattle.numbers.specs.Said.{numberOf, placeOf}
+use Rattle.reading_file.specs.Said.{saidAnswer}
+use Rattle.reading_file.specs.File.{Reads, readFile}
+use Rattle.reading_file.specs.Valid.{Valid}
+use Rattle.reading_file.specs.Laws.Reading.{answer-refused, answer-read, answer-valid}
+use Rattle.reading_file.specs.declared.reading.Reading.{Reading}
+use Rattle.reading_file.specs.declared.reading.Answer.the-variants.{Read, Refused as AnswerRefused}
+use Rattle.numbers.specs.declared.refusal.Refusal.{Refusal}
+use Rattle.numbers.specs.declared.refusal.Refusal.the-variants.{TooLong}
+use Rattle.theory_model.specs.Judge as Model
+use Rattle.theory_files.specs.Tables.{sessionOf}
+use Rattle.theory_files.specs.Reply.{verdict, replyTo, shownOf}
+use Rattle.theory_files.specs.Checking.{enough, readLent, tableAfter, contentsAfter, Checks, CheckMeans, CheckTwoRuns, contentsLeast}
+use Rattle.theory_files.specs.Laws.Checking.{lent-long, lent-little, lent-enough, long-enough, checks-made, checks-refused, check-means, check-two-runs}
+use Rattle.checking_items.specs.Judging.{Kept}
+use Rattle.checking_file.specs.Check.{saidVerdict, shownIn, Shows, Room, Concludes}
+use Rattle.checking_file.specs.Laws.Shows.{checks-shows}
+use Rattle.checking_file.specs.declared.check.Verdict.{Verdict}
+use Rattle.checking_file.specs.declared.check.Verdict.the-variants.{Closed, Outside, Leaves, Bad, Refused, ShortMemory}
+
+-- all four promises come from the first
+abbrev pub Promised : List ℕ → List ℕ → List ℕ → List ℕ → Verdict → List ℕ → List ℕ → List ℕ → Type 0
+Promised file seen queue contents v seen₁ queue₁ contents₁ =
+    Checks file seen queue contents (saidVerdict v contents₁) seen₁ queue₁ contents₁
+    × (((ts : List ℕ) → CheckTwoRuns file seen queue contents (saidVerdict v contents₁) ts)
+    × (CheckMeans file seen queue contents (saidVerdict v contents₁) × Shows v contents₁))
+
+pub promised : (file seen queue contents : List ℕ) (v : Verdict) {seen₁ queue₁ contents₁ : List ℕ}
+    → Checks file seen queue contents (saidVerdict v contents₁) seen₁ queue₁ contents₁ → Promised file seen queue contents v seen₁ queue₁ contents₁
+promised file seen queue contents v k =
+    (k, (check-two-runs file seen queue contents k, (check-means file seen queue contents k, checks-shows v k)))
+
+-- the contents shown are the front of the buffer, and the rest is kept
+shown-front : (r : Verdict) (contents₁ : List ℕ) → shownOf (saidVerdict r contents₁) ≡ take (shownIn r) contents₁
+shown-front (Closed n) l = refl
+shown-front Outside l = refl
+shown-front (Leaves c t n f) l = refl
+shown-front (Bad b n) l = refl
+shown-front (Refused why) l = refl
+shown-front ShortMemory l = refl
+
+contents-after : (r : Verdict) (contents contents₁ : List ℕ) → Kept (shownIn r) contents contents₁
+    → contents₁ ≡ contentsAfter (saidVerdict r contents₁) contents
+contents-after r contents contents₁ k =
+    sym (take-append-drop (shownIn r) contents₁)
+    ∙ ap (λ l. take (shownIn r) contents₁ ++ l) (k .rest)
+    ∙ ap (λ n. take (shownIn r) contents₁ ++ drop n contents) (sym (length-take-le (shownIn r) contents₁ (omega (arith, k .long, k .within))))
+    ∙ ap (λ u. u ++ drop (length u) contents) (sym (shown-front r contents₁))
+
+-- tables that were read are valid
+pub read-valid : (file : List ℕ) {reading : Reading} → Reads (readFile file) reading → reading .answer ≡ Read → Valid (reading .tables)
+read-valid file {reading} read e = answer-valid file reading read (ap saidAnswer e)
+
+module _ (file seen queue contents : List ℕ) where
+  pub too-long : 16384 < length file → Promised file seen queue contents (Refused TooLong) seen queue contents
+  too-long h = promised file seen queue contents (Refused TooLong) (checks-refused file seen queue contents 1 16384 (lent-long file seen queue contents h) refl)
+
+  pub too-little : length file ≤ 16384 → enough seen queue contents ≡ false → Promised file seen queue contents ShortMemory seen queue contents
+  too-little h e = promised file seen queue contents ShortMemory (checks-refused file seen queue contents 2 0 (lent-little file seen queue contents h e) refl)
+
+  module _ (reading : Reading) (read : Reads (readFile file) reading)
+      (room : mostCodes ≤ length seen) (space : mostCodes ≤ length queue) (buffer : contentsLeast ≤ length contents) where
+    given : readLent file seen queue contents ≡ readFile file
+    given = lent-enough file seen queue contents (long-enough file seen queue contents room space buffer)
+
+    pub not-read : (why : Refusal) → reading .answer ≡ AnswerRefused why
+        → Promised file seen queue contents (Refused why) seen queue contents
+    not-read why e =
+        promised file seen queue contents (Refused why)
+        (checks-refused file seen queue contents (numberOf why) (placeOf why)
+        (given ∙ answer-refused (readFile file) reading read (numberOf why) (placeOf why) (ap saidAnswer e)) refl)
+
+    pub judged : reading .answer ≡ Read → (r : Verdict) (seen′ queue′ seen₁ queue₁ contents₁ : List ℕ)
+        → seen′ ≡ replicate (length seen) 0 → queue′ ≡ replicate (length queue) 0
+        → Concludes (λ T. T ≡ reading .tables) seen′ queue′ contents r seen₁ queue₁ contents₁
+        → Promised file seen queue contents r seen₁ queue₁ contents₁
+    judged e r seen′ queue′ seen₁ queue₁ contents₁ es eq k =
+        promised file seen queue contents r
+        (checks-made file seen queue contents
+        (is ∙ sym (ap replyTo (given ∙ answer-read (readFile file) reading read (ap saidAnswer e) .1)))
+        (k .seen ∙ es ∙ sym (ap (λ x. tableAfter x seen) is))
+        (k .queue ∙ eq ∙ sym (ap (λ x. tableAfter x queue) is))
+        (contents-after r contents contents₁ (k .kept)))
+      where
+        is : saidVerdict r contents₁ ≡ verdict (Model.verdict (sessionOf (reading .tables)))
+        is = k .is (reading .tables) refl
+
+-- tables that were set to 0 are room enough
+pub blank-room : (seen queue : List ℕ) {contents seen′ queue′ : List ℕ} {n : ℕ} → n ≡ mostCodes → mostCodes ≤ length seen → mostCodes ≤ length queue → contentsLeast ≤ length contents
+    → seen′ ≡ replicate (length seen) 0 → queue′ ≡ replicate (length queue) 0 → Room n seen′ queue′ contents
+blank-room seen queue front s q c es eq =
+    record {
+      front = front;
+      seenLong = omega (arith, front, ap length es ∙ length-replicate (length seen) 0);
+      queueLong = omega (arith, front, ap length eq ∙ length-replicate (length queue) 0);
+      contentsLong = c;
+      seenBlank = es ∙ ap (λ n. replicate n 0) (sym (ap length es ∙ length-replicate (length seen) 0));
+      queueBlank = eq ∙ ap (λ n. replicate n 0) (sym (ap length eq ∙ length-replicate (length queue) 0));
+    }

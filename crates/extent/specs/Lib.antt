@@ -1,3 +1,0 @@
-pub mod Part
-pub mod After
-pub mod Laws

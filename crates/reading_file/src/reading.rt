@@ -1,0 +1,197 @@
+// Reading: from the bytes of a session file to its tables, or to a refusal with its place. Field after field; the bytes are
+// not copied.
+use crate::sets::read_sets;
+use numbers::number::Filled;
+use numbers::refusal::MOST_BYTES;
+use numbers::refusal::Refusal;
+use reading_model::fields::ModelRead;
+use reading_model::fields::read_model;
+use reading_order::order::in_queue_order;
+use reading_pool::pool::read_pool;
+use tables::empty::empty_machines;
+use tables::empty::empty_queues;
+use tables::kinds::DiagramState;
+use tables::tables::BadList;
+use tables::tables::ENTRIES;
+use tables::tables::MOST_CONTROLS;
+use tables::tables::Machines;
+use tables::tables::Map;
+use tables::tables::POOL_ARCS;
+use tables::tables::Pool;
+use tables::tables::Queues;
+use tables::tables::ROWS;
+use tables::tables::SetTables;
+use tables::tables::Tables;
+use tables::tables::Transitions;
+ghost use mathlib.Core.List.{List};
+ghost use Prim.Native.Nat.{ℕ};
+ghost use Rattle.numbers.specs.Part.{got, refused};
+ghost use Rattle.numbers.specs.Said.{numberOf, placeOf};
+ghost use Rattle.reading_model.specs.Lent.{lentModel};
+ghost use Rattle.reading_pool.specs.Lent.{lentPool};
+ghost use Rattle.reading_file.specs.File.{Reads, readFile, joined};
+ghost use Rattle.reading_file.specs.Lent.{Blank, lentReading, uncleared};
+
+pub enum Answer {
+    Read,
+    Refused(Refusal),
+}
+
+// The answer, and the tables: all entries 0 after a refusal.
+pub struct Reading {
+    pub answer: Answer,
+    pub tables: Tables,
+}
+
+// What reading answers beside the three large tables. Those are lent: handed on by value they would be copied at every return.
+pub struct HeadRead {
+    pub answer: Answer,
+    pub machines: Machines,
+    pub queues: Queues,
+    pub transitions: u8,
+    pub states: u8,
+    pub map: Map,
+    pub bad: BadList,
+}
+
+// All was read: a model, the number of the pool's states, and sets over it.
+fn all_read(model: ModelRead, states: u8, sets: SetTables) -> HeadRead
+    ensures { λ h. ⌜ ((rows finals arcs : List ℕ) (end : ℕ) → Reads (got (joined (lentModel (model .machines) (model .queues) (model .transitions) rows) (lentPool states finals arcs) sets) end) (uncleared h rows finals arcs)) ⌝ }
+{
+    let machines = model.machines;
+    let queues = model.queues;
+    let map = sets.map;
+    let bad = sets.bad;
+    HeadRead {
+        answer: Answer::Read,
+        machines,
+        queues,
+        transitions: model.transitions,
+        states,
+        map,
+        bad,
+    }
+}
+
+fn refused(why: Refusal) -> HeadRead
+    ensures { λ h. ⌜ ((rows finals arcs : List ℕ) → Reads (refused (numberOf why) (placeOf why)) (uncleared h rows finals arcs)) ⌝ }
+{
+    let machines = empty_machines();
+    let queues = empty_queues();
+    HeadRead {
+        answer: Answer::Refused(why),
+        machines,
+        queues,
+        transitions: 0,
+        states: 0,
+        map: Map {
+            roots: [0u8; MOST_CONTROLS],
+        },
+        bad: BadList {
+            count: 0,
+            rows: [0u8; ENTRIES],
+        },
+    }
+}
+
+// Field after field. A refusal leaves the lent tables as far as they were filled.
+fn read_open(
+    s: &[u8],
+    rows: &mut [u8; ROWS],
+    finals: &mut [u8; DiagramState::LIMIT],
+    arcs: &mut [u8; POOL_ARCS],
+) -> HeadRead
+    requires { ⌜ Blank (now rows) (now finals) (now arcs) ⌝ }
+    ensures { λ h. ⌜ Reads (readFile (now (s .entry))) (uncleared h (now (rows .exit)) (now (finals .exit)) (now (arcs .exit))) ⌝ }
+{
+    if MOST_BYTES < s.len() {
+        return refused(Refusal::TooLong);
+    }
+    let first = read_model(s, 0, rows);
+    let after_model = first.filled;
+    match after_model {
+        Filled::Refused(why) => refused(why),
+        Filled::To(p1) => {
+            let queues = first.queues;
+            let second = read_pool(s, p1, queues.sum, finals, arcs);
+            let after_pool = second.filled;
+            match after_pool {
+                Filled::Refused(why) => refused(why),
+                Filled::To(p2) => {
+                    let machines = first.machines;
+                    let third = read_sets(s, p2, machines.product, second.count);
+                    let after_sets = third.filled;
+                    match after_sets {
+                        Filled::Refused(why) => refused(why),
+                        Filled::To(p3) => {
+                            let sets = third.sets;
+                            if !in_queue_order(queues, finals, arcs, machines.product, sets) {
+                                return refused(Refusal::NotInQueueOrder(p3));
+                            }
+                            if p3 < s.len() {
+                                return refused(Refusal::Trailing(p3));
+                            }
+                            all_read(first, second.count, sets)
+                        }
+                    }
+                }
+            }
+        }
+    }
+}
+
+// The same, and the lent tables are all 0 again after a refusal.
+pub fn read_into(
+    s: &[u8],
+    rows: &mut [u8; ROWS],
+    finals: &mut [u8; DiagramState::LIMIT],
+    arcs: &mut [u8; POOL_ARCS],
+) -> HeadRead
+    requires { ⌜ Blank (now rows) (now finals) (now arcs) ⌝ }
+    ensures { λ h. ⌜ Reads (readFile (now (s .entry))) (lentReading h (now (rows .exit)) (now (finals .exit)) (now (arcs .exit))) ⌝ }
+{
+    let head = read_open(s, rows, finals, arcs);
+    let answer = head.answer;
+    match answer {
+        Answer::Read => head,
+        Answer::Refused(_) => {
+            *rows = [0u8; ROWS];
+            *finals = [0u8; DiagramState::LIMIT];
+            *arcs = [0u8; POOL_ARCS];
+            head
+        }
+    }
+}
+
+// The tables of a session file, or why it is refused.
+pub fn read(s: &[u8]) -> Reading
+    ensures { λ x. ⌜ Reads (readFile (now (s .entry))) x ⌝ }
+{
+    let mut rows = [0u8; ROWS];
+    let mut finals = [0u8; DiagramState::LIMIT];
+    let mut arcs = [0u8; POOL_ARCS];
+    let head = read_into(s, &mut rows, &mut finals, &mut arcs);
+    let answer = head.answer;
+    let machines = head.machines;
+    let queues = head.queues;
+    let map = head.map;
+    let bad = head.bad;
+    Reading {
+        answer,
+        tables: Tables {
+            machines,
+            queues,
+            transitions: Transitions {
+                count: head.transitions,
+                rows,
+            },
+            pool: Pool {
+                count: head.states,
+                finals,
+                arcs,
+            },
+            map,
+            bad,
+        },
+    }
+}

@@ -1,0 +1,17 @@
+-- The tables that a head and five lists stand for.
+use Prim.Native.Nat.{ℕ}
+use mathlib.Core.List.{List}
+use Rattle.tables.specs.declared.tables.Tables.{Tables}
+use Rattle.tables.specs.declared.head.Head.{Head}
+
+-- THE TABLES in parts: rows of the transitions, final marks, arcs, roots, rows of the bad entries
+abbrev pub tablesOf : Head → List ℕ → List ℕ → List ℕ → List ℕ → List ℕ → Tables
+tablesOf h rows finals arcs roots entries =
+    record {
+      machines = h .machines;
+      queues = h .queues;
+      transitions = record { count = h .transitions; rows = rows };
+      pool = record { count = h .states; finals = finals; arcs = arcs };
+      map = record { roots = roots };
+      bad = record { count = h .bad; rows = entries };
+    }
