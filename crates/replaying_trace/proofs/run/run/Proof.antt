@@ -62,9 +62,9 @@ use Rattle.replaying_trace.proofs.Lent.{Call, called}
 use Rattle.replaying_trace.proofs.Read.{token, tokens, slice, slices, row-apart, row-joined, slices-twice, read-typed}
 use Rattle.replaying_trace.proofs.run.step as step′
 use Rattle.replaying_trace.proofs.run.step.Symbol as step-def
-use Rattle.replaying_trace.proofs.run.step.Symbol.{name as #replay·run·step}
+use Rattle.replaying_trace.proofs.run.step.Symbol.{name as #replaying-trace·run·step}
 use Rattle.replaying_trace.proofs.run.step.Met as step-thm
-use Rattle.replaying_trace.proofs.run.run.Key.{name as #replay·run·run}
+use Rattle.replaying_trace.proofs.run.run.Key.{name as #replaying-trace·run·run}
 use Rattle.replaying_trace.proofs.run.run as run′
 use Rattle.replaying_trace.proofs.run.run.Statement as stated
 use Rattle.replaying_trace.proofs.run.run.Code as code
@@ -243,7 +243,7 @@ module _ {M : Type 1} (𝓤 : URA M) (H : Heap 𝓤) (A : Atoms 𝓤) (W : Given
 
   -- ---- the loop
   module _ (ready : Asked) (are : Are (typesAt (run′.signature .params) κs) (Ises (typesAt (run′.signature .params) κs)) a vals)
-      (𝓣 : Tables 𝓤 H) (known : Triple 𝓤 (𝓣 .C #replay·run·step) (Step 𝓤 H A at-mem run)) where
+      (𝓣 : Tables 𝓤 H) (known : Triple 𝓤 (𝓣 .C #replaying-trace·run·step) (Step 𝓤 H A at-mem run)) where
     f-is : Is F.the-row (d .frame) (F′.lowered (d .frame) ∷ [])
     f-is = are .1 .0
 
@@ -318,7 +318,7 @@ module _ {M : Type 1} (𝓤 : URA M) (H : Heap 𝓤) (A : Atoms 𝓤) (W : Given
         pass1 ! (init ! 12 refl (mut-slice-lawful 𝓤 H A W (named 6) (d .κm) u8 .typed memory _ m-is .0)) $ pass1 ! (init ! 10 refl (p-typed (d .progress) _ (are .1 .1 .1 .1 .1 .1 .1 .1 .0))) $ pass0 ! $
         assigns ! (of-opd ! (holds ! 10 refl)) (from ! (stop !)) (init ! 8 refl (p-typed (d .progress) _ (are .1 .1 .1 .1 .1 .1 .1 .1 .0))) $ move ! (30 ∷ []) $ looping l₀ l₁ l₂ l₃ l₄ l₅ l₆ l₇ l₈ l₉ l₁₀ l₁₁ l₁₂ l₁₃ l₁₄)))))))))))))))
 
-module _ {M : Type 1} (𝓤 : URA M) (H : Heap 𝓤) (A : Atoms 𝓤) (W : Given 𝓤 H A) (at-mem : Memory → SProp 𝓤) (run : Routine → Fun 𝓤) (𝓣 : Tables 𝓤 H) (known : Triple 𝓤 (𝓣 .C #replay·run·step) (Step 𝓤 H A at-mem run)) where
+module _ {M : Type 1} (𝓤 : URA M) (H : Heap 𝓤) (A : Atoms 𝓤) (W : Given 𝓤 H A) (at-mem : Memory → SProp 𝓤) (run : Routine → Fun 𝓤) (𝓣 : Tables 𝓤 H) (known : Triple 𝓤 (𝓣 .C #replaying-trace·run·step) (Step 𝓤 H A at-mem run)) where
   run-walks : Walks 𝓤 H A run′.ended stayed (WpFn 𝓤 H (𝓣 .C) (𝓣 .Λ) code.function) (run′.clauses 𝓤 H A at-mem run)
   run-walks = walked 𝓤 H A run′.ended stayed (run′.clauses 𝓤 H A at-mem run) (WpFn 𝓤 H (𝓣 .C) (𝓣 .Λ) code.function) Lent.spells Lent.tells
       (λ κs qs bounds a g are. needs 𝓤 (Asked 𝓤 H A W at-mem run (called κs qs a)) _ (λ ready. walk 𝓤 H A W at-mem run (called κs qs a) ready are 𝓣 known))
@@ -333,6 +333,6 @@ pub run-spec : {M : Type 1} → stated.statement M
 unfolding code.routine tablesOf
 run-spec 𝓤 H 𝓜 𝓖 𝓡 =
     entered 𝓤 H (tripleOf 𝓤 H (𝓖 .A) run′.signature (run′.spec 𝓤 H (𝓖 .A) (𝓜 .mem) (𝓡 .run)))
-    (tables 𝓤 H 𝓜 𝓡 code.env .C) (tables 𝓤 H 𝓜 𝓡 code.env .Λ) #replay·run·run code.function (code.unfolded 𝓤 H 𝓜 𝓡)
+    (tables 𝓤 H 𝓜 𝓡 code.env .C) (tables 𝓤 H 𝓜 𝓡 code.env .Λ) #replaying-trace·run·run code.function (code.unfolded 𝓤 H 𝓜 𝓡)
     (run-meets 𝓤 H (𝓖 .A) (givenOf 𝓤 H 𝓜 𝓖) (𝓜 .mem) (𝓡 .run) (tablesOf 𝓤 H 𝓜 (tables 𝓤 H 𝓜 𝓡 code.env))
-    (cited 𝓤 H (Step 𝓤 H (𝓖 .A) (𝓜 .mem) (𝓡 .run)) 𝓜 𝓡 code.env #replay·run·step step-def.routine code.calls-replay·run·step (step-thm.met 𝓤 H 𝓜 𝓖 𝓡)))
+    (cited 𝓤 H (Step 𝓤 H (𝓖 .A) (𝓜 .mem) (𝓡 .run)) 𝓜 𝓡 code.env #replaying-trace·run·step step-def.routine code.calls-replaying-trace·run·step (step-thm.met 𝓤 H 𝓜 𝓖 𝓡)))
