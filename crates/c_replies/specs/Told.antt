@@ -8,8 +8,9 @@ use Rattle.theory_model.specs.Verdict.{closed, outside, leaves, bad}
 use Rattle.theory_files.specs.Reply.{FileReply, refused, verdict}
 use Rattle.membership.specs.Member as Member
 use Rattle.writing_file.specs.Write as Write
-use Rattle.checking_line.specs.declared.verdict.Verdict.{Verdict as Line}
-use Rattle.checking_line.specs.declared.verdict.Verdict.the-variants.{Closed, Outside, Leaves, Bad, Refused}
+use Rattle.numbers.specs.Said.{numberOf, placeOf}
+use Rattle.verdicts.specs.declared.verdict.Verdict.{Verdict}
+use Rattle.verdicts.specs.declared.verdict.Verdict.the-variants.{Closed, Outside, Leaves, Bad, Refused, ShortMemory}
 use Rattle.c_replies.specs.declared.told.Told.{Told}
 
 -- the kinds
@@ -75,12 +76,13 @@ toldWritten (Write.wrote n) = toldOf WRITTEN n 0 0 0
 toldWritten (Write.refusal k p) = toldRefusal k p
 
 -- the same of a verdict by value, which has how many messages are shown
-abbrev pub toldLine : Line → Told
-toldLine (Closed n) = toldOf CLOSED n 0 0 0
-toldLine Outside = toldOf OUTSIDE 0 0 0 0
-toldLine (Leaves c t n f) = toldOf LEAVES c t n f
-toldLine (Bad b n) = toldOf BAD b n 0 0
-toldLine (Refused k p) = toldRefusal k p
+abbrev pub toldVerdict : Verdict → Told
+toldVerdict (Closed n) = toldOf CLOSED n 0 0 0
+toldVerdict Outside = toldOf OUTSIDE 0 0 0 0
+toldVerdict (Leaves c t n f) = toldOf LEAVES (c .0) t n f
+toldVerdict (Bad b n) = toldOf BAD b n 0 0
+toldVerdict (Refused why) = toldRefusal (numberOf why) (placeOf why)
+toldVerdict ShortMemory = toldRefusal 2 0
 
 -- the reply's space needs so many entries, and the numbers fill its front
 abbrev pub replyLeast : ℕ

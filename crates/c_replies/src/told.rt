@@ -1,9 +1,10 @@
 // What a call tells: the kind of its reply, and up to four numbers that go with it.
-use checking_line::verdict::Verdict;
 use membership::reply::Member;
+use numbers::number::wide;
 use numbers::refusal::Refusal;
 use numbers::refusal::number;
 use numbers::refusal::place;
+use verdicts::verdict::Verdict;
 use writing_file::write::Written;
 ghost use mathlib.Core.Path.{_≡_};
 ghost use Prim.Native.Nat.{_≤_};
@@ -11,7 +12,7 @@ ghost use lib.ListN.{length};
 ghost use Rattle.numbers.specs.Said.{numberOf, placeOf};
 ghost use Rattle.membership.specs.Said.{saidMember};
 ghost use Rattle.writing_file.specs.Write.{saidWritten};
-ghost use Rattle.c_replies.specs.Told.{toldOf, toldLine, toldMember, toldWritten, toldRefusal, replyLeast, Tells};
+ghost use Rattle.c_replies.specs.Told.{toldOf, toldVerdict, toldMember, toldWritten, toldRefusal, replyLeast, Tells};
 
 // The kinds, as the header names them.
 pub const CLOSED: usize = 0;
@@ -90,14 +91,14 @@ pub fn tell_refusal(why: Refusal) -> Told
 }
 
 pub fn tell_verdict(v: Verdict) -> Told
-    ensures { λ r. ⌜ r ≡ toldLine v ⌝ }
+    ensures { λ r. ⌜ r ≡ toldVerdict v ⌝ }
 {
     match v {
         Verdict::Closed(pairs) => counted(CLOSED, pairs),
         Verdict::Outside => bare(OUTSIDE),
         Verdict::Leaves(control, transition, shown, far) => Told {
             kind: LEAVES,
-            first: control,
+            first: wide(control.0),
             second: transition,
             third: shown,
             fourth: far,
@@ -109,7 +110,8 @@ pub fn tell_verdict(v: Verdict) -> Told
             third: 0,
             fourth: 0,
         },
-        Verdict::Refused(number, place) => refused(number, place),
+        Verdict::Refused(why) => tell_refusal(why),
+        Verdict::ShortMemory => refused(2, 0),
     }
 }
 

@@ -17,22 +17,19 @@ use Rattle.reading_file.specs.declared.reading.Reading.{Reading}
 use Rattle.theory_model.specs.Laws.Basics.{is-and}
 use Rattle.theory_files.specs.Reply.{shownOf}
 use Rattle.theory_files.specs.Checking.{Checked, checkOf, Checks}
-use Rattle.checking_file.specs.Check.{saidVerdict}
-use Rattle.checking_file.specs.declared.check.Verdict.{Verdict}
+use Rattle.verdicts.specs.Said.{saidVerdict, shownIn}
+use Rattle.verdicts.specs.declared.verdict.Verdict.{Verdict}
+use Rattle.verdicts.specs.declared.verdict.Verdict.the-variants.{Closed, Outside, Leaves, Bad, Refused, ShortMemory}
+use Rattle.checking_file.specs.Laws.Shows.{checks-shows}
 use Rattle.membership.specs.Member.{memberOf}
 use Rattle.membership.specs.Said.{saidMember}
 use Rattle.membership.specs.Laws.Asking.{read-valid}
 use Rattle.membership.specs.declared.reply.Member.{Member}
 use Rattle.numbers.specs.Put.{Put}
-use Rattle.checking_line.specs.Said.{said, shownBy}
-use Rattle.checking_line.specs.declared.verdict.Verdict.{Verdict as Line}
-use Rattle.checking_line.specs.declared.verdict.Verdict.the-variants.{Closed, Outside, Leaves, Bad, Refused}
 use Rattle.replaying_step.specs.declared.runs.RunRecord.{RunRecord}
 use Rattle.theory_replay.specs.Rules.{room as queueRoom}
 use Rattle.replaying_trace.specs.Reply.{Reply, Outcome, lentTo, replayTo, replayOf, saidStop, Replays}
 use Rattle.replaying_trace.specs.declared.progress.Ended.{Ended}
-use Rattle.checking_answer.specs.Printed.{printedOf}
-use Rattle.checking_answer.specs.Laws.{counted-by}
 use Rattle.theory_format.specs.Spelled.{spelled}
 use Rattle.writing_file.specs.Write.{bufferAfter, saidWritten}
 use Rattle.writing_file.specs.declared.write.Written.{Written}
@@ -40,7 +37,7 @@ use Rattle.c_tables.specs.Flat.{flat, tablesLeast}
 use Rattle.c_tables.specs.Taken.{tablesAt}
 use Rattle.c_tables.specs.Written.{writeReplyAt, WritesFlat}
 use Rattle.c_tables.specs.Laws.Put.{flat-front}
-use Rattle.c_replies.specs.Told.{NO-ROOM, toldOf, toldReply, toldAnswer, toldMember, toldWritten, toldLine, replyLeast, replyAfter, Tells}
+use Rattle.c_replies.specs.Told.{LEAVES, BAD, NO-ROOM, toldOf, toldReply, toldAnswer, toldMember, toldWritten, toldVerdict, replyLeast, replyAfter, Tells}
 use Rattle.c_replies.specs.Replays.{toldReplay, recordLeast, runAfter, blank}
 use Rattle.capi.specs.Calls.{replyFits, kindIf, keepUnless, spaceAfter, outcomeOf, replayTold, replayFits, ReadCall, WriteCall, MemberCall, CheckCall, ReplayCall}
 use Rattle.c_replies.specs.declared.told.Told.{Told}
@@ -166,12 +163,13 @@ module _ (file : List ℕ) (control : ℕ) (contents reply : List ℕ) where
       record { kind = tells-kind (replyFits reply) e same tells; reply = tells-reply (replyFits reply) e same tells }
 
 -- CHECKING
-told-line : (p : Line) (contents : List ℕ) → shownBy p ≡ length (shownOf (said p contents)) → toldLine p ≡ toldReply (said p contents)
-told-line (Closed n) contents e = refl
-told-line Outside contents e = refl
-told-line (Leaves c t n f) contents e = ap (λ (k : ℕ). toldOf 2 c t k f) e
-told-line (Bad b n) contents e = ap (λ (k : ℕ). toldOf 3 b k 0 0) e
-told-line (Refused k p) contents e = refl
+told-verdict : (v : Verdict) (contents : List ℕ) → shownIn v ≡ length (shownOf (saidVerdict v contents)) → toldVerdict v ≡ toldReply (saidVerdict v contents)
+told-verdict (Closed n) contents e = refl
+told-verdict Outside contents e = refl
+told-verdict (Leaves c t n f) contents e = ap (λ (k : ℕ). toldOf LEAVES (c .0) t k f) e
+told-verdict (Bad b n) contents e = ap (λ (k : ℕ). toldOf BAD b k 0 0) e
+told-verdict (Refused why) contents e = refl
+told-verdict ShortMemory contents e = refl
 
 module _ (file seen queue contents reply : List ℕ) where
   abbrev whole : Checked
@@ -188,13 +186,12 @@ module _ (file seen queue contents reply : List ℕ) where
         contents = kept (replyFits reply) contents (whole .contents) e;
       }
 
-  pub check-told : {seen₁ queue₁ contents₁ reply₁ : List ℕ} {r : ℕ} {t : Told} → replyLeast ≤ length reply → (v : Verdict) (p : Line)
-      → Checks file seen queue contents (saidVerdict v contents₁) seen₁ queue₁ contents₁ → p ≡ printedOf v → t ≡ toldLine p
+  pub check-told : {seen₁ queue₁ contents₁ reply₁ : List ℕ} {r : ℕ} {t : Told} → replyLeast ≤ length reply → (v : Verdict)
+      → Checks file seen queue contents (saidVerdict v contents₁) seen₁ queue₁ contents₁ → t ≡ toldVerdict v
       → Tells t reply reply₁ r → CheckCall file seen queue contents reply r seen₁ queue₁ contents₁ reply₁
-  check-told {contents₁ = contents₁} {t = t} h v p checks shows told tells =
+  check-told {contents₁ = contents₁} {t = t} h v checks told tells =
       let e = le-leb replyLeast (length reply) h in
-      let by = counted-by v p shows checks in
-      let same : t ≡ toldReply (whole .reply) = told ∙ told-line p contents₁ (by .1) ∙ ap toldReply (by .0) in
+      let same : t ≡ toldReply (whole .reply) = told ∙ told-verdict v contents₁ (checks-shows v checks .number) ∙ ap toldReply (checks .reply) in
       record {
         kind = tells-kind (replyFits reply) e same tells;
         reply = tells-reply (replyFits reply) e same tells;

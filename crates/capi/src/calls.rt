@@ -17,7 +17,6 @@ use c_replies::told::tell_written;
 use c_tables::places::TABLES_LEAST;
 use c_tables::put::put_tables;
 use c_tables::write::write_flat;
-use checking_answer::printed;
 use checking_file::check::check;
 use expression::draw::expression;
 use membership::member::member;
@@ -108,7 +107,7 @@ pub extern "C" fn swarmbanner_check(
         return NO_ROOM;
     }
     let verdict = check(file, seen, queue, contents);
-    put_told(reply, tell_verdict(printed(verdict)))
+    put_told(reply, tell_verdict(verdict))
 }
 
 // Replays a trace, with the promises of `replay` about the queue memory. The record's numbers fill the front of their space; after a refusal

@@ -10,81 +10,43 @@ use Rattle.theory_files.specs.Reply.{shownOf, lineOf, replyOf, replyTo}
 use Rattle.theory_files.specs.Checking.{checkOf, readLent, Checks, tableLeast, contentsLeast, mostShown}
 use Rattle.theory_files.specs.Laws.Checking.{long-enough, lent-enough, lent-sound}
 use Rattle.theory_files.specs.Laws.Shown.{shown-fits}
-use Rattle.checking_line.specs.Said.{said, shownBy, holds, given, Writes}
-use Rattle.checking_line.specs.declared.verdict.Verdict.{Verdict as Line}
-use Rattle.checking_file.specs.Check.{saidVerdict, shownIn}
+use Rattle.checking_line.specs.Said.{holds, given, Writes}
+use Rattle.verdicts.specs.Said.{saidVerdict, shownIn}
 use Rattle.checking_file.specs.Laws.Shows.{checks-shows}
-use Rattle.checking_file.specs.declared.check.Verdict.{Verdict}
-use Rattle.checking_file.specs.declared.check.Verdict.the-variants as Verdict
-use Rattle.checking_answer.specs.Printed.{printedOf}
+use Rattle.verdicts.specs.declared.verdict.Verdict.{Verdict}
 use Rattle.checking_answer.specs.Answer.{lineIn, Answers, Lines, mostLine, WholeLine}
 
 -- room for a line that shows no more messages than there are, and no more than any verdict shows
 room-for : (room contents shown : ℕ) → shown ≤ contents → shown ≤ mostShown → holds room contents shown ≡ leb (4 * shown + 52) room
 room-for room contents shown h k = rw (le-leb shown contents h, le-leb shown contentsLeast (omega arith))
 
--- what is printed of a verdict says what the verdict says, and shows as many messages
-said-printed : (v : Verdict) (contents : List ℕ) → saidVerdict v contents ≡ said (printedOf v) contents
-said-printed (Verdict.Closed n) contents = refl
-said-printed Verdict.Outside contents = refl
-said-printed (Verdict.Leaves c t n f) contents = refl
-said-printed (Verdict.Bad b n) contents = refl
-said-printed (Verdict.Refused why) contents = refl
-said-printed Verdict.ShortMemory contents = refl
-
-shown-printed : (v : Verdict) → shownBy (printedOf v) ≡ shownIn v
-shown-printed (Verdict.Closed n) = refl
-shown-printed Verdict.Outside = refl
-shown-printed (Verdict.Leaves c t n f) = refl
-shown-printed (Verdict.Bad b n) = refl
-shown-printed (Verdict.Refused why) = refl
-shown-printed Verdict.ShortMemory = refl
-
-module _ {file seen queue contents seen₁ queue₁ contents₁ : List ℕ} (v : Verdict) (p : Line) (e : p ≡ printedOf v)
-    (given-checks : Checks file seen queue contents (saidVerdict v contents₁) seen₁ queue₁ contents₁) where
-  same : saidVerdict v contents₁ ≡ said p contents₁
-  same = said-printed v contents₁ ∙ ap (λ l. said l contents₁) (sym e)
-
-  checks : Checks file seen queue contents (said p contents₁) seen₁ queue₁ contents₁
-  checks = subst (λ x. Checks file seen queue contents x seen₁ queue₁ contents₁) same given-checks
-
-  few : length (shownOf (said p contents₁)) ≤ mostShown
+-- CHECKED AND WRITTEN: ANSWERED
+module _ {file seen queue contents seen₁ queue₁ contents₁ : List ℕ} (v : Verdict)
+    (checks : Checks file seen queue contents (saidVerdict v contents₁) seen₁ queue₁ contents₁) where
+  few : length (shownOf (saidVerdict v contents₁)) ≤ mostShown
   few = subst (λ r. length (shownOf r) ≤ mostShown) (sym (checks .reply)) (shown-fits (readLent file seen queue contents) (lent-sound file seen queue contents))
 
-  counted : shownBy p ≡ length (shownOf (said p contents₁))
-  counted = ap shownBy e ∙ shown-printed v ∙ checks-shows v given-checks .number ∙ ap (λ r. length (shownOf r)) same
+  counted : shownIn v ≡ length (shownOf (saidVerdict v contents₁))
+  counted = checks-shows v checks .number
 
-  within : length (shownOf (said p contents₁)) ≤ length contents₁
-  within = omega (arith, ap shownBy e ∙ shown-printed v, counted, checks-shows v given-checks .within)
+  within : length (shownOf (saidVerdict v contents₁)) ≤ length contents₁
+  within = omega (arith, counted, checks-shows v checks .within)
 
-  room : (n : ℕ) → holds n (length contents₁) (shownBy p) ≡ leb (4 * length (shownOf (said p contents₁)) + 52) n
-  room n = ap (holds n (length contents₁)) counted ∙ room-for n (length contents₁) (length (shownOf (said p contents₁))) within few
+  room : (n : ℕ) → holds n (length contents₁) (shownIn v) ≡ leb (4 * length (shownOf (saidVerdict v contents₁)) + 52) n
+  room n = ap (holds n (length contents₁)) counted ∙ room-for n (length contents₁) (length (shownOf (saidVerdict v contents₁))) within few
 
-  text : (n : ℕ) → given (holds n (length contents₁) (shownBy p)) (lineOf (said p contents₁)) ≡ lineIn n (checkOf file seen queue contents .reply)
-  text n = ap (λ b. given b (lineOf (said p contents₁))) (room n) ∙ ap (lineIn n) (checks .reply)
+  text : (n : ℕ) → given (holds n (length contents₁) (shownIn v)) (lineOf (saidVerdict v contents₁)) ≡ lineIn n (checkOf file seen queue contents .reply)
+  text n = ap (λ b. given b (lineOf (saidVerdict v contents₁))) (room n) ∙ ap (lineIn n) (checks .reply)
 
-  -- checked and written: answered
-  answered : {buffer buffer₁ : List ℕ} {r : ℕ} → Writes buffer p contents₁ buffer₁ r
+  pub answered-by : {buffer buffer₁ : List ℕ} {r : ℕ} → Writes buffer v contents₁ buffer₁ r
       → Answers file seen queue contents buffer seen₁ queue₁ contents₁ buffer₁ r
-  answered {buffer} {buffer₁} {r} w = record {
+  answered-by {buffer} {buffer₁} {r} w = record {
     reply = w .line .reply ∙ ap length (text (length buffer));
     buffer = subst (λ (t : List ℕ). buffer₁ ≡ t ++ drop (length t) buffer) (text (length buffer)) (w .line .buffer);
     seen = checks .seen;
     queue = checks .queue;
     contents = checks .contents;
   }
-
--- CHECKED, PRINTED AND WRITTEN: ANSWERED
-pub answered-by : {file seen queue contents seen₁ queue₁ contents₁ buffer buffer₁ : List ℕ} {r : ℕ} (v : Verdict) (p : Line) → p ≡ printedOf v
-    → Checks file seen queue contents (saidVerdict v contents₁) seen₁ queue₁ contents₁ → Writes buffer p contents₁ buffer₁ r
-    → Answers file seen queue contents buffer seen₁ queue₁ contents₁ buffer₁ r
-answered-by v p e checks w = answered v p e checks w
-
--- a verdict that is printed says checking's reply, and tells how many messages that shows
-pub counted-by : {file seen queue contents seen₁ queue₁ contents₁ : List ℕ} (v : Verdict) (p : Line) → p ≡ printedOf v
-    → Checks file seen queue contents (saidVerdict v contents₁) seen₁ queue₁ contents₁
-    → (said p contents₁ ≡ checkOf file seen queue contents .reply) × (shownBy p ≡ length (shownOf (said p contents₁)))
-counted-by v p e given-checks = (checks v p e given-checks .reply, counted v p e given-checks)
 
 -- with enough lent checking's reply is the reply to the file
 reply-whole : (file seen queue contents : List ℕ) → tableLeast ≤ length seen → tableLeast ≤ length queue → contentsLeast ≤ length contents

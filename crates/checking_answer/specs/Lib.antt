@@ -1,4 +1,3 @@
--- What is printed of a verdict, and what answering a file promises.
-pub mod Printed
+-- What answering a file promises.
 pub mod Answer
 pub mod Laws

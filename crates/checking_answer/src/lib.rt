@@ -2,38 +2,12 @@
 use checking_file::check::CONTENTS_LEAST;
 use checking_file::check::MOST_SHOWN;
 use checking_file::check::TABLE_LEAST;
-use checking_file::check::Verdict;
 use checking_file::check::check;
-use checking_line::verdict::Verdict as Printed;
 use checking_line::verdict::write_line;
-use numbers::number::wide;
-use numbers::refusal::number;
-use numbers::refusal::place;
-ghost use mathlib.Core.Path.{_≡_};
-ghost use Rattle.checking_answer.specs.Printed.{printedOf};
 ghost use Rattle.checking_answer.specs.Answer.{Answers, Lines, WholeLine};
 
 // Bytes that hold any line: for each message a space and at most three digits, and 52 for the rest.
 pub const MOST_LINE: usize = 4 * MOST_SHOWN + 52;
-
-// What is printed of a verdict: of a refusal its number and its place.
-pub fn printed(v: Verdict) -> Printed
-    ensures { λ r. ⌜ r ≡ printedOf v ⌝ }
-{
-    match v {
-        Verdict::Closed(pairs) => Printed::Closed(pairs),
-        Verdict::Outside => Printed::Outside,
-        Verdict::Leaves(c, transition, shown, far) => Printed::Leaves(
-            wide(c.0),
-            transition,
-            shown,
-            far,
-        ),
-        Verdict::Bad(entry, shown) => Printed::Bad(entry, shown),
-        Verdict::Refused(why) => Printed::Refused(number(why), place(why)),
-        Verdict::ShortMemory => Printed::Refused(2, 0),
-    }
-}
 
 // The line of a file, at the front of the buffer: its length.
 pub fn answer(
@@ -46,7 +20,7 @@ pub fn answer(
     ensures { λ r. ⌜ Answers (now (file .entry)) (now (seen .entry)) (now (queue .entry)) (now (contents .entry)) (now (buffer .entry)) (now (seen .exit)) (now (queue .exit)) (now (contents .exit)) (now (buffer .exit)) r ⌝ }
 {
     let verdict = check(file, seen, queue, contents);
-    write_line(buffer, printed(verdict), contents)
+    write_line(buffer, verdict, contents)
 }
 
 // The line of a file, at the front of the buffer: its length, or 0 where the buffer has no room for it. Tables and contents are of a

@@ -1,45 +1,22 @@
--- What checking says: for each case of its answer the reply of document 01, and what holds of the memory that was lent.
+-- What checking says, and what holds of the memory that was lent.
 use Prim.Native.Nat.{ℕ, _≤_}
 use mathlib.Core.Path.{_≡_}
 use mathlib.Core.List.{List}
-use lib.ListN.{length, take, replicate}
+use lib.ListN.{length, replicate}
 use Rattle.checking_pairs.specs.Pairs.{mostCodes}
-use Rattle.numbers.specs.Said.{numberOf, placeOf}
 use Rattle.tables.specs.declared.tables.Tables.{Tables}
-use Rattle.theory_model.specs.Verdict.{closed, outside, leaves, bad}
 use Rattle.theory_model.specs.Judge as Model
 use Rattle.theory_files.specs.Tables.{sessionOf}
-use Rattle.theory_files.specs.Reply.{FileReply, refused, verdict, shownOf}
+use Rattle.theory_files.specs.Reply.{verdict}
 use Rattle.checking_items.specs.Judging.{Kept}
 use Rattle.checking_items.specs.declared.judged.Progress.{Progress}
 use Rattle.checking_items.specs.declared.judged.Progress.the-variants as Progress
-use Rattle.checking_file.specs.declared.check.Verdict.{Verdict}
-use Rattle.checking_file.specs.declared.check.Verdict.the-variants.{Closed, Outside, Leaves, Bad, Refused, ShortMemory}
+use Rattle.verdicts.specs.Said.{saidVerdict, shownIn}
+use Rattle.verdicts.specs.declared.verdict.Verdict.{Verdict}
+use Rattle.verdicts.specs.declared.verdict.Verdict.the-variants.{Closed, Leaves, Bad}
 use Rattle.theory_files.specs.Checking.{contentsLeast}
 use Rattle.checking_items.specs.Promises.{Diagrams, Memory, AllWhose}
 use Rattle.tables.specs.declared.tables.Machines.{Machines}
-
--- the contents shown stand at the front of the buffer at exit
-abbrev pub saidVerdict : Verdict → List ℕ → FileReply
-saidVerdict (Closed pairs) contents = verdict (closed pairs)
-saidVerdict Outside contents = verdict outside
-saidVerdict (Leaves control transition shown far) contents = verdict (leaves (control .0) transition (take shown contents) far)
-saidVerdict (Bad number shown) contents = verdict (bad number (take shown contents))
-saidVerdict (Refused why) contents = refused (numberOf why) (placeOf why)
-saidVerdict ShortMemory contents = refused 2 0
-
-abbrev pub shownIn : Verdict → ℕ
-shownIn (Closed pairs) = 0
-shownIn Outside = 0
-shownIn (Leaves control transition shown far) = shown
-shownIn (Bad number shown) = shown
-shownIn (Refused why) = 0
-shownIn ShortMemory = 0
-
--- THE NUMBER that a verdict carries is that of the messages shown, and the buffer has as many
-pub record Shows (r : Verdict) (contents : List ℕ) : Type 0 where
-  pub number : shownIn r ≡ length (shownOf (saidVerdict r contents))
-  pub within : shownIn r ≤ length contents
 
 -- the items have been judged
 abbrev pub concluded : Progress → Verdict

@@ -9,20 +9,21 @@ use numbers::refusal::Refusal;
 use reading_file::reading::Answer;
 use reading_file::reading::HeadRead;
 use reading_file::reading::read_into;
-use tables::kinds::ControlState;
 use tables::kinds::DiagramState;
 use tables::tables::MOST_WORD;
 use tables::tables::Machines;
 use tables::tables::POOL_ARCS;
 use tables::tables::Queues;
 use tables::tables::ROWS;
+use verdicts::verdict::Verdict;
 ghost use mathlib.Core.Path.{_≡_};
 ghost use mathlib.Core.List.{List};
 ghost use Prim.Native.Nat.{ℕ};
 ghost use lib.ListN.{length, replicate};
 ghost use Rattle.theory_files.specs.Checking.{Checks, CheckMeans, CheckTwoRuns};
 ghost use Rattle.checking_items.specs.Judging.{AllAsked};
-ghost use Rattle.checking_file.specs.Check.{saidVerdict, Shows, concluded, Concludes, Room, VerdictFound};
+ghost use Rattle.checking_file.specs.Check.{concluded, Concludes, Room, VerdictFound};
+ghost use Rattle.verdicts.specs.Said.{saidVerdict, Shows};
 ghost use Rattle.reading_file.specs.Valid.{Valid};
 ghost use Rattle.reading_file.specs.Lent.{lentReading};
 ghost use Rattle.checking_pairs.specs.Pairs.{mostCodes};
@@ -35,21 +36,6 @@ pub const CONTENTS_LEAST: usize = 32768;
 
 // The most messages that are shown.
 pub const MOST_SHOWN: usize = TABLE_LEAST + MOST_WORD as usize;
-
-pub enum Verdict {
-    // nothing fails: the pairs visited
-    Closed(usize),
-    // what waits at the start is not in the set of the starting control state
-    Outside,
-    // a step leads out: control state, transition, messages shown, how far the contents after it are followed
-    Leaves(ControlState, usize, usize, usize),
-    // a bad entry's contents are inside: the entry, messages shown
-    Bad(usize, usize),
-    // the file is not read
-    Refused(Refusal),
-    // a scratch table or the contents buffer is too short
-    ShortMemory,
-}
 
 // The whole table is set to 0.
 fn blank(table: &mut [u16])

@@ -1,30 +1,13 @@
--- What the program's verdict says, when the buffer has room for its line, and what writing the line promises.
+-- When a buffer has room for the line of a verdict, and what writing the line promises.
 use Prim.Native.Nat.{ℕ, _+_, _*_}
 use mathlib.Core.Path.{_≡_}
 use mathlib.Core.Bool.{Bool, true, false, _&&_}
 use mathlib.Core.List.{List, [], _++_}
-use lib.ListN.{length, take, drop}
+use lib.ListN.{length, drop}
 use lib.Dec.{leb}
-use Rattle.theory_model.specs.Verdict.{closed, outside, leaves, bad}
-use Rattle.theory_files.specs.Reply.{FileReply, refused, verdict, lineOf}
-use Rattle.checking_line.specs.declared.verdict.Verdict.{Verdict}
-use Rattle.checking_line.specs.declared.verdict.Verdict.the-variants.{Closed, Outside, Leaves, Bad, Refused}
-
--- the reply that it says: the messages shown are the front of the contents
-abbrev pub said : Verdict → List ℕ → FileReply
-said (Closed p) contents = verdict (closed p)
-said Outside contents = verdict outside
-said (Leaves c t n f) contents = verdict (leaves c t (take n contents) f)
-said (Bad b n) contents = verdict (bad b (take n contents))
-said (Refused k p) contents = refused k p
-
--- how many messages it shows
-abbrev pub shownBy : Verdict → ℕ
-shownBy (Closed p) = 0
-shownBy Outside = 0
-shownBy (Leaves c t n f) = n
-shownBy (Bad b n) = n
-shownBy (Refused k p) = 0
+use Rattle.theory_files.specs.Reply.{lineOf}
+use Rattle.verdicts.specs.Said.{saidVerdict, shownIn}
+use Rattle.verdicts.specs.declared.verdict.Verdict.{Verdict}
 
 -- the contents hold the messages shown, and the buffer holds any line that shows so many
 abbrev pub holds : ℕ → ℕ → ℕ → Bool
@@ -48,4 +31,4 @@ pub record Lined (entry contents : List ℕ) (shown : ℕ) (text exit : List ℕ
 
 -- WHAT WRITING A LINE PROMISES
 pub record Writes (entry : List ℕ) (v : Verdict) (contents exit : List ℕ) (r : ℕ) : Type 0 where
-  pub line : Lined entry contents (shownBy v) (lineOf (said v contents)) exit r
+  pub line : Lined entry contents (shownIn v) (lineOf (saidVerdict v contents)) exit r

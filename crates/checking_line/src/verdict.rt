@@ -1,25 +1,17 @@
-// What is printed, by value, and the line of it.
+// The line of a verdict.
 use crate::put::put_listed;
 use crate::put::put_spaced;
+use numbers::number::wide;
 use numbers::put::put_byte;
 use numbers::put::put_word;
+use numbers::refusal::number;
+use numbers::refusal::place;
+use verdicts::verdict::Verdict;
 ghost use mathlib.Core.List.{[]};
 ghost use lib.ListN.{take};
 ghost use Rattle.theory_model.specs.Verdict.{closed, outside, leaves, bad};
 ghost use Rattle.theory_model.specs.Line.{line, refusedLine};
 ghost use Rattle.checking_line.specs.Said.{Room, Lined, Writes};
-
-pub enum Verdict {
-    // the pairs visited
-    Closed(usize),
-    Outside,
-    // control state, transition, how many messages are shown, and how many are followed after the step
-    Leaves(usize, usize, usize, usize),
-    // bad entry, and how many messages are shown
-    Bad(usize, usize),
-    // number and place
-    Refused(usize, usize),
-}
 
 // Whether a buffer of so many bytes has room for any line that shows so many messages of the contents.
 fn has_room(room: usize, contents: usize, shown: usize) -> bool
@@ -111,7 +103,7 @@ fn write_bad(buffer: &mut [u8], entry: usize, contents: &[u8], shown: usize) -> 
     }
 }
 
-// The line of what is printed, at the front of the buffer: its length, or 0 where there is no room for it.
+// The line of a verdict, at the front of the buffer: its length, or 0 where there is no room for it.
 pub fn write_line(buffer: &mut [u8], verdict: Verdict, contents: &[u8]) -> usize
     ensures { λ r. ⌜ Writes (now (buffer .entry)) verdict (now (contents .entry)) (now (buffer .exit)) r ⌝ }
 {
@@ -120,13 +112,18 @@ pub fn write_line(buffer: &mut [u8], verdict: Verdict, contents: &[u8]) -> usize
         Verdict::Outside => write_outside(buffer),
         Verdict::Leaves(control, transition, shown, far) => write_leaves(
             buffer,
-            control,
+            wide(control.0),
             transition,
             contents,
             shown,
             far,
         ),
         Verdict::Bad(entry, shown) => write_bad(buffer, entry, contents, shown),
-        Verdict::Refused(cause, place) => write_refused(buffer, cause, place),
+        Verdict::Refused(why) => {
+            let cause = number(why);
+            let at = place(why);
+            write_refused(buffer, cause, at)
+        }
+        Verdict::ShortMemory => write_refused(buffer, 2, 0),
     }
 }

@@ -25,14 +25,15 @@ use Rattle.checking_pairs.specs.Pairs.{mostCodes}
 use Rattle.checking_pairs.specs.Marks.{Blank}
 use Rattle.checking_file.specs.Begin.{RootsIn, startAt}
 use Rattle.checking_items.specs.Judging.{Kept, Scratch, saidSoFar, shownSoFar, Judges, AllParts, AllAsked}
-use Rattle.checking_file.specs.Check.{saidVerdict, shownIn, concluded, Room, Concludes}
+use Rattle.verdicts.specs.Said.{saidVerdict, shownIn}
+use Rattle.checking_file.specs.Check.{concluded, Room, Concludes}
 use Rattle.controls.specs.Laws.Parting.{sizes-product}
 use Rattle.checking_file.specs.Laws.Begin.{begin-inside, start-passes, start-fails}
 use Rattle.checking_items.specs.Laws.Whole.{allHere, all-bad}
 use Rattle.checking_items.specs.declared.judged.Progress.{Progress}
 use Rattle.checking_items.specs.declared.judged.Progress.the-variants.{Passed, Leaves, Meets}
-use Rattle.checking_file.specs.declared.check.Verdict.{Verdict}
-use Rattle.checking_file.specs.declared.check.Verdict.the-variants.{Outside}
+use Rattle.verdicts.specs.declared.verdict.Verdict.{Verdict}
+use Rattle.verdicts.specs.declared.verdict.Verdict.the-variants.{Outside}
 
 -- ONE ENTRY MORE is 0
 pub blank-step : (t₀ t : List ℕ) (i : ℕ) → i < length t₀ → t ≡ replicate i 0 ++ drop i t₀

@@ -23,10 +23,11 @@ use Rattle.theory_files.specs.Reply.{verdict, replyTo, shownOf}
 use Rattle.theory_files.specs.Checking.{enough, readLent, tableAfter, contentsAfter, Checks, CheckMeans, CheckTwoRuns, contentsLeast}
 use Rattle.theory_files.specs.Laws.Checking.{lent-long, lent-little, lent-enough, long-enough, checks-made, checks-refused, check-means, check-two-runs}
 use Rattle.checking_items.specs.Judging.{Kept}
-use Rattle.checking_file.specs.Check.{saidVerdict, shownIn, Shows, Room, Concludes}
+use Rattle.verdicts.specs.Said.{saidVerdict, shownIn, Shows}
+use Rattle.checking_file.specs.Check.{Room, Concludes}
 use Rattle.checking_file.specs.Laws.Shows.{checks-shows}
-use Rattle.checking_file.specs.declared.check.Verdict.{Verdict}
-use Rattle.checking_file.specs.declared.check.Verdict.the-variants.{Closed, Outside, Leaves, Bad, Refused, ShortMemory}
+use Rattle.verdicts.specs.declared.verdict.Verdict.{Verdict}
+use Rattle.verdicts.specs.declared.verdict.Verdict.the-variants.{Closed, Outside, Leaves, Bad, Refused, ShortMemory}
 
 -- all four promises come from the first
 abbrev pub Promised : List ℕ → List ℕ → List ℕ → List ℕ → Verdict → List ℕ → List ℕ → List ℕ → Type 0

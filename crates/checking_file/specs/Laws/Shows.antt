@@ -8,9 +8,9 @@ use Rattle.theory_files.specs.Reply.{refused, replyTo, shownOf}
 use Rattle.theory_files.specs.Checking.{readLent, Checks, mostShown}
 use Rattle.theory_files.specs.Laws.Checking.{Ways, long, little, whole, ways, enough-long, lent-sound}
 use Rattle.theory_files.specs.Laws.Shown.{shown-fits, contents-kept}
-use Rattle.checking_file.specs.Check.{saidVerdict, Shows}
-use Rattle.checking_file.specs.declared.check.Verdict.{Verdict}
-use Rattle.checking_file.specs.declared.check.Verdict.the-variants.{Closed, Outside, Leaves, Bad, Refused, ShortMemory}
+use Rattle.verdicts.specs.Said.{saidVerdict, Shows}
+use Rattle.verdicts.specs.declared.verdict.Verdict.{Verdict}
+use Rattle.verdicts.specs.declared.verdict.Verdict.the-variants.{Closed, Outside, Leaves, Bad, Refused, ShortMemory}
 
 -- a front of fewer messages than there are has as many as were asked for
 front-number : (n : ℕ) (contents : List ℕ) → length (take n contents) < length contents → n ≡ length (take n contents)

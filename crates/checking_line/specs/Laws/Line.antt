@@ -1,6 +1,6 @@
 -- The words and numbers of a line, put one after the other, are the line; and what the buffer then holds.
 use Prim.Native.Nat.{ℕ, _+_, _*_, _≤_}
-use mathlib.Core.Path.{_≡_, refl, sym, ap, subst, _∙_}
+use mathlib.Core.Path.{_≡_, refl, sym, ap, ap₂, subst, _∙_}
 use mathlib.Core.Bool.{Bool, true, false, _&&_}
 use mathlib.Core.List.{List, [], _∷_, _++_}
 use lib.ListN.{length, take, drop}
@@ -15,9 +15,13 @@ use Rattle.theory_model.specs.Laws.Basics.{and-is}
 use Rattle.theory_files.specs.Reply.{lineOf}
 use Rattle.numbers.specs.Put.{Put}
 use Rattle.numbers.specs.Laws.Put.{put-then, put-front}
-use Rattle.checking_line.specs.Said.{said, shownBy, holds, Room, given, Lined, Writes}
-use Rattle.checking_line.specs.declared.verdict.Verdict.{Verdict}
-use Rattle.checking_line.specs.declared.verdict.Verdict.the-variants.{Closed, Outside, Leaves, Bad, Refused}
+use Rattle.numbers.specs.Said.{numberOf, placeOf}
+use Rattle.numbers.specs.declared.refusal.Refusal.{Refusal}
+use Rattle.tables.specs.declared.kinds.ControlState.{ControlState}
+use Rattle.verdicts.specs.Said.{saidVerdict, shownIn}
+use Rattle.verdicts.specs.declared.verdict.Verdict.{Verdict}
+use Rattle.verdicts.specs.declared.verdict.Verdict.the-variants.{Closed, Outside, Leaves, Bad, Refused, ShortMemory}
+use Rattle.checking_line.specs.Said.{holds, Room, given, Lined, Writes}
 
 -- ROOM
 pub room-is : (room contents shown : ℕ) → holds room contents shown ≡ true → (shown ≤ contents) × (4 * shown + 52 ≤ room)
@@ -121,7 +125,7 @@ bare contents {entry} {text} {exit} l =
 
 -- THE LINE of each verdict
 module _ {entry contents exit : List ℕ} {v : Verdict} {r : ℕ} where
-  writes : (w : Verdict) → v ≡ w → Lined entry contents (shownBy w) (lineOf (said w contents)) exit r → Writes entry v contents exit r
+  writes : (w : Verdict) → v ≡ w → Lined entry contents (shownIn w) (lineOf (saidVerdict w contents)) exit r → Writes entry v contents exit r
   writes w e l = subst (λ v. Writes entry v contents exit r) (sym e) (record { line = l })
 
   pub writes-closed : {p : ℕ} → v ≡ Closed p → Lined entry [] 0 (line (closed p)) exit r → Writes entry v contents exit r
@@ -130,25 +134,31 @@ module _ {entry contents exit : List ℕ} {v : Verdict} {r : ℕ} where
   pub writes-outside : v ≡ Outside → Lined entry [] 0 (line outside) exit r → Writes entry v contents exit r
   writes-outside e l = writes Outside e (bare contents l)
 
-  pub writes-leaves : {c t n f : ℕ} → v ≡ Leaves c t n f → Lined entry contents n (line (leaves c t (take n contents) f)) exit r
-      → Writes entry v contents exit r
-  writes-leaves {c} {t} {n} {f} e l = writes (Leaves c t n f) e l
+  pub writes-leaves : {c : ControlState} {k t n f : ℕ} → v ≡ Leaves c t n f → k ≡ c .0
+      → Lined entry contents n (line (leaves k t (take n contents) f)) exit r → Writes entry v contents exit r
+  writes-leaves {c} {k} {t} {n} {f} e same l =
+      writes (Leaves c t n f) e (subst (λ (k : ℕ). Lined entry contents n (line (leaves k t (take n contents) f)) exit r) same l)
 
   pub writes-bad : {b n : ℕ} → v ≡ Bad b n → Lined entry contents n (line (bad b (take n contents))) exit r → Writes entry v contents exit r
   writes-bad {b} {n} e l = writes (Bad b n) e l
 
-  pub writes-refused : {k p : ℕ} → v ≡ Refused k p → Lined entry [] 0 (refusedLine k p) exit r → Writes entry v contents exit r
-  writes-refused {k} {p} e l = writes (Refused k p) e (bare contents l)
+  pub writes-refused : {why : Refusal} {k p : ℕ} → v ≡ Refused why → k ≡ numberOf why → p ≡ placeOf why
+      → Lined entry [] 0 (refusedLine k p) exit r → Writes entry v contents exit r
+  writes-refused {why} e number place l =
+      writes (Refused why) e (bare contents (subst (λ (t : List ℕ). Lined entry [] 0 t exit r) (ap₂ refusedLine number place) l))
+
+  pub writes-short : v ≡ ShortMemory → Lined entry [] 0 (refusedLine 2 0) exit r → Writes entry v contents exit r
+  writes-short e l = writes ShortMemory e (bare contents l)
 
 -- WHAT A CALLER HAS where there is room: the front of the buffer is the line
 pub room-for : (room contents shown : ℕ) → shown ≤ contents → shown ≤ 32768 → 4 * shown + 52 ≤ room → holds room contents shown ≡ true
 room-for room contents shown a b c = rw (le-leb shown contents a, le-leb shown 32768 b, le-leb (4 * shown + 52) room c)
 
 pub written : {entry contents exit : List ℕ} {v : Verdict} {r : ℕ} → Writes entry v contents exit r
-    → holds (length entry) (length contents) (shownBy v) ≡ true
-    → (r ≡ length (lineOf (said v contents))) × (take r exit ≡ lineOf (said v contents))
+    → holds (length entry) (length contents) (shownIn v) ≡ true
+    → (r ≡ length (lineOf (saidVerdict v contents))) × (take r exit ≡ lineOf (saidVerdict v contents))
 written {entry} {contents} {exit} {v} {r} w e =
-    let text = lineOf (said v contents) in
+    let text = lineOf (saidVerdict v contents) in
     let some = ap (λ b. given b text) e in
     let long : r ≡ length text = w .line .reply ∙ ap length some in
     let whole : exit ≡ text ++ drop (length text) entry =

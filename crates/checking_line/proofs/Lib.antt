@@ -1,2 +1,0 @@
--- What taking an enum apart tells the proofs.
-pub mod Told
