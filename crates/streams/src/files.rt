@@ -1,4 +1,5 @@
-// A stream of files on standard input, each its length in three bytes, low byte first, and then its bytes.
+// A stream of records on standard input. A record is a byte that says what is asked, then a file, its length in three bytes, low byte first, and its bytes,
+// and then whatever else that question has.
 use crate::fill_front;
 use numbers::number::wide;
 ghost use Prim.Native.Nat.{_≤_};
@@ -9,6 +10,20 @@ ghost use Rattle.streams.specs.Counts.{fileLong};
 pub enum Next {
     File(usize),
     Nothing,
+}
+
+// The byte that says what is asked, or the end of the stream.
+pub enum Tag {
+    Byte(u8),
+    Nothing,
+}
+
+pub fn next_tag() -> Tag {
+    let mut tag = [0u8; 1];
+    if io::read_full(0, &mut tag) < 1 {
+        return Tag::Nothing;
+    }
+    Tag::Byte(tag[0])
 }
 
 pub fn next_file(space: &mut [u8]) -> Next

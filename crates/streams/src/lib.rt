@@ -2,6 +2,7 @@
 pub mod files;
 pub mod input;
 pub mod lent;
+pub mod lines;
 
 ghost use Prim.Native.Nat.{_≤_};
 ghost use mathlib.Core.Path.{_≡_};

@@ -1,4 +1,4 @@
-//! Streams of files, questions, replays, writings and texts, and the lines that answer them.
+//! Streams of records, which are files, questions, replays, writings and texts, and the lines that answer them.
 
 use std::cell::Cell;
 use std::io::{self, BufWriter, Read, Write};
@@ -25,7 +25,7 @@ use reference_checker::replay::replay;
 use reference_checker::selftest::{
     selftest, selftest_expression, selftest_far, selftest_forms, selftest_order, selftest_writing, Agreement,
 };
-use reference_checker::stream::{put_file, put_question, put_replay, put_writing, Question, Records};
+use reference_checker::stream::{put_record, Question, Record, Records};
 use reference_checker::verdict::{line, Reply};
 use reference_checker::walk::{check, Scratch};
 use reference_checker::write::write as write_tables;
@@ -35,27 +35,13 @@ const SEED: u64 = 20_261_115;
 
 const USAGE: &str = "\
 usage: reference COMMAND
-  generate-reading       write the stream of files for reading
-  reading                answer such a stream on standard input, one line a file
-  coverage               say what that stream hits; fails if a row is hit too seldom
-  generate-membership    write the stream of questions
-  membership             answer such a stream on standard input, one line a question
-  coverage-membership    say what that stream hits
-  generate-verdicts      write the stream of files for checking
-  verdicts               answer such a stream on standard input, one line a file
-  coverage-verdicts      say what that stream hits, and which mistakes it would tell
-  generate-replay        write the stream of replays
-  replay                 answer such a stream on standard input, one line a replay
-  coverage-replay        say what that stream hits, and which mistakes it would tell
-  generate-writing       write the stream of writings
-  writing                answer such a stream on standard input, one line a writing
-  coverage-writing       say what that stream hits, and which mistakes it would tell
-  generate-expression    write the stream of texts
-  expression             answer such a stream on standard input, one line a text
-  coverage-expression    say what that stream hits, and which mistakes it would tell
+  generate KIND..        write the stream of records of these kinds, kind after kind
+  answer                 answer such a stream on standard input by its lines
+  coverage KIND..        say what the records of these kinds hit, and which mistakes they would tell; fails if a row is hit too seldom
   selftest SEED COUNT    compare all ways to the verdict, to F, to row 9, to either form, to 16, and from a text to a pool
   check                  check one file on standard input, by walking
-  maximal                write the longest file that is read";
+  maximal                write the longest file that is read
+kinds: reading writing expression verdicts memory membership replay";
 
 fn main() -> ExitCode {
     let arguments: Vec<String> = std::env::args().skip(1).collect();
@@ -71,67 +57,20 @@ fn main() -> ExitCode {
 fn run(arguments: &[String]) -> Result<(), String> {
     let arguments: Vec<&str> = arguments.iter().map(String::as_str).collect();
     match arguments[..] {
-        ["generate-reading"] => {
+        ["generate", ref kinds @ ..] if !kinds.is_empty() => {
             let mut stream = Vec::new();
-            for case in reading_cases(SEED).cases {
-                put_file(&mut stream, &case.bytes);
+            for kind in kinds {
+                records(kind)?.iter().for_each(|record| put_record(&mut stream, record));
             }
             write(&stream)
         }
-        ["reading"] => answer_files(|file| reading_line(&read(file))),
-        ["coverage"] => tell(reading_coverage(&reading_cases(SEED))),
-        ["generate-verdicts"] => {
-            let mut stream = Vec::new();
-            for case in verdict_cases(SEED) {
-                put_file(&mut stream, &case.bytes);
-            }
-            write(&stream)
-        }
-        ["verdicts"] => {
-            let walked = Cell::new(0);
-            answer_files(|file| line(&verdict(file, &walked)))?;
-            if walked.get() > 0 {
-                eprintln!("{} files were too large to be decided by words and were walked", walked.get());
+        ["answer"] => answer(),
+        ["coverage", ref kinds @ ..] if !kinds.is_empty() => {
+            for kind in kinds {
+                tell(coverage(kind)?)?;
             }
             Ok(())
         }
-        ["coverage-verdicts"] => tell(verdict_coverage(&verdict_cases(SEED))),
-        ["generate-membership"] => {
-            let mut stream = Vec::new();
-            for (_, question) in questions(SEED) {
-                put_question(&mut stream, &question);
-            }
-            write(&stream)
-        }
-        ["membership"] => answer_questions(),
-        ["coverage-membership"] => tell(membership_coverage(&questions(SEED))),
-        ["generate-replay"] => {
-            let mut stream = Vec::new();
-            for case in replay_cases(SEED) {
-                put_replay(&mut stream, &case.replay);
-            }
-            write(&stream)
-        }
-        ["replay"] => answer_replays(),
-        ["coverage-replay"] => tell(replay_coverage(&replay_cases(SEED))),
-        ["generate-writing"] => {
-            let mut stream = Vec::new();
-            for case in writing_cases(SEED) {
-                put_writing(&mut stream, &case.writing);
-            }
-            write(&stream)
-        }
-        ["writing"] => answer_writings(),
-        ["coverage-writing"] => tell(writing_coverage(&writing_cases(SEED))),
-        ["generate-expression"] => {
-            let mut stream = Vec::new();
-            for case in expression_cases(SEED) {
-                put_file(&mut stream, &case.text);
-            }
-            write(&stream)
-        }
-        ["expression"] => answer_files(|text| expression_line(&expression(text).map(|states| Pool::of(&states)))),
-        ["coverage-expression"] => tell(expression_coverage(&expression_cases(SEED))),
         ["check"] => {
             let file = standard_input()?;
             println!("{}", line(&check(&file, &mut Scratch::default())));
@@ -171,6 +110,60 @@ fn run(arguments: &[String]) -> Result<(), String> {
     }
 }
 
+/// A file that resumes and is closed, for the records of memory.
+const RESUMING: [u8; 32] = [
+    6, 1, 1, 0, 0, 1, 1, 2, 0, 0, 2, 0, 0, 0, 1, 0, 1, 0, 1, 0, 0, 2, 0, 1, 0, 1, 1, 1, 0, 0, 1, 0,
+];
+
+/// All records of a kind.
+fn records(kind: &str) -> Result<Vec<Record>, String> {
+    Ok(match kind {
+        "reading" => reading_cases(SEED).cases.into_iter().map(|case| Record::Reading(case.bytes)).collect(),
+        "verdicts" => verdict_cases(SEED).into_iter().map(|case| Record::Verdict(case.bytes)).collect(),
+        "memory" => vec![Record::Memory(RESUMING.to_vec())],
+        "membership" => questions(SEED).into_iter().map(|(_, question)| Record::Question(question)).collect(),
+        "replay" => replay_cases(SEED).into_iter().map(|case| Record::Replay(case.replay)).collect(),
+        "writing" => writing_cases(SEED).into_iter().map(|case| Record::Writing(case.writing)).collect(),
+        "expression" => expression_cases(SEED).into_iter().map(|case| Record::Expression(case.text)).collect(),
+        _ => return Err(format!("{kind} is no kind of record")),
+    })
+}
+
+fn coverage(kind: &str) -> Result<Coverage, String> {
+    match kind {
+        "reading" => Ok(reading_coverage(&reading_cases(SEED))),
+        "verdicts" => Ok(verdict_coverage(&verdict_cases(SEED))),
+        "membership" => Ok(membership_coverage(&questions(SEED))),
+        "replay" => Ok(replay_coverage(&replay_cases(SEED))),
+        "writing" => Ok(writing_coverage(&writing_cases(SEED))),
+        "expression" => Ok(expression_coverage(&expression_cases(SEED))),
+        _ => Err(format!("nothing is asked of the records of {kind}")),
+    }
+}
+
+/// The lines of a record.
+fn lines_of(record: &Record, walked: &Cell<usize>) -> String {
+    match record {
+        Record::Reading(file) => reading_line(&read(file)),
+        Record::Verdict(file) => line(&verdict(file, walked)),
+        Record::Memory(file) => {
+            let short = "refused 2 at 0";
+            [&line(&verdict(file, walked)), short, short, short].join("\n")
+        }
+        Record::Expression(text) => expression_line(&expression(text).map(|states| Pool::of(&states))),
+        Record::Question(Question { file, control_state, contents }) => {
+            membership_line(&membership(file, *control_state, contents))
+        }
+        Record::Replay(asked) => replay_line(&replay(&asked.file, &asked.trace, &asked.lent())),
+        Record::Writing(asked) => {
+            let (flat, product) = asked.tables();
+            let mut buffer = asked.buffer();
+            let reply = write_tables(&flat, product, &mut buffer);
+            writing_line(reply, &buffer)
+        }
+    }
+}
+
 fn tell_agreement(agreement: &Agreement) {
     for (verdict, files) in &agreement.verdicts {
         let long = agreement.verdicts_with_long_words.get(verdict).copied().unwrap_or(0);
@@ -206,50 +199,16 @@ fn fail_on(complaints: &[String]) -> Result<(), String> {
     }
 }
 
-fn answer_files(answer: impl Fn(&[u8]) -> String) -> Result<(), String> {
+fn answer() -> Result<(), String> {
     let stream = standard_input()?;
     let mut records = Records(&stream);
     let mut lines = BufWriter::new(io::stdout().lock());
-    while let Some(file) = records.file() {
-        writeln!(lines, "{}", answer(file?)).map_err(|error| error.to_string())?;
+    let walked = Cell::new(0);
+    while let Some(record) = records.record() {
+        writeln!(lines, "{}", lines_of(&record?, &walked)).map_err(|error| error.to_string())?;
     }
-    lines.flush().map_err(|error| error.to_string())
-}
-
-fn answer_questions() -> Result<(), String> {
-    let stream = standard_input()?;
-    let mut records = Records(&stream);
-    let mut lines = BufWriter::new(io::stdout().lock());
-    while let Some(question) = records.question() {
-        let Question { file, control_state, contents } = question?;
-        let line = membership_line(&membership(&file, control_state, &contents));
-        writeln!(lines, "{line}").map_err(|error| error.to_string())?;
-    }
-    lines.flush().map_err(|error| error.to_string())
-}
-
-fn answer_replays() -> Result<(), String> {
-    let stream = standard_input()?;
-    let mut records = Records(&stream);
-    let mut lines = BufWriter::new(io::stdout().lock());
-    while let Some(asked) = records.replay() {
-        let asked = asked?;
-        let line = replay_line(&replay(&asked.file, &asked.trace, &asked.lent()));
-        writeln!(lines, "{line}").map_err(|error| error.to_string())?;
-    }
-    lines.flush().map_err(|error| error.to_string())
-}
-
-fn answer_writings() -> Result<(), String> {
-    let stream = standard_input()?;
-    let mut records = Records(&stream);
-    let mut lines = BufWriter::new(io::stdout().lock());
-    while let Some(asked) = records.writing() {
-        let asked = asked?;
-        let (flat, product) = asked.tables();
-        let mut buffer = asked.buffer();
-        let reply = write_tables(&flat, product, &mut buffer);
-        writeln!(lines, "{}", writing_line(reply, &buffer)).map_err(|error| error.to_string())?;
+    if walked.get() > 0 {
+        eprintln!("{} files were too large to be decided by words and were walked", walked.get());
     }
     lines.flush().map_err(|error| error.to_string())
 }

@@ -1,8 +1,9 @@
-//! Records of files, questions, replays and writings, one after the other in one run of bytes. Texts are put like files.
+//! Records of files, questions, replays and writings, one after the other in one run of bytes, each behind a byte that says what it is. Texts are put
+//! like files.
 
 use crate::flat::{Flat, SPACE};
 use crate::read::read;
-use crate::replay::{Lent, Record};
+use crate::replay::{Lent, Record as RunRecord};
 
 /// A file record: its length in three bytes, low byte first, then its bytes.
 pub fn put_file(stream: &mut Vec<u8>, file: &[u8]) {
@@ -40,7 +41,7 @@ impl Replay {
     /// What the memory and the record hold before the call.
     pub fn lent(&self) -> Lent {
         let k = usize::from(self.record_from);
-        let record = Record {
+        let record = RunRecord {
             states: [0, 1, 2, 3].map(|i| (k + i) as u8),
             heads: [0, 1, 2, 3].map(|i| 1000 * k + i),
             lengths: [0, 1, 2, 3].map(|i| 2000 * k + i),
@@ -147,6 +148,48 @@ fn put_length(stream: &mut Vec<u8>, length: usize, bytes: usize) {
     stream.extend_from_slice(&length.to_le_bytes()[..bytes]);
 }
 
+/// What is asked, with what it is asked of.
+#[derive(Clone, Debug, PartialEq, Eq)]
+pub enum Record {
+    /// The tables of a file.
+    Reading(Vec<u8>),
+    /// The verdict on a file.
+    Verdict(Vec<u8>),
+    /// The verdict with memory that is just enough, and with each of its three parts one short.
+    Memory(Vec<u8>),
+    /// The pool of a text.
+    Expression(Vec<u8>),
+    Question(Question),
+    Replay(Replay),
+    Writing(Writing),
+}
+
+/// The byte that says what is asked, then the record of it.
+pub fn put_record(stream: &mut Vec<u8>, record: &Record) {
+    let mut put = |tag: u8, file: &[u8]| {
+        stream.push(tag);
+        put_file(stream, file);
+    };
+    match record {
+        Record::Reading(file) => put(b'r', file),
+        Record::Verdict(file) => put(b'v', file),
+        Record::Memory(file) => put(b's', file),
+        Record::Expression(text) => put(b'e', text),
+        Record::Question(question) => {
+            stream.push(b'm');
+            put_question(stream, question);
+        }
+        Record::Replay(replay) => {
+            stream.push(b't');
+            put_replay(stream, replay);
+        }
+        Record::Writing(writing) => {
+            stream.push(b'w');
+            put_writing(stream, writing);
+        }
+    }
+}
+
 /// Takes records off the front of a stream.
 pub struct Records<'a>(pub &'a [u8]);
 
@@ -163,6 +206,23 @@ impl<'a> Records<'a> {
     fn number(&mut self, bytes: usize) -> Result<usize, String> {
         let low_first = self.take(bytes)?;
         Ok(low_first.iter().rev().fold(0, |number, &byte| number << 8 | usize::from(byte)))
+    }
+
+    /// A record behind its byte; none at the end of the stream.
+    pub fn record(&mut self) -> Option<Result<Record, String>> {
+        let (&tag, rest) = self.0.split_first()?;
+        self.0 = rest;
+        let whole = match tag {
+            b'r' => self.file().map(|file| file.map(|file| Record::Reading(file.to_vec()))),
+            b'v' => self.file().map(|file| file.map(|file| Record::Verdict(file.to_vec()))),
+            b's' => self.file().map(|file| file.map(|file| Record::Memory(file.to_vec()))),
+            b'e' => self.file().map(|text| text.map(|text| Record::Expression(text.to_vec()))),
+            b'm' => self.question().map(|question| question.map(Record::Question)),
+            b't' => self.replay().map(|replay| replay.map(Record::Replay)),
+            b'w' => self.writing().map(|writing| writing.map(Record::Writing)),
+            _ => Some(Err(format!("a record begins with byte {tag}"))),
+        };
+        Some(whole.unwrap_or_else(|| Err("the stream ends behind a record's first byte".to_string())))
     }
 
     /// None at the end of the stream.

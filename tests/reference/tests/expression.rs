@@ -12,7 +12,7 @@ use reference_checker::generate::expression::{expression_cases, texts_of_signs};
 use reference_checker::positions::pool_of;
 use reference_checker::read::Refusal;
 use reference_checker::selftest::selftest_expression;
-use reference_checker::stream::{put_file, Records};
+use reference_checker::stream::{put_file, put_record, Record, Records};
 
 /// A state: whether it is final, and its arcs.
 type Drawn<'d> = (bool, &'d [(u8, usize)]);
@@ -328,14 +328,30 @@ fn texts_are_put_like_files() {
 }
 
 #[test]
+fn records_say_what_they_are() {
+    let records = [Record::Reading(b"a".to_vec()), Record::Expression(b"0".to_vec()), Record::Memory(Vec::new())];
+    let mut stream = Vec::new();
+    records.iter().for_each(|record| put_record(&mut stream, record));
+    assert_eq!(stream, b"r\x01\0\0ae\x01\0\x000s\0\0\0");
+    let mut taken = Records(&stream);
+    for record in &records {
+        assert_eq!(taken.record().expect("some bytes are left").as_ref(), Ok(record));
+    }
+    assert!(taken.record().is_none());
+    for broken in [&b"q\0\0\0"[..], b"r", b"r\x01\0\0"] {
+        assert!(Records(broken).record().expect("some bytes are left").is_err());
+    }
+}
+
+#[test]
 fn kept_texts_have_the_same_pools_by_positions() {
-    let stream = std::fs::read(concat!(env!("CARGO_MANIFEST_DIR"), "/../../crates/vectors_expression/stdin"))
+    let stream = std::fs::read(concat!(env!("CARGO_MANIFEST_DIR"), "/../../crates/vectors_tables/stdin"))
         .expect("the stream is kept");
     let mut records = Records(&stream);
     let mut count = 0;
-    while let Some(text) = records.file() {
-        let text = text.expect("a whole record");
-        assert_eq!(pool_of(text), expression(text).map(|states| Pool::of(&states)), "{:?}", text.escape_ascii());
+    while let Some(record) = records.record() {
+        let Record::Expression(text) = record.expect("a whole record") else { continue };
+        assert_eq!(pool_of(&text), expression(&text).map(|states| Pool::of(&states)), "{:?}", text.escape_ascii());
         count += 1;
     }
     assert!(count > 20_000);

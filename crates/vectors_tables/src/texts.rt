@@ -1,0 +1,53 @@
+// What comes of a text: the number of states, the root and a digest of the pool, or the refusal.
+use expression::draw::Drawing;
+use expression::draw::MOST_TEXT;
+use expression::draw::Reply;
+use expression::draw::expression;
+use numbers::put::put_byte;
+use numbers::put::put_word;
+use streams::lent::digest;
+use streams::lines::refused;
+use streams::lines::told;
+use tables::kinds::DiagramState;
+use tables::tables::POOL_ARCS;
+use tables::tables::Pool;
+
+// The count, the final marks and the arcs of a pool.
+const POOL: usize = 1 + DiagramState::LIMIT + POOL_ARCS;
+
+fn digest_of(pool: Pool) -> u64 {
+    let count = pool.count;
+    let finals = pool.finals;
+    let arcs = pool.arcs;
+    let mut all = [0u8; POOL];
+    let second = put_byte(&mut all, 0, count);
+    let third = put_word(&mut all, second, &finals);
+    put_word(&mut all, third, &arcs);
+    digest(&all)
+}
+
+fn drawn(root: DiagramState, pool: Pool) {
+    told(b"pool ", pool.count as usize);
+    told(b" ", root.0 as usize);
+    io::write_all(1, b" ");
+    io::print_decimal(1, digest_of(pool));
+}
+
+fn report(drawing: Drawing) {
+    let reply = drawing.reply;
+    match reply {
+        Reply::Root(root) => {
+            let pool = drawing.pool;
+            drawn(root, pool)
+        }
+        Reply::TooLong => refused(b"refused ", 18, MOST_TEXT),
+        Reply::Outside(place) => refused(b"refused ", 19, place),
+        Reply::Offender(number, place) => refused(b"refused ", number, place),
+        Reply::TooManyStates => refused(b"refused ", 22, 0),
+    }
+}
+
+pub(crate) fn answer(text: &[u8]) -> bool {
+    report(expression(text));
+    io::write_all(1, b"\n")
+}

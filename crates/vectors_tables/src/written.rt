@@ -1,0 +1,19 @@
+// The line of one writing: the reply, and the digest of the whole buffer.
+use streams::lines::refused;
+use streams::lines::told;
+use writing_file::write::Written;
+
+fn reply(written: Written) {
+    match written {
+        Written::Length(length) => told(b"wrote ", length),
+        Written::NotReadable => refused(b"refused ", 16, 0),
+        Written::TooShort => refused(b"refused ", 17, 0),
+    }
+}
+
+pub(crate) fn report(written: Written, digest: u64) {
+    reply(written);
+    io::write_all(1, b" ");
+    io::print_decimal(1, digest);
+    io::write_all(1, b"\n");
+}
