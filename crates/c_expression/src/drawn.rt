@@ -3,6 +3,7 @@ use c_replies::told::Told;
 use c_replies::told::refused;
 use expression::draw::MOST_TEXT;
 use expression::draw::Reply;
+use expression_scan::limits::excess_number;
 use numbers::put::put_word;
 use tables::kinds::DiagramState;
 use tables::tables::POOL_ARCS;
@@ -34,7 +35,7 @@ pub fn tell_drawn(reply: Reply, count: u8) -> Told
         },
         Reply::TooLong => refused(18, MOST_TEXT),
         Reply::Outside(place) => refused(19, place),
-        Reply::Offender(number, place) => refused(number, place),
+        Reply::Offender(excess, place) => refused(excess_number(excess), place),
         Reply::TooManyStates => refused(22, 0),
     }
 }

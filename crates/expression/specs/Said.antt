@@ -6,6 +6,7 @@ use Rattle.tables.specs.Limits.{mostPool}
 use Rattle.tables.specs.Pool.{poolArcs}
 use Rattle.theory_occurrences.specs.Positions.{Automaton}
 use Rattle.expression_parse.specs.declared.parts.Part.{Part}
+use Rattle.expression_scan.specs.Said.{saidExcess}
 use Rattle.expression.specs.Expression.{Drawn, root, refused, mostText}
 use Rattle.expression.specs.Expression as Expression
 use Rattle.expression.specs.declared.draw.Reply.{Reply}
@@ -16,7 +17,7 @@ abbrev pub saidReply : Reply → Expression.Reply
 saidReply (Root s) = root (s .0)
 saidReply TooLong = refused 18 mostText
 saidReply (Outside p) = refused 19 p
-saidReply (Offender k p) = refused k p
+saidReply (Offender o p) = refused (saidExcess o) p
 saidReply TooManyStates = refused 22 0
 
 abbrev pub saidDrawing : Drawing → Drawn

@@ -5,6 +5,7 @@ use expression_parse::parts::Step;
 use expression_pool::fill::fill_arcs;
 use expression_pool::fill::fill_finals;
 use expression_scan::limits::Limit;
+use expression_scan::limits::Excess;
 use expression_scan::limits::check;
 use expression_sets::sets::MOST_OCCURRENCES;
 use expression_sets::sets::marks_of;
@@ -27,8 +28,8 @@ pub enum Reply {
     TooLong,
     // outside the grammar, with the length of the longest beginning that some text of the grammar shares
     Outside(usize),
-    // the leftmost offender against the limits, with its number and place
-    Offender(usize, usize),
+    // the leftmost offence against the limits, and its place
+    Offender(Excess, usize),
     // more states than a diagram may have
     TooManyStates,
 }
@@ -88,7 +89,7 @@ pub fn expression(text: &[u8]) -> Drawing
     match parse(text, &mut label, &mut follow) {
         Step::Stuck(place) => turned_away(Reply::Outside(place)),
         Step::Read(part) => match check(text) {
-            Limit::Passed(number, place) => turned_away(Reply::Offender(number, place)),
+            Limit::Passed(excess, place) => turned_away(Reply::Offender(excess, place)),
             Limit::Kept => draw(part, &follow, &label),
         },
     }

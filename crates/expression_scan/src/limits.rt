@@ -9,7 +9,7 @@ ghost use Prim.Native.Nat.{_+_, _≤_, _<_};
 ghost use lib.Dec.{eqb};
 ghost use lib.ListN.{length, getD, drop};
 ghost use Rattle.theory_grammar.specs.Offends.{offence, limits};
-ghost use Rattle.expression_scan.specs.Said.{saidLimit, When};
+ghost use Rattle.expression_scan.specs.Said.{saidExcess, ExcessNumber, saidLimit, When};
 
 const MOST_DEPTH: usize = 8;
 
@@ -22,10 +22,45 @@ const DEEP: usize = 20;
 
 const MANY: usize = 21;
 
-// All within the limits, or the refusal's number and its place.
+// The limit that a byte passes.
+pub enum Excess {
+    // a number that is no message's
+    Large,
+    // a group in too many groups
+    Deep,
+    // a number after as many as an expression may have
+    Many,
+}
+
+// All within the limits, or what passes one leftmost, and its place.
 pub enum Limit {
     Kept,
-    Passed(usize, usize),
+    Passed(Excess, usize),
+}
+
+// The number of its refusal.
+pub fn excess_number(e: Excess) -> usize
+    ensures { λ r. ⌜ r ≡ saidExcess e ⌝ }
+{
+    match e {
+        Excess::Large => LARGE,
+        Excess::Deep => DEEP,
+        Excess::Many => MANY,
+    }
+}
+
+// The limit that is passed where the refusal has this number.
+fn numbered(n: usize) -> Excess
+    requires { ⌜ ExcessNumber n ⌝ }
+    ensures { λ r. ⌜ saidExcess r ≡ n ⌝ }
+{
+    if n == LARGE {
+        return Excess::Large;
+    }
+    if n == DEEP {
+        return Excess::Deep;
+    }
+    Excess::Many
 }
 
 // The number, if the test holds, and 0 if not.
@@ -84,7 +119,7 @@ pub fn check(s: &[u8]) -> Limit
     while at < s.len() {
         let number = offence(s, at, inside, opened, closed, count);
         if number != KEPT {
-            return Limit::Passed(number, at);
+            return Limit::Passed(numbered(number), at);
         }
         let b = s[at];
         let digit = is_digit(b);

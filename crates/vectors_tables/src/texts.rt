@@ -3,6 +3,7 @@ use expression::draw::Drawing;
 use expression::draw::MOST_TEXT;
 use expression::draw::Reply;
 use expression::draw::expression;
+use expression_scan::limits::excess_number;
 use numbers::put::put_byte;
 use numbers::put::put_word;
 use streams::lent::digest;
@@ -42,7 +43,7 @@ fn report(drawing: Drawing) {
         }
         Reply::TooLong => refused(b"refused ", 18, MOST_TEXT),
         Reply::Outside(place) => refused(b"refused ", 19, place),
-        Reply::Offender(number, place) => refused(b"refused ", number, place),
+        Reply::Offender(excess, place) => refused(b"refused ", excess_number(excess), place),
         Reply::TooManyStates => refused(b"refused ", 22, 0),
     }
 }

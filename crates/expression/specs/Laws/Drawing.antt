@@ -15,7 +15,8 @@ use Rattle.expression_states.specs.Grows.{FoundStates}
 use Rattle.expression_pool.specs.Filled.{entriesFrom, arcEntry, finalMark, poolFor}
 use Rattle.theory_grammar.specs.Parse.{Parsed, stuck, parse}
 use Rattle.theory_grammar.specs.Offends.{mostOccurrences, Limit, kept, passed, limits}
-use Rattle.expression_scan.specs.Said.{saidLimit}
+use Rattle.expression_scan.specs.Said.{saidExcess, saidLimit}
+use Rattle.expression_scan.specs.declared.limits.Excess.{Excess}
 use Rattle.expression_scan.specs.declared.limits.Limit.{Limit as Answer}
 use Rattle.expression_scan.specs.declared.limits.Limit.the-variants.{Kept, Passed}
 use Rattle.expression_parse.specs.Steps.{Parses, Whole, whole, outside}
@@ -95,8 +96,8 @@ module _ {s L F L′ F′ : List ℕ} {p : Part} (short : length s ≤ mostText)
   limited-is : (l : Limit) → saidLimit a ≡ l → limited (w .tree) l ≡ expression s
   limited-is l f = ap (limited (w .tree)) (sym f ∙ checks) ∙ short-is s short (w .is)
 
-  pub offender-is : {k q : ℕ} → a ≡ Passed k q → beside (refused k q) ≡ expression s
-  offender-is {k} {q} f = limited-is (passed k q) (ap saidLimit f)
+  pub offender-is : {o : Excess} {q : ℕ} → a ≡ Passed o q → beside (refused (saidExcess o) q) ≡ expression s
+  offender-is {o} {q} f = limited-is (passed (saidExcess o) q) (ap saidLimit f)
 
   pub drawn-is : a ≡ Kept → L ≡ replicate mostOccurrences 0 → F ≡ replicate mostOccurrences 0 → draw (automatonOf p F′ L′) ≡ expression s
   drawn-is f l o =

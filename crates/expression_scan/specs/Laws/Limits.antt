@@ -2,6 +2,7 @@
 use mathlib.Core.Path.{_≡_, refl, sym, ap, _∙_}
 use mathlib.Core.Bool.{Bool, true, false, cond, not, _&&_}
 use mathlib.Core.List.{List, _∷_}
+use mathlib.Core.Logic.{inl, inr, ⊎-elim}
 use Prim.Native.Nat.{ℕ, zero, suc, _+_, _≤_, _<_}
 use lib.Dec.{leb, ltb, eqb}
 use lib.ListN.{length, getD, drop, drop-of-length-le}
@@ -12,7 +13,7 @@ use Rattle.theory_model.specs.Laws.Basics.{byTest}
 use Rattle.theory_grammar.specs.Parse.{isDigit}
 use Rattle.theory_grammar.specs.Offends.{kept, passed, offence, more, limitsFrom, limits, valueFrom, messageLimit, mostOccurrences, mostDepth}
 use Rattle.theory_occurrences.specs.Positions.{clip}
-use Rattle.expression_scan.specs.Said.{When}
+use Rattle.expression_scan.specs.Said.{ExcessNumber, When}
 use Rattle.expression_scan.specs.Laws.Runs.{drop-byte}
 
 -- the bytes before a place are kept: so many groups were opened and closed there, so many numbers have begun
@@ -77,6 +78,26 @@ module _ (s : List ℕ) (inside : Bool) (opened closed count at : ℕ) where
       k .is
       ∙ rw (b, leb-ltb (closed + mostDepth) opened) (shallow (ltb opened (closed + mostDepth)))
 
+-- A BYTE THAT OFFENDS has one of three numbers
+offends-by : (digit inside small few opens shallow : Bool) {n : ℕ}
+    → n ≡ cond digit (cond inside 0 (cond small (cond few 0 21) 5)) (cond opens (cond shallow 0 20) 0) → (n ≡ 0 → ⊥) → ExcessNumber n
+offends-by true true small few opens shallow e z = absurd (z e)
+offends-by true false true true opens shallow e z = absurd (z e)
+offends-by true false true false opens shallow e z = record { one = inr (inr e) }
+offends-by true false false few opens shallow e z = record { one = inl e }
+offends-by false inside small few true true e z = absurd (z e)
+offends-by false inside small few true false e z = record { one = inr (inl e) }
+offends-by false inside small few false shallow e z = absurd (z e)
+
+offence-number : (inside : Bool) (opened closed count b : ℕ) (u : List ℕ) {n : ℕ} → n ≡ offence inside opened closed count b u → (n ≡ 0 → ⊥)
+    → ExcessNumber n
+offence-number inside opened closed count b u =
+    offends-by (isDigit b) inside (ltb (valueFrom 0 (b ∷ u)) messageLimit) (ltb count mostOccurrences) (eqb b 40) (ltb opened (closed + mostDepth))
+
+-- the last of the three, where it is neither of the others
+pub last-number : {n : ℕ} → ExcessNumber n → (n ≡ 5 → ⊥) → (n ≡ 20 → ⊥) → 21 ≡ n
+last-number e a b = ⊎-elim (λ x. absurd (a x)) (⊎-elim (λ x. absurd (b x)) sym) (e .one)
+
 -- the definition's steps
 module _ (s : List ℕ) (inside : Bool) (opened closed count : ℕ) {at : ℕ} (h : at < length s) where
   on : offence inside opened closed count (getD s at 0) (drop (at + 1) s) ≡ 0
@@ -94,9 +115,12 @@ module _ (s : List ℕ) (inside : Bool) (opened closed count : ℕ) {at : ℕ} (
 
 module _ {s : List ℕ} {inside : Bool} {opened closed count at : ℕ} (C : Checking s inside opened closed count at) where
   -- the first that offends
-  pub checking-stops : {n : ℕ} → at < length s → n ≡ offence inside opened closed count (getD s at 0) (drop (at + 1) s) → (n ≡ 0 → ⊥)
-      → passed n at ≡ limits s
-  checking-stops {n} h e z = sym (stop s inside opened closed count h n (sym e) z) ∙ C .is
+  pub checking-number : {n : ℕ} → n ≡ offence inside opened closed count (getD s at 0) (drop (at + 1) s) → (n ≡ 0 → ⊥) → ExcessNumber n
+  checking-number = offence-number inside opened closed count (getD s at 0) (drop (at + 1) s)
+
+  pub checking-stops : {n k : ℕ} → at < length s → n ≡ offence inside opened closed count (getD s at 0) (drop (at + 1) s) → (n ≡ 0 → ⊥)
+      → k ≡ n → passed k at ≡ limits s
+  checking-stops {n} h e z same = ap (λ k. passed k at) same ∙ sym (stop s inside opened closed count h n (sym e) z) ∙ C .is
 
   pub checking-on : {n : ℕ} → at < length s → n ≡ offence inside opened closed count (getD s at 0) (drop (at + 1) s) → n ≡ 0
       → {digit : Bool} {o c m : ℕ} → digit ≡ isDigit (getD s at 0) → When (eqb (getD s at 0) 40) 1 o

@@ -39,8 +39,8 @@ check-requires : tie.Need-check-requires
 check-requires c κs = search needs
 
 -- src/draw.rt:89:27
-enum-known-number : tie.Need-enum-known-number
-enum-known-number c = search needs
+enum-known-excess : tie.Need-enum-known-excess
+enum-known-excess c = search needs
 
 -- src/draw.rt:89:45
 turned-away-requires-3 : tie.Need-turned-away-requires-3
@@ -60,7 +60,7 @@ returns-2 c = c .turned-away2 .ensures ∙ outside-is (c .before .before .before
 
 -- src/draw.rt:78:1
 returns-3 : tie.Need-returns-3
-returns-3 c = c .turned-away3 .ensures ∙ offender-is (c .before .before .before .before .before .before .before .before .before .before .before .if1 .left) (read-is (c .before .before .before .before .before .before .before .before .parse .ensures) (c .before .before .before .before .before .before .part .given .1)) _ (c .before .before .before .before .check .ensures) (c .before .before .number .given .1)
+returns-3 c = c .turned-away3 .ensures ∙ offender-is (c .before .before .before .before .before .before .before .before .before .before .before .if1 .left) (read-is (c .before .before .before .before .before .before .before .before .parse .ensures) (c .before .before .before .before .before .before .part .given .1)) _ (c .before .before .before .before .check .ensures) (c .before .before .excess .given .1)
 
 -- src/draw.rt:78:1
 returns-4 : tie.Need-returns-4
@@ -77,7 +77,7 @@ expression-spec =
     turned-away-requires-2
     enum-known-part
     check-requires
-    enum-known-number
+    enum-known-excess
     turned-away-requires-3
     enum-told
     draw-requires

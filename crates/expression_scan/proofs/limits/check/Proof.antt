@@ -2,13 +2,14 @@ use borrow.Author.Needs.{needs}
 use native.Mathlib.Omega.{arith}
 use Prim.Native.Nat.{_-_}
 use lib.ListN.{length}
-use Rattle.expression_scan.specs.Laws.Limits.{Checking, checking-begins, checking-on, checking-stops, checking-ends}
+use Rattle.expression_scan.specs.Laws.Limits.{Checking, checking-number, checking-begins, checking-on, checking-stops, checking-ends}
 use Rattle.expression_scan.proofs.limits.check.Statement.{statement}
 use Rattle.expression_scan.proofs.limits.check.Tie as tie
 use Rattle.expression_scan.proofs.limits.check.Reads as reads
 use Rattle.expression_scan.proofs.limits.check.Lts as lts
 use Rattle.expression_scan.proofs.digits.is_digit.Reads as is-digit-reads
 use Rattle.expression_scan.proofs.limits.begins.Reads as begins-reads
+use Rattle.expression_scan.proofs.limits.numbered.Reads as numbered-reads
 use Rattle.expression_scan.proofs.limits.offence.Reads as offence-reads
 use Rattle.expression_scan.proofs.limits.when.Reads as when-reads
 
@@ -27,8 +28,12 @@ offence-requires : tie.Need-offence-requires Inv-loop μ-loop
 offence-requires c κs = (c .loop-test .taken, c .before .loop .inv .closes)
 
 -- src/limits.rt:88:13
+numbered-requires : tie.Need-numbered-requires Inv-loop μ-loop
+numbered-requires c κs = checking-number (c .before .before .before .loop .inv) (c .before .offence .ensures) (c .if1 .taken)
+
+-- src/limits.rt:88:13
 returns : tie.Need-returns Inv-loop μ-loop
-returns c = checking-stops (c .before .before .before .loop .inv) (c .before .before .loop-test .taken) (c .before .offence .ensures) (c .if1 .taken)
+returns c = checking-stops (c .before .before .before .before .loop .inv) (c .before .before .before .loop-test .taken) (c .before .before .offence .ensures) (c .before .if1 .taken) (c .numbered .ensures)
 
 -- src/limits.rt:90:17
 shared-slice-read-b : tie.Need-shared-slice-read-b Inv-loop μ-loop
@@ -91,6 +96,7 @@ check-spec =
     μ-loop
     loop-holds
     offence-requires
+    numbered-requires
     returns
     shared-slice-read-b
     is-digit-requires
