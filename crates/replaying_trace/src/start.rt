@@ -97,12 +97,12 @@ pub(crate) fn start(
     requires { ⌜ Blank (now rows) (now finals) (now arcs) ⌝ }
     ensures { λ b. ⌜ Begins (now (file .entry)) (now (trace .entry)) (now (memory .entry)) r b (tablesIn b (now (rows .exit)) (now (finals .exit)) (now (arcs .exit))) (now (memory .exit)) ⌝ }
 {
-    let head = read_into(file, rows, finals, arcs);
-    let answer = head.answer;
+    let read = read_into(file, rows, finals, arcs);
+    let answer = read.answer;
+    let head = read.head;
     let machines = head.machines;
     let queues = head.queues;
-    let map = head.map;
-    let roots = map.roots;
+    let roots = read.roots;
     let progress = opening(answer, queues.count, trace.len(), memory.len());
     let record = record_for(r, machines, queues, progress.going);
     lay_for(memory, queues, progress.going);
