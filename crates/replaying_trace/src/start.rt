@@ -9,8 +9,8 @@ use reading_file::reading::read_into;
 use replaying_queues::ROOM;
 use replaying_queues::laying::lay_starting;
 use replaying_queues::laying::starting_lengths;
-use replaying_step::frame::Frame;
 use replaying_step::runs::RunRecord;
+use tables::head::Head;
 use tables::kinds::DiagramState;
 use tables::tables::MOST_QUEUES;
 use tables::tables::Machines;
@@ -106,16 +106,17 @@ pub(crate) fn start(
     let progress = opening(answer, queues.count, trace.len(), memory.len());
     let record = record_for(r, machines, queues, progress.going);
     lay_for(memory, queues, progress.going);
-    let frame = Frame {
+    let h = Head {
         machines,
         queues,
         transitions: head.transitions,
-        pool: head.states,
+        states: head.states,
+        bad: 0,
     };
     Begun {
         record,
         progress,
-        frame,
+        head: h,
         roots,
     }
 }
