@@ -15,7 +15,7 @@ use Rattle.theory_model.specs.Session.{inside}
 use Rattle.theory_model.specs.Verdict.{Item, start, outside}
 use Rattle.theory_model.specs.Judge.{decide, judge}
 use Rattle.theory_model.specs.Laws.Deciding.{decide-passes, decide-fails}
-use Rattle.reading_order.specs.Pool.{poolOf}
+use Rattle.theory_tables.specs.Pool.{poolOf}
 use Rattle.theory_files.specs.Tables.{sessionOf}
 use Rattle.theory_files.specs.Laws.Lookup.{along-is, final-is}
 use Rattle.tables.specs.Kinds.{reachedOf}

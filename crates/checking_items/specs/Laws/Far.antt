@@ -14,8 +14,8 @@ use Rattle.tables.specs.declared.tables.Machines.{Machines}
 use Rattle.tables.specs.declared.tables.Queues.{Queues}
 use Rattle.tables.specs.declared.tables.Tables.{Tables}
 use Rattle.reading_file.specs.Valid.{Valid}
-use Rattle.reading_order.specs.Pool.{arcOf}
-use Rattle.reading_order.specs.Laws.Tables.{messages-are}
+use Rattle.theory_tables.specs.Pool.{arcOf}
+use Rattle.theory_tables.specs.Laws.Queues.{messages-are}
 use Rattle.theory_model.specs.Model.{Action, Transition, Between, moved}
 use Rattle.theory_model.specs.Diagram.{howFar, frontOf, restOf}
 use Rattle.theory_model.specs.Session.{Session}

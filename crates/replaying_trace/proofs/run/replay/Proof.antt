@@ -56,8 +56,8 @@ use Rattle.replaying_trace.specs.declared.progress.Ended.{Ended}
 use Rattle.replaying_trace.specs.declared.progress.Begun.{Begun}
 use Rattle.replaying_step.proofs.runs.RunRecord as R
 use Rattle.replaying_step.proofs.runs.RunRecord.Laws as R′
-use Rattle.replaying_step.proofs.frame.Frame as F
-use Rattle.replaying_step.proofs.frame.Frame.Laws as F′
+use Rattle.tables.proofs.head.Head as F
+use Rattle.tables.proofs.head.Head.Laws as F′
 use Rattle.replaying_trace.proofs.progress.Progress as P
 use Rattle.replaying_trace.proofs.progress.Progress.Laws as P′
 use Rattle.replaying_trace.proofs.progress.Ended as E
@@ -104,8 +104,8 @@ module _ (b : Begun) (u : Val) (is : Is B.the-row b (u ∷ [])) where
   progress-is : Is P.the-row (b .progress) (P′.lowered (b .progress) ∷ [])
   progress-is = as-lowered P.the-row P′.lowers (b .progress) _ (is .1 .1 .1 .0)
 
-  frame-is : Is F.the-row (b .frame) (F′.lowered (b .frame) ∷ [])
-  frame-is = as-lowered F.the-row F′.lowers (b .frame) _ (is .1 .1 .1 .1 .0)
+  head-is : Is F.the-row (b .head) (F′.lowered (b .head) ∷ [])
+  head-is = as-lowered F.the-row F′.lowers (b .head) _ (is .1 .1 .1 .1 .0)
 
   roots-is : Is (Array u8 mostControls) (b .roots) (arrayVal (map (λ x. vint w8 x) (b .roots)) ∷ [])
   roots-is = Local.of-field mostControls (b .roots) _ (is .1 .1 .1 .1 .1 .0)
@@ -270,7 +270,7 @@ module _ {M : Type 1} (𝓤 : URA M) (H : Heap 𝓤) (A : Atoms 𝓤) (W : Given
       κr = κr;
       qr = qr;
       lent = at-last r (b .record);
-      frame = b .frame;
+      head = b .head;
       rows = Local.read rowsLength lr (x .0) (ys .0);
       finals = Local.read mostPool lf (x .1) (ys .1);
       arcs = Local.read poolArcs la (x .2) (ys .2);
@@ -314,7 +314,7 @@ module _ {M : Type 1} (𝓤 : URA M) (H : Heap 𝓤) (A : Atoms 𝓤) (W : Given
         nothing ! $ move ! (14 ∷ 0 ∷ []) $ fjoin ! $ move ! (2 ∷ 0 ∷ []) $ fjoin ! $ move ! (4 ∷ 0 ∷ []) $ fjoin ! $ move ! (6 ∷ 0 ∷ []) $ fjoin ! $ move ! (8 ∷ 0 ∷ []) $ fjoin ! $
         nothing ! $ move ! (14 ∷ 0 ∷ []) $ fjoin ! $ move ! (2 ∷ 0 ∷ []) $ fjoin ! $ move ! (3 ∷ 0 ∷ []) $ fjoin ! $ move ! (4 ∷ 0 ∷ []) $ fjoin ! $ move ! (5 ∷ 0 ∷ []) $ fjoin ! $
         move ! (7 ∷ 8 ∷ []) $ feqI ! (List Val) (ptr-vals r) (ptr-vals r) refl $ fjoin3 ! $ move ! (8 ∷ 2 ∷ 10 ∷ 0 ∷ 1 ∷ 9 ∷ []) $ group ! 6 $
-        use1 W (raw (Run 𝓤 H A at-mem run .pre (to-run (α, β, ζ, η)))) (Lent.goes (call (α, β, ζ, η)) 𝓤 H A W (run′.clauses 𝓤 H A at-mem run) (span memory) tt (factI 𝓤 _ (emp 𝓤) (begins-ready begins)) (frame-is b v b-is) (progress-is b v b-is)) $
+        use1 W (raw (Run 𝓤 H A at-mem run .pre (to-run (α, β, ζ, η)))) (Lent.goes (call (α, β, ζ, η)) 𝓤 H A W (run′.clauses 𝓤 H A at-mem run) (span memory) tt (factI 𝓤 _ (emp 𝓤) (begins-ready begins)) (head-is b v b-is) (progress-is b v b-is)) $
         move ! (0 ∷ 5 ∷ 4 ∷ 3 ∷ 2 ∷ 1 ∷ []) $ at-once ! $ show ! (λ (x : Four). mean 𝓤 H A (Lent′ x)) (α, β, ζ, η) $ done !))))
 
     abbrev AtRun : Val → Progress → RunRecord → List ℕ → Item 𝓤
@@ -419,7 +419,7 @@ module _ {M : Type 1} (𝓤 : URA M) (H : Heap 𝓤) (A : Atoms 𝓤) (W : Given
         -- [the memory, tokens and the arrays; the record's cell; the open borrow; obs; auth; _29; …; _0; …; the trace]
         land ! (from ! (stop !)) (init ! 47 refl (LL.lawful B.the-type B′.the-laws 𝓤 H A W .typed b _ (e .0) .0)) $ rewrite ! 47 (λ (w : Val). ‵ (fat fullShare B′.mir l₈ 0 w)) (ap only (B′.lowers .val-is b _ (e .0))) refl $
         assigns ! (of-opd ! (part-of ! 47 Fields 0 R′.mir 0 refl refl refl)) (from ! (hop ! (look ! 58 refl) (stop !))) (store-raw ! 1 refl (LL.lawful R.the-type R′.the-laws 𝓤 H A W .typed (b .record) _ (record-is b v (e .0)) .0)) $
-        assigns ! (of-opd ! (part-of ! 47 Fields 2 F′.mir 120 refl refl refl)) (from ! (stop !)) (init ! 45 refl (LL.lawful F.the-type F′.the-laws 𝓤 H A W .typed (b .frame) _ (frame-is b v (e .0)) .0)) $
+        assigns ! (of-opd ! (part-of ! 47 Fields 2 F′.mir 120 refl refl refl)) (from ! (stop !)) (init ! 45 refl (LL.lawful F.the-type F′.the-laws 𝓤 H A W .typed (b .head) _ (head-is b v (e .0)) .0)) $
         assigns ! (of-opd ! (part-of ! 47 Fields 3 (tyArray (tyInt w8) mostControls) 192 refl refl refl)) (from ! (stop !)) (init ! 43 refl (array-lawful 𝓤 H A W u8 (uint-lawful 𝓤 H A W w8) mostControls .typed (b .roots) _ (roots-is b v (e .0)) .0)) $
         assigns ! (of-opd ! (part-of ! 47 Fields 1 P′.mir 72 refl refl refl)) (from ! (stop !)) (init ! 41 refl (LL.lawful P.the-type P′.the-laws 𝓤 H A W .typed (b .progress) _ (progress-is b v (e .0)) .0)) $
         owned ! R.the-row (Is R.the-row) (LL.makes R.the-type R′.the-plain 𝓤 H A) (b .record) _ (record-is b v (e .0)) $ move ! (2 ∷ 0 ∷ 3 ∷ 4 ∷ 5 ∷ []) $ closes ! tt R.the-row (b .record) (R′.lowered (b .record) ∷ []) (r .ptr .0) (r .ptr .1) $

@@ -43,8 +43,8 @@ use Rattle.replaying_step.specs.declared.runs.RunRecord.{RunRecord}
 use Rattle.replaying_trace.specs.declared.progress.Progress.{Progress}
 use Rattle.replaying_step.proofs.runs.RunRecord as R
 use Rattle.replaying_step.proofs.runs.RunRecord.Laws as R′
-use Rattle.replaying_step.proofs.frame.Frame as F
-use Rattle.replaying_step.proofs.frame.Frame.Laws as F′
+use Rattle.tables.proofs.head.Head as F
+use Rattle.tables.proofs.head.Head.Laws as F′
 use Rattle.replaying_trace.proofs.progress.Progress as P
 use Rattle.replaying_trace.proofs.progress.Progress.Laws as P′
 use Rattle.replaying_trace.proofs.Calls.{span, holds, as-lowered, told, freed}
@@ -243,14 +243,14 @@ module _ {M : Type 1} (𝓤 : URA M) (H : Heap 𝓤) (A : Atoms 𝓤) (W : Given
 
   module _ (C : Calls 𝓤 H) (Λ : Loops 𝓤 H) (fm : FmC 𝓤 H (W .laws) C) (known : Triple 𝓤 (C #replaying-trace·turn·turn) (Turn 𝓤 H A at-mem run)) where
     walk : Asked → Are (typesAt (step′.signature .params) κs) (Ises (typesAt (step′.signature .params) κs)) a vals
-        → ent 𝓤 (onEntry 𝓤 H A step′.signature κs qs a vals) (WpFn 𝓤 H C Λ code.function (vptr b o ∷ F′.lowered (d .frame) ∷ d .rows .val ∷ d .finals .val ∷ d .arcs .val ∷ d .roots .val ∷ d .trace .val ∷ span memory ∷ P′.lowered (d .progress) ∷ []) Post)
+        → ent 𝓤 (onEntry 𝓤 H A step′.signature κs qs a vals) (WpFn 𝓤 H C Λ code.function (vptr b o ∷ F′.lowered (d .head) ∷ d .rows .val ∷ d .finals .val ∷ d .arcs .val ∷ d .roots .val ∷ d .trace .val ∷ span memory ∷ P′.lowered (d .progress) ∷ []) Post)
     walk ready are =
         let m-is = are .1 .1 .1 .1 .1 .1 .1 .0 in
         let m-fits = m-is .0 .1 .0 in
         qed W ((‵ (flft (d .κr) (d .qr)) ⊛ Tokens) ∷ ‵ (fsep (OwnR (r .now)) Rest) ∷ []) ∵
-        split ! $ move ! (2 ∷ []) $ fsplit ! $ enter ! C Λ code.function (vptr b o ∷ F′.lowered (d .frame) ∷ d .rows .val ∷ d .finals .val ∷ d .arcs .val ∷ d .roots .val ∷ d .trace .val ∷ span memory ∷ P′.lowered (d .progress) ∷ []) _ $
+        split ! $ move ! (2 ∷ []) $ fsplit ! $ enter ! C Λ code.function (vptr b o ∷ F′.lowered (d .head) ∷ d .rows .val ∷ d .finals .val ∷ d .arcs .val ∷ d .roots .val ∷ d .trace .val ∷ span memory ∷ P′.lowered (d .progress) ∷ []) _ $
         alloc1 ! (λ l₀. alloc1 ! (λ l₁. alloc1 ! (λ l₂. alloc1 ! (λ l₃. alloc1 ! (λ l₄. alloc1 ! (λ l₅. alloc1 ! (λ l₆. alloc1 ! (λ l₇. alloc1 ! (λ l₈. alloc1 ! (λ l₉. alloc1 ! (λ l₁₀. alloc1 ! (λ l₁₁. alloc1 ! (λ l₁₂. alloc1 ! (λ l₁₃. alloc1 ! (λ l₁₄. alloc0 ! $ params1 ! $
-        pass1 ! (init ! 26 refl (tt, tt)) $ pass1 ! (init ! 24 refl (LL.lawful F.the-type F′.the-laws 𝓤 H A W .typed (d .frame) _ (are .1 .0) .0)) $ pass1 ! (init ! 22 refl (read-typed 𝓤 H A W (named 1) (d .rows) (are .1 .1 .0))) $
+        pass1 ! (init ! 26 refl (tt, tt)) $ pass1 ! (init ! 24 refl (LL.lawful F.the-type F′.the-laws 𝓤 H A W .typed (d .head) _ (are .1 .0) .0)) $ pass1 ! (init ! 22 refl (read-typed 𝓤 H A W (named 1) (d .rows) (are .1 .1 .0))) $
         pass1 ! (init ! 20 refl (read-typed 𝓤 H A W (named 2) (d .finals) (are .1 .1 .1 .0))) $ pass1 ! (init ! 18 refl (read-typed 𝓤 H A W (named 3) (d .arcs) (are .1 .1 .1 .1 .0))) $ pass1 ! (init ! 16 refl (read-typed 𝓤 H A W (named 4) (d .roots) (are .1 .1 .1 .1 .1 .0))) $ pass1 ! (init ! 14 refl (read-typed 𝓤 H A W (named 5) (d .trace) (are .1 .1 .1 .1 .1 .1 .0))) $
         pass1 ! (init ! 12 refl (mut-slice-lawful 𝓤 H A W (named 6) (d .κm) u8 .typed memory _ m-is .0)) $ pass1 ! (init ! 10 refl (LL.lawful P.the-type P′.the-laws 𝓤 H A W .typed (d .progress) _ (are .1 .1 .1 .1 .1 .1 .1 .1 .0) .0)) $ pass0 ! $
         -- [_14; …; _0; …; the record; what the rest own; the record's token; the other tokens]
