@@ -5,6 +5,9 @@ use expression::draw::MOST_TEXT;
 use expression::draw::Reply;
 use expression_scan::limits::excess_number;
 use numbers::put::put_word;
+use numbers::refusal::OUTSIDE_GRAMMAR;
+use numbers::refusal::TEXT_TOO_LONG;
+use numbers::refusal::TOO_MANY_STATES;
 use tables::kinds::DiagramState;
 use tables::tables::POOL_ARCS;
 use tables::tables::Pool;
@@ -33,10 +36,10 @@ pub fn tell_drawn(reply: Reply, count: u8) -> Told
             third: 0,
             fourth: 0,
         },
-        Reply::TooLong => refused(18, MOST_TEXT),
-        Reply::Outside(place) => refused(19, place),
+        Reply::TooLong => refused(TEXT_TOO_LONG, MOST_TEXT),
+        Reply::Outside(place) => refused(OUTSIDE_GRAMMAR, place),
         Reply::Offender(excess, place) => refused(excess_number(excess), place),
-        Reply::TooManyStates => refused(22, 0),
+        Reply::TooManyStates => refused(TOO_MANY_STATES, 0),
     }
 }
 

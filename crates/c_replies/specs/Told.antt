@@ -12,6 +12,7 @@ use Rattle.numbers.specs.Said.{numberOf, placeOf}
 use Rattle.verdicts.specs.declared.verdict.Verdict.{Verdict}
 use Rattle.verdicts.specs.declared.verdict.Verdict.the-variants.{Closed, Outside, Leaves, Bad, Refused, ShortMemory}
 use Rattle.c_replies.specs.declared.told.Told.{Told}
+use Rattle.numbers.specs.Refusals.{shortMemory}
 
 -- the kinds
 abbrev pub CLOSED : ℕ
@@ -82,7 +83,7 @@ toldVerdict Outside = toldOf OUTSIDE 0 0 0 0
 toldVerdict (Leaves c t n f) = toldOf LEAVES (c .0) t n f
 toldVerdict (Bad b n) = toldOf BAD b n 0 0
 toldVerdict (Refused why) = toldRefusal (numberOf why) (placeOf why)
-toldVerdict ShortMemory = toldRefusal 2 0
+toldVerdict ShortMemory = toldRefusal shortMemory 0
 
 -- the reply's space needs so many entries, and the numbers fill its front
 abbrev pub replyLeast : ℕ

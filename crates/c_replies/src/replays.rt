@@ -3,6 +3,10 @@ use crate::told::Told;
 use crate::told::counted;
 use crate::told::tell_refusal;
 use numbers::refusal::MOST_BYTES;
+use numbers::refusal::NOT_POSSIBLE;
+use numbers::refusal::QUEUE_FULL;
+use numbers::refusal::SHORT_MEMORY;
+use numbers::refusal::TOO_LONG;
 use numbers::refusal::number;
 use numbers::refusal::place;
 use replaying_step::runs::RunRecord;
@@ -59,19 +63,19 @@ pub fn tell_replay(e: Ended) -> Told
             fourth: 0,
         },
         Stop::Unread(refusal) => step_refused(number(refusal), place(refusal), steps),
-        Stop::NotPossible(at) => step_refused(14, at, steps),
-        Stop::NoRoom(at) => step_refused(15, at, steps),
+        Stop::NotPossible(at) => step_refused(NOT_POSSIBLE, at, steps),
+        Stop::NoRoom(at) => step_refused(QUEUE_FULL, at, steps),
         Stop::FileRefused(refusal) => tell_refusal(refusal),
         Stop::TraceTooLong => Told {
             kind: TRACE_REFUSED,
-            first: 1,
+            first: TOO_LONG,
             second: MOST_BYTES,
             third: 0,
             fourth: 0,
         },
         Stop::MemoryShort => Told {
             kind: MEMORY_REFUSED,
-            first: 2,
+            first: SHORT_MEMORY,
             second: 0,
             third: 0,
             fourth: 0,

@@ -1,7 +1,13 @@
 // What a call tells: the kind of its reply, and up to four numbers that go with it.
 use membership::reply::Member;
 use numbers::number::wide;
+use numbers::refusal::BUFFER_SHORT;
+use numbers::refusal::EARLIER_QUEUE;
+use numbers::refusal::NO_CONTROL;
+use numbers::refusal::NO_MESSAGE;
+use numbers::refusal::NOT_READABLE;
 use numbers::refusal::Refusal;
+use numbers::refusal::SHORT_MEMORY;
 use numbers::refusal::number;
 use numbers::refusal::place;
 use verdicts::verdict::Verdict;
@@ -111,7 +117,7 @@ pub fn tell_verdict(v: Verdict) -> Told
             fourth: 0,
         },
         Verdict::Refused(why) => tell_refusal(why),
-        Verdict::ShortMemory => refused(2, 0),
+        Verdict::ShortMemory => refused(SHORT_MEMORY, 0),
     }
 }
 
@@ -122,9 +128,9 @@ pub fn tell_member(m: Member) -> Told
         Member::Yes(far) => counted(YES, far),
         Member::No(far) => counted(NO, far),
         Member::Unread(why) => tell_refusal(why),
-        Member::NoControl => refused(11, 0),
-        Member::NoMessage(at) => refused(12, at),
-        Member::EarlierQueue(at) => refused(13, at),
+        Member::NoControl => refused(NO_CONTROL, 0),
+        Member::NoMessage(at) => refused(NO_MESSAGE, at),
+        Member::EarlierQueue(at) => refused(EARLIER_QUEUE, at),
     }
 }
 
@@ -133,8 +139,8 @@ pub fn tell_written(w: Written) -> Told
 {
     match w {
         Written::Length(length) => counted(WRITTEN, length),
-        Written::NotReadable => refused(16, 0),
-        Written::TooShort => refused(17, 0),
+        Written::NotReadable => refused(NOT_READABLE, 0),
+        Written::TooShort => refused(BUFFER_SHORT, 0),
     }
 }
 

@@ -13,6 +13,7 @@ use Rattle.writing_file.specs.Write.{restored, WriteReply, refusal, writeReply,
 use Rattle.writing_file.specs.declared.write.Written.{Written}
 use Rattle.c_tables.specs.Flat.{flat, tablesLeast}
 use Rattle.c_tables.specs.Taken.{tablesAt}
+use Rattle.numbers.specs.Refusals.{notReadable}
 
 -- are there bytes enough, and do their tables come back?
 abbrev pub restoredAt : List ℕ → Bool
@@ -25,4 +26,4 @@ writeReplyAt tables buffer = writeReply (restoredAt tables) (spelled (tablesAt t
 pub record WritesFlat (tables entry : List ℕ) (r : Written) (exit : List ℕ) : Type 0 where
   pub reply : saidWritten r ≡ writeReplyAt tables entry
   pub buffer : exit ≡ bufferAfter (writeReplyAt tables entry) (spelled (tablesAt tables)) entry
-  pub unread : (saidWritten r ≡ refusal 16 0) ↔ ((T : Tables) → Readable T → take tablesLeast tables ≡ flat T → ⊥)
+  pub unread : (saidWritten r ≡ refusal notReadable 0) ↔ ((T : Tables) → Readable T → take tablesLeast tables ≡ flat T → ⊥)

@@ -4,6 +4,7 @@ use crate::put::put_spaced;
 use numbers::number::wide;
 use numbers::put::put_byte;
 use numbers::put::put_word;
+use numbers::refusal::SHORT_MEMORY;
 use numbers::refusal::number;
 use numbers::refusal::place;
 use verdicts::verdict::Verdict;
@@ -124,6 +125,6 @@ pub fn write_line(buffer: &mut [u8], verdict: Verdict, contents: &[u8]) -> usize
             let at = place(why);
             write_refused(buffer, cause, at)
         }
-        Verdict::ShortMemory => write_refused(buffer, 2, 0),
+        Verdict::ShortMemory => write_refused(buffer, SHORT_MEMORY, 0),
     }
 }

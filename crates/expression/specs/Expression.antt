@@ -13,6 +13,7 @@ use Rattle.theory_grammar.specs.Offends.{Limit, kept, passed, limits}
 use Rattle.theory_occurrences.specs.Positions.{Automaton, automaton}
 use Rattle.expression_states.specs.States.{statesFrom}
 use Rattle.expression_pool.specs.Filled.{poolFor}
+use Rattle.numbers.specs.Refusals.{textTooLong, outsideGrammar, tooManyStates}
 
 -- bytes of a text
 abbrev pub mostText : ℕ
@@ -36,7 +37,7 @@ states A = statesFrom (A .first) (A .follow) (A .label)
 
 -- are there more states than a diagram may have?
 abbrev pub numbered : Bool → Automaton → Drawn
-numbered true A = turnedAway 22 0
+numbered true A = turnedAway tooManyStates 0
 numbered false A = record { reply = root 0; pool = poolFor A (states A) }
 
 abbrev pub draw : Automaton → Drawn
@@ -48,11 +49,11 @@ limited t (passed k p) = turnedAway k p
 
 abbrev pub read : List ℕ → Parsed → Drawn
 read s (parsed t) = limited t (limits s)
-read s (stuck left) = turnedAway 19 (length s - left)
+read s (stuck left) = turnedAway outsideGrammar (length s - left)
 
 -- is it longer than a text may be?
 abbrev pub measured : Bool → List ℕ → Drawn
-measured true s = turnedAway 18 mostText
+measured true s = turnedAway textTooLong mostText
 measured false s = read s (parse s)
 
 unfoldable pub expression : List ℕ → Drawn

@@ -19,6 +19,7 @@ use Rattle.theory_grammar.specs.Offends.{Offends, Leftmost}
 use Rattle.theory_occurrences.specs.Sets.{has}
 use Rattle.theory_occurrences.specs.EndsOn.{EndsOn}
 use Rattle.expression.specs.Expression.{root, mostText, turnedAway, expression}
+use Rattle.numbers.specs.Refusals.{textTooLong, outsideGrammar, tooManyStates}
 
 -- a pool and its root, which is state 0
 abbrev pub Draws : List ℕ → Declared.Pool → Type 0
@@ -37,11 +38,11 @@ pub record OneTree (s : List ℕ) : Type 0 where
 
 -- 18: too long
 abbrev pub TooLong : Type 0
-TooLong = (s : List ℕ) → (expression s ≡ turnedAway 18 mostText) ↔ (mostText < length s)
+TooLong = (s : List ℕ) → (expression s ≡ turnedAway textTooLong mostText) ↔ (mostText < length s)
 
 -- 19: outside the grammar, at the longest beginning that some text of the grammar shares
 abbrev pub OutsideIs : Type 0
-OutsideIs = (s : List ℕ) → length s ≤ mostText → (p : ℕ) → (expression s ≡ turnedAway 19 p) ↔ Outside s p
+OutsideIs = (s : List ℕ) → length s ≤ mostText → (p : ℕ) → (expression s ≡ turnedAway outsideGrammar p) ↔ Outside s p
 
 -- 5, 20 and 21: the leftmost offender of a text of the grammar
 abbrev pub LeftmostIs : Type 0
@@ -61,7 +62,7 @@ StateOf t x = (x ≡ 0) ⊎ EndSet t x
 -- 22: more of them than a diagram may have
 abbrev pub TooManyStates : Type 0
 TooManyStates = (s : List ℕ) → length s ≤ mostText → (t : Tree) → Text s t → ((k p : ℕ) → Offends s k p → ⊥)
-    → (expression s ≡ turnedAway 22 0) ↔ ((n : ℕ) × Size (StateOf t) n × (mostPool < n))
+    → (expression s ≡ turnedAway tooManyStates 0) ↔ ((n : ℕ) × Size (StateOf t) n × (mostPool < n))
 
 -- else there is a pool, with a state for each of them
 abbrev pub DrawnElse : Type 0

@@ -12,13 +12,14 @@ use Rattle.expression.specs.Expression as Expression
 use Rattle.expression.specs.declared.draw.Reply.{Reply}
 use Rattle.expression.specs.declared.draw.Reply.the-variants.{Root, TooLong, Outside, Offender, TooManyStates}
 use Rattle.expression.specs.declared.draw.Drawing.{Drawing}
+use Rattle.numbers.specs.Refusals.{textTooLong, outsideGrammar, tooManyStates}
 
 abbrev pub saidReply : Reply → Expression.Reply
 saidReply (Root s) = root (s .0)
-saidReply TooLong = refused 18 mostText
-saidReply (Outside p) = refused 19 p
+saidReply TooLong = refused textTooLong mostText
+saidReply (Outside p) = refused outsideGrammar p
 saidReply (Offender o p) = refused (saidExcess o) p
-saidReply TooManyStates = refused 22 0
+saidReply TooManyStates = refused tooManyStates 0
 
 abbrev pub saidDrawing : Drawing → Drawn
 saidDrawing d = record { reply = saidReply (d .reply); pool = d .pool }

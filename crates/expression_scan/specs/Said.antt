@@ -8,12 +8,13 @@ use Rattle.expression_scan.specs.declared.limits.Excess.{Excess}
 use Rattle.expression_scan.specs.declared.limits.Excess.the-variants.{Large, Deep, Many}
 use Rattle.expression_scan.specs.declared.limits.Limit.{Limit as Answer}
 use Rattle.expression_scan.specs.declared.limits.Limit.the-variants.{Kept, Passed}
+use Rattle.numbers.specs.Refusals.{outOfRange, tooDeep, tooManyNumbers}
 
 -- the number of its refusal
 abbrev pub saidExcess : Excess → ℕ
-saidExcess Large = 5
-saidExcess Deep = 20
-saidExcess Many = 21
+saidExcess Large = outOfRange
+saidExcess Deep = tooDeep
+saidExcess Many = tooManyNumbers
 
 pub record ExcessNumber (n : ℕ) : Type 0 where
   pub one : (n ≡ 5) ⊎ ((n ≡ 20) ⊎ (n ≡ 21))

@@ -3,6 +3,9 @@ use crate::digits::MESSAGE_LIMIT;
 use crate::digits::is_digit;
 use crate::digits::run_at;
 use expression_sets::sets::MOST_OCCURRENCES;
+use numbers::refusal::OUT_OF_RANGE;
+use numbers::refusal::TOO_DEEP;
+use numbers::refusal::TOO_MANY_NUMBERS;
 ghost use mathlib.Core.Path.{_≡_};
 ghost use mathlib.Core.Bool.{cond, not, _&&_};
 ghost use Prim.Native.Nat.{_+_, _≤_, _<_};
@@ -13,14 +16,8 @@ ghost use Rattle.expression_scan.specs.Said.{saidExcess, ExcessNumber, s
 
 const MOST_DEPTH: usize = 8;
 
-// The refusals' numbers, and 0 where there is none.
+// No refusal has this number.
 const KEPT: usize = 0;
-
-const LARGE: usize = 5;
-
-const DEEP: usize = 20;
-
-const MANY: usize = 21;
 
 // The limit that a byte passes.
 pub enum Excess {
@@ -43,9 +40,9 @@ pub fn excess_number(e: Excess) -> usize
     ensures { λ r. ⌜ r ≡ saidExcess e ⌝ }
 {
     match e {
-        Excess::Large => LARGE,
-        Excess::Deep => DEEP,
-        Excess::Many => MANY,
+        Excess::Large => OUT_OF_RANGE,
+        Excess::Deep => TOO_DEEP,
+        Excess::Many => TOO_MANY_NUMBERS,
     }
 }
 
@@ -54,10 +51,10 @@ fn numbered(n: usize) -> Excess
     requires { ⌜ ExcessNumber n ⌝ }
     ensures { λ r. ⌜ saidExcess r ≡ n ⌝ }
 {
-    if n == LARGE {
+    if n == OUT_OF_RANGE {
         return Excess::Large;
     }
-    if n == DEEP {
+    if n == TOO_DEEP {
         return Excess::Deep;
     }
     Excess::Many
@@ -90,14 +87,14 @@ fn offence(s: &[u8], at: usize, inside: bool, opened: usize, closed: usize, coun
             return KEPT;
         }
         let run = run_at(s, at);
-        let large = when(MESSAGE_LIMIT <= run.value, LARGE);
-        let many = when(MOST_OCCURRENCES <= count, MANY);
+        let large = when(MESSAGE_LIMIT <= run.value, OUT_OF_RANGE);
+        let many = when(MOST_OCCURRENCES <= count, TOO_MANY_NUMBERS);
         return earlier(large, many);
     }
     if b != b'(' {
         return KEPT;
     }
-    when(closed + MOST_DEPTH <= opened, DEEP)
+    when(closed + MOST_DEPTH <= opened, TOO_DEEP)
 }
 
 // Does a number begin: a digit with none before it?

@@ -10,6 +10,7 @@ use Rattle.theory_model.specs.Model.{total, queueOf, controls}
 use Rattle.theory_model.specs.Diagram.{Pool, along, howFar, isFinal}
 use Rattle.theory_model.specs.Session.{Session}
 use Rattle.theory_files.specs.Tables.{sessionOf}
+use Rattle.numbers.specs.Refusals.{noControl, noMessage, earlierQueue}
 
 -- yes or no, with how far the contents are followed (document 02, change 7), or a refusal: its number in document 01 and its place
 pub data MemberReply : Type 0 where
@@ -27,9 +28,9 @@ unfoldable pub judge : List ℕ → Pool → ℕ → ℕ → ℕ → Option ℕ 
 judge ns P far place queue s [] = answer (isFinal P s) far
 judge ns P far place queue s (m ∷ u) =
     elim (ltb m (total ns)) [
-      | false ↦ refusal 12 place
+      | false ↦ refusal noMessage place
       | true ↦ elim (leb queue (queueOf ns m)) [
-        | false ↦ refusal 13 place
+        | false ↦ refusal earlierQueue place
         | true ↦ judge ns P far (place + 1) (queueOf ns m) (along P s m) u
       ]
     ]
@@ -38,7 +39,7 @@ judge ns P far place queue s (m ∷ u) =
 unfoldable pub ask : Session → ℕ → List ℕ → MemberReply
 ask S c contents =
     elim (ltb c (controls (S .model))) [
-      | false ↦ refusal 11 0
+      | false ↦ refusal noControl 0
       | true ↦ judge (S .model .queues) (S .pool) (howFar (S .pool) (S .root c) contents) 0 0 (S .root c) contents
     ]
 

@@ -1,4 +1,5 @@
 pub mod Limits
+pub mod Refusals
 pub mod Part
 pub mod Said
 pub mod Number

@@ -13,19 +13,20 @@ use Rattle.numbers.specs.declared.number.Pair.{Pair}
 use Rattle.numbers.specs.declared.number.Pair.the-variants.{Values, Refused as PairRefused}
 use Rattle.numbers.specs.declared.number.Filled.{Filled}
 use Rattle.numbers.specs.declared.number.Filled.the-variants.{To, Refused as FilledRefused}
+use Rattle.numbers.specs.Refusals.{tooLong, endsEarly, notShortest, outOfRange, passesLimit, otherQueue, notAscending, notInQueueOrder, trailing, startsEmpty}
 
 -- a refusal's number in the table of document 01, "When a file or a question is turned away", and of document 02, change 8
 abbrev pub numberOf : Refusal → ℕ
-numberOf TooLong = 1
-numberOf (Ends p) = 3
-numberOf (NotShortest p) = 4
-numberOf (OutOfRange p) = 5
-numberOf (PassesLimit p) = 6
-numberOf (OtherQueue p) = 7
-numberOf (NotAscending p) = 8
-numberOf (NotInQueueOrder p) = 9
-numberOf (Trailing p) = 10
-numberOf StartsEmpty = 23
+numberOf TooLong = tooLong
+numberOf (Ends p) = endsEarly
+numberOf (NotShortest p) = notShortest
+numberOf (OutOfRange p) = outOfRange
+numberOf (PassesLimit p) = passesLimit
+numberOf (OtherQueue p) = otherQueue
+numberOf (NotAscending p) = notAscending
+numberOf (NotInQueueOrder p) = notInQueueOrder
+numberOf (Trailing p) = trailing
+numberOf StartsEmpty = startsEmpty
 
 -- and its place
 abbrev pub placeOf : Refusal → ℕ

@@ -8,11 +8,12 @@ use Rattle.tables.specs.Limits.{mostMachines, mostStates, mostControls}
 use Rattle.numbers.specs.Part.{Part, got, provided, andThen}
 use Rattle.numbers.specs.Number.{readWithin, readBelow}
 use Rattle.tables.specs.declared.tables.Machines.{Machines}
+use Rattle.numbers.specs.Refusals.{passesLimit}
 
 -- how many states a machine has: with those before it the product passes no limit
 unfoldable pub readFactor : List ℕ → ℕ → ℕ → Part ℕ
 readFactor s at product =
-    andThen (readWithin s at 1 mostStates) (λ v next. provided (leb (product * v) mostControls) 6 at (got v next))
+    andThen (readWithin s at 1 mostStates) (λ v next. provided (leb (product * v) mostControls) passesLimit at (got v next))
 
 -- the states of the machines from number i on, and the product
 unfoldable pub readSizes : List ℕ → ℕ → ℕ → ℕ → ℕ → List ℕ → Part (ℕ × List ℕ)

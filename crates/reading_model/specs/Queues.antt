@@ -11,11 +11,12 @@ use Rattle.numbers.specs.Part.{Part, got, provided, andThen}
 use Rattle.numbers.specs.Number.{readWithin}
 use Rattle.tables.specs.declared.tables.Queues.{Queues}
 use Rattle.reading_model.specs.Words.{readWord}
+use Rattle.numbers.specs.Refusals.{passesLimit, startsEmpty}
 
 -- how many messages a queue has: with those before it the sum passes no limit
 unfoldable pub readTerm : List ℕ → ℕ → ℕ → Part ℕ
 readTerm s at sum =
-    andThen (readWithin s at 1 mostMessages) (λ v next. provided (leb (sum + v) mostMessages) 6 at (got v next))
+    andThen (readWithin s at 1 mostMessages) (λ v next. provided (leb (sum + v) mostMessages) passesLimit at (got v next))
 
 -- the messages of the queues from number i on, and the sum
 unfoldable pub readCounts : List ℕ → ℕ → ℕ → ℕ → ℕ → List ℕ → Part (ℕ × List ℕ)
@@ -58,7 +59,7 @@ startingWith q held = record { count = q .count; sum = q .sum; messages = q .mes
 unfoldable pub readStarting : List ℕ → ℕ → Queues → Part Queues
 readStarting s at q =
     andThen (readContents s at q (q .count) 0 (replicate mostQueues 0, replicate startingLength 0)) (λ held next.
-    provided (waits (held .0)) 23 0 (got (startingWith q held) next))
+    provided (waits (held .0)) startsEmpty 0 (got (startingWith q held) next))
 
 unfoldable pub readQueues : List ℕ → ℕ → Bool → Part Queues
 readQueues s at resumes = andThen (countedQueues s at) (λ q p. cond resumes (readStarting s p q) (got q p))

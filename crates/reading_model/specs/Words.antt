@@ -5,11 +5,12 @@ use lib.ListN.{set}
 use lib.Dec.{ltb, leb}
 use Rattle.numbers.specs.Part.{Part, got, provided, andThen}
 use Rattle.numbers.specs.Number.{readBelow}
+use Rattle.numbers.specs.Refusals.{otherQueue}
 
 -- a message of the queue whose messages are those from lo on and below hi
 unfoldable pub readMessage : List ℕ → ℕ → ℕ → ℕ → ℕ → Part ℕ
 readMessage s at sum lo hi =
-    andThen (readBelow s at sum) (λ m next. provided (leb lo m) 7 at (provided (ltb m hi) 7 at (got m next)))
+    andThen (readBelow s at sum) (λ m next. provided (leb lo m) otherQueue at (provided (ltb m hi) otherQueue at (got m next)))
 
 -- the messages of a word, into a table's entries from j on
 unfoldable pub readWord : List ℕ → ℕ → ℕ → ℕ → ℕ → ℕ → ℕ → List ℕ → Part (List ℕ)

@@ -8,14 +8,15 @@ use Rattle.numbers.specs.Part.{Part, got, provided, andThen}
 use Rattle.numbers.specs.Number.{readWithin, below, readBelow}
 use Rattle.tables.specs.declared.tables.Pool.{Pool}
 use Rattle.tables.specs.Pool.{poolArcs}
+use Rattle.numbers.specs.Refusals.{notAscending}
 
 -- an arc's message that was read at a place, if it is below the sum and not below the least that still ascends
 abbrev pub ascends : Part ℕ → ℕ → ℕ → ℕ → Part ℕ
-ascends n at sum least = andThen (below n at sum) (λ m next. provided (leb least m) 8 at (got m next))
+ascends n at sum least = andThen (below n at sum) (λ m next. provided (leb least m) notAscending at (got m next))
 
 -- an arc's message: below the sum, and not below the least that still ascends
 unfoldable pub readAscending : List ℕ → ℕ → ℕ → ℕ → Part ℕ
-readAscending s at sum least = andThen (readBelow s at sum) (λ m next. provided (leb least m) 8 at (got m next))
+readAscending s at sum least = andThen (readBelow s at sum) (λ m next. provided (leb least m) notAscending at (got m next))
 
 -- an arc: its message and its target
 unfoldable pub readArc : List ℕ → ℕ → ℕ → ℕ → ℕ → Part (ℕ × ℕ)

@@ -20,6 +20,7 @@ use Rattle.replaying_step.specs.declared.runs.RunRecord.{RunRecord}
 use Rattle.replaying_trace.specs.declared.progress.Stop.{Stop}
 use Rattle.replaying_trace.specs.declared.progress.Stop.the-variants.{End, Outside, Unread, NotPossible, NoRoom, FileRefused, TraceTooLong, MemoryShort}
 use Rattle.replaying_trace.specs.declared.progress.Ended as Code
+use Rattle.numbers.specs.Refusals.{tooLong, shortMemory, notPossible, queueFull}
 
 -- what is answered: a refusal of the file, of the trace or of the memory, by its number and place; or why the replay ended
 pub data Reply : Type 0 where
@@ -50,8 +51,8 @@ ranTo T mem e =
 
 -- the file's refusals; then the trace's 1; then 2 for memory under `room` bytes a queue of the file
 abbrev pub lentTo : Bool → Bool → Tables → List ℕ → List ℕ → RunRecord → Outcome
-lentTo false enough T s mem r = turnedAway (trace 1 mostBytes) r mem
-lentTo true false T s mem r = turnedAway (memory 2 0) r mem
+lentTo false enough T s mem r = turnedAway (trace tooLong mostBytes) r mem
+lentTo true false T s mem r = turnedAway (memory shortMemory 0) r mem
 lentTo true true T s mem r = ranTo T mem (replayed (sessionOf T) s)
 
 abbrev pub replayTo : Part Tables → List ℕ → List ℕ → RunRecord → Outcome
@@ -67,8 +68,8 @@ abbrev pub saidStop : Stop → Reply
 saidStop End = ran end
 saidStop (Outside far) = ran (outside far)
 saidStop (Unread why) = ran (refusal (numberOf why) (placeOf why))
-saidStop (NotPossible p) = ran (refusal 14 p)
-saidStop (NoRoom p) = ran (refusal 15 p)
+saidStop (NotPossible p) = ran (refusal notPossible p)
+saidStop (NoRoom p) = ran (refusal queueFull p)
 saidStop (FileRefused why) = file (numberOf why) (placeOf why)
 saidStop TraceTooLong = trace 1 mostBytes
 saidStop MemoryShort = memory 2 0

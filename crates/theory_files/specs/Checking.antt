@@ -13,6 +13,7 @@ use Rattle.reading_file.specs.File.{readFile}
 use Rattle.tables.specs.declared.tables.Tables.{Tables}
 use Rattle.theory_files.specs.Reply.{FileReply, refused, verdict, replyTo, shownOf}
 use Rattle.theory_files.specs.Claims.{Meant, TwoRunsTo}
+use Rattle.numbers.specs.Refusals.{tooLong, shortMemory}
 
 -- a scratch table needs so many entries, the contents buffer so many bytes
 abbrev pub tableLeast : ℕ
@@ -34,7 +35,7 @@ enough seen queue contents =
 -- what checking reads: 1, then 2, then the file from left to right
 unfoldable pub readLent : List ℕ → List ℕ → List ℕ → List ℕ → Part Tables
 readLent file seen queue contents =
-    provided (leb (length file) mostBytes) 1 mostBytes (provided (enough seen queue contents) 2 0 (readFile file))
+    provided (leb (length file) mostBytes) tooLong mostBytes (provided (enough seen queue contents) shortMemory 0 (readFile file))
 
 -- a scratch table at exit: as it was after a refusal, 0 over its whole lent length after a verdict
 abbrev pub tableAfter : FileReply → List ℕ → List ℕ

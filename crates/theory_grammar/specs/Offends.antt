@@ -7,6 +7,7 @@ use lib.Dec.{ltb, eqb}
 use lib.ListN.{length}
 use Rattle.theory_grammar.specs.Grammar.{Digit, EndsInDigit}
 use Rattle.theory_grammar.specs.Parse.{isDigit}
+use Rattle.numbers.specs.Refusals.{outOfRange, tooDeep, tooManyNumbers}
 
 -- groups in groups, and occurrences of messages
 abbrev pub mostDepth : ℕ
@@ -46,13 +47,13 @@ pub record NumberBegins (s before after : List ℕ) : Type 0 where
 pub data Offends (s : List ℕ) : ℕ → ℕ → Type 0 where
   -- a number of 32 or more
   large : {before after : List ℕ} → (n : NumberBegins s before after) → messageLimit ≤ valueFrom 0 (n .first ∷ after)
-      → Offends s 5 (length before)
+      → Offends s outOfRange (length before)
   -- an opening bracket where eight groups are open
   deep : (before after : List ℕ) → s ≡ before ++ (40 ∷ after) → times 41 before + mostDepth ≤ times 40 before
-      → Offends s 20 (length before)
+      → Offends s tooDeep (length before)
   -- a number after thirty-two others
   many : {before after : List ℕ} → NumberBegins s before after → mostOccurrences ≤ length (numbersFrom false before)
-      → Offends s 21 (length before)
+      → Offends s tooManyNumbers (length before)
 
 -- THE LEFTMOST OFFENDER: no place before it offends, and 5 comes before 21
 pub record Leftmost (s : List ℕ) (k p : ℕ) : Type 0 where

@@ -10,6 +10,7 @@ use Rattle.numbers.specs.Number.{readBelow}
 use Rattle.theory_model.specs.Model.{Configuration, take?, begin}
 use Rattle.theory_model.specs.Session.{Session, inside, howFarIn}
 use Rattle.theory_replay.specs.Rules.{fits, Why, end, outside, refusal, Ended, ended}
+use Rattle.numbers.specs.Refusals.{notPossible, queueFull}
 
 -- ONE TURN at a configuration: the replay stops, or goes on at the next configuration and the place after the number
 pub data Turn : Type 0 where
@@ -19,10 +20,10 @@ pub data Turn : Type 0 where
 -- 15 where a queue would pass its room, 14 where the transition is not possible, both at the step's first byte
 abbrev pub kept : Bool → ℕ → ℕ → Configuration → Turn
 kept true at next γ = goes γ next
-kept false at next γ = stops (refusal 15 at)
+kept false at next γ = stops (refusal queueFull at)
 
 abbrev pub moved : ℕ → ℕ → Option Configuration → Turn
-moved at next none = stops (refusal 14 at)
+moved at next none = stops (refusal notPossible at)
 moved at next (some γ) = kept (fits (γ .queues)) at next γ
 
 module _ (S : Session) where

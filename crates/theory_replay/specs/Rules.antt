@@ -11,6 +11,7 @@ use Rattle.numbers.specs.Part.{got, refused}
 use Rattle.numbers.specs.Number.{readBelow}
 use Rattle.theory_model.specs.Model.{Configuration, take?, begin}
 use Rattle.theory_model.specs.Session.{Session, Inside, Outside, howFarIn}
+use Rattle.numbers.specs.Refusals.{notPossible, queueFull}
 
 -- a queue holds so many messages at most
 abbrev pub room : ℕ
@@ -49,9 +50,9 @@ module _ (S : Session) (s : List ℕ) where
     -- 3, 4, or 5 for a number that is no transition
     unread : {k p : ℕ} → Inside S γ → at < length s → readBelow s at (length (S .model .transitions)) ≡ refused k p → Stops at γ (refusal k p)
     -- the machine is in another state, or the queue does not begin with the word
-    untaken : {t next : ℕ} → Asked at γ t next → take? (S .model) t γ ≡ none → Stops at γ (refusal 14 at)
+    untaken : {t next : ℕ} → Asked at γ t next → take? (S .model) t γ ≡ none → Stops at γ (refusal notPossible at)
     -- a queue would pass its room
-    full : {t next : ℕ} {γ′ : Configuration} → Asked at γ t next → take? (S .model) t γ ≡ some γ′ → fits (γ′ .queues) ≡ false → Stops at γ (refusal 15 at)
+    full : {t next : ℕ} {γ′ : Configuration} → Asked at γ t next → take? (S .model) t γ ≡ some γ′ → fits (γ′ .queues) ≡ false → Stops at γ (refusal queueFull at)
 
 -- how a replay ended: why, after how many steps, at which configuration
 pub record Ended : Type 0 where

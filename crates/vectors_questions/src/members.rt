@@ -3,6 +3,9 @@
 use membership::member::member;
 use membership::reply::Member;
 use numbers::number::wide;
+use numbers::refusal::EARLIER_QUEUE;
+use numbers::refusal::NO_CONTROL;
+use numbers::refusal::NO_MESSAGE;
 use numbers::refusal::number;
 use numbers::refusal::place;
 use streams::fill_front;
@@ -15,9 +18,9 @@ fn report(reply: Member) {
         Member::Yes(far) => told(b"yes ", far),
         Member::No(far) => told(b"no ", far),
         Member::Unread(why) => refused(b"refused ", number(why), place(why)),
-        Member::NoControl => refused(b"refused ", 11, 0),
-        Member::NoMessage(at) => refused(b"refused ", 12, at),
-        Member::EarlierQueue(at) => refused(b"refused ", 13, at),
+        Member::NoControl => refused(b"refused ", NO_CONTROL, 0),
+        Member::NoMessage(at) => refused(b"refused ", NO_MESSAGE, at),
+        Member::EarlierQueue(at) => refused(b"refused ", EARLIER_QUEUE, at),
     }
 }
 

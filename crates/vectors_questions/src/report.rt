@@ -1,6 +1,10 @@
 // The line of one replay: the reply, the numbers of the record and the digest of the memory, with bars between them.
 use numbers::number::wide;
 use numbers::refusal::MOST_BYTES;
+use numbers::refusal::NOT_POSSIBLE;
+use numbers::refusal::QUEUE_FULL;
+use numbers::refusal::SHORT_MEMORY;
+use numbers::refusal::TOO_LONG;
 use numbers::refusal::number;
 use numbers::refusal::place;
 use replaying_step::runs::RunRecord;
@@ -25,11 +29,11 @@ fn reply(why: Stop, steps: usize) {
         Stop::End => told(b"end ", steps),
         Stop::Outside(far) => left(steps, far),
         Stop::Unread(why) => step_refused(number(why), place(why), steps),
-        Stop::NotPossible(at) => step_refused(14, at, steps),
-        Stop::NoRoom(at) => step_refused(15, at, steps),
+        Stop::NotPossible(at) => step_refused(NOT_POSSIBLE, at, steps),
+        Stop::NoRoom(at) => step_refused(QUEUE_FULL, at, steps),
         Stop::FileRefused(why) => refused(b"file refused ", number(why), place(why)),
-        Stop::TraceTooLong => refused(b"trace refused ", 1, MOST_BYTES),
-        Stop::MemoryShort => refused(b"memory refused ", 2, 0),
+        Stop::TraceTooLong => refused(b"trace refused ", TOO_LONG, MOST_BYTES),
+        Stop::MemoryShort => refused(b"memory refused ", SHORT_MEMORY, 0),
     }
 }
 

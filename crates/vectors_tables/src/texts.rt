@@ -6,6 +6,9 @@ use expression::draw::expression;
 use expression_scan::limits::excess_number;
 use numbers::put::put_byte;
 use numbers::put::put_word;
+use numbers::refusal::OUTSIDE_GRAMMAR;
+use numbers::refusal::TEXT_TOO_LONG;
+use numbers::refusal::TOO_MANY_STATES;
 use streams::lent::digest;
 use streams::lines::refused;
 use streams::lines::told;
@@ -41,10 +44,10 @@ fn report(drawing: Drawing) {
             let pool = drawing.pool;
             drawn(root, pool)
         }
-        Reply::TooLong => refused(b"refused ", 18, MOST_TEXT),
-        Reply::Outside(place) => refused(b"refused ", 19, place),
+        Reply::TooLong => refused(b"refused ", TEXT_TOO_LONG, MOST_TEXT),
+        Reply::Outside(place) => refused(b"refused ", OUTSIDE_GRAMMAR, place),
         Reply::Offender(excess, place) => refused(b"refused ", excess_number(excess), place),
-        Reply::TooManyStates => refused(b"refused ", 22, 0),
+        Reply::TooManyStates => refused(b"refused ", TOO_MANY_STATES, 0),
     }
 }
 

@@ -1,4 +1,6 @@
 // The line of one writing: the reply, and the digest of the whole buffer.
+use numbers::refusal::BUFFER_SHORT;
+use numbers::refusal::NOT_READABLE;
 use streams::lines::refused;
 use streams::lines::told;
 use writing_file::write::Written;
@@ -6,8 +8,8 @@ use writing_file::write::Written;
 fn reply(written: Written) {
     match written {
         Written::Length(length) => told(b"wrote ", length),
-        Written::NotReadable => refused(b"refused ", 16, 0),
-        Written::TooShort => refused(b"refused ", 17, 0),
+        Written::NotReadable => refused(b"refused ", NOT_READABLE, 0),
+        Written::TooShort => refused(b"refused ", BUFFER_SHORT, 0),
     }
 }
 

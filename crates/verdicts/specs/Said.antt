@@ -8,6 +8,7 @@ use Rattle.theory_model.specs.Verdict.{closed, outside, leaves, bad}
 use Rattle.theory_files.specs.Reply.{FileReply, refused, verdict, shownOf}
 use Rattle.verdicts.specs.declared.verdict.Verdict.{Verdict}
 use Rattle.verdicts.specs.declared.verdict.Verdict.the-variants.{Closed, Outside, Leaves, Bad, Refused, ShortMemory}
+use Rattle.numbers.specs.Refusals.{shortMemory}
 
 -- the contents shown stand at the front of the buffer at exit
 abbrev pub saidVerdict : Verdict → List ℕ → FileReply
@@ -16,7 +17,7 @@ saidVerdict Outside contents = verdict outside
 saidVerdict (Leaves control transition shown far) contents = verdict (leaves (control .0) transition (take shown contents) far)
 saidVerdict (Bad number shown) contents = verdict (bad number (take shown contents))
 saidVerdict (Refused why) contents = refused (numberOf why) (placeOf why)
-saidVerdict ShortMemory contents = refused 2 0
+saidVerdict ShortMemory contents = refused shortMemory 0
 
 abbrev pub shownIn : Verdict → ℕ
 shownIn (Closed pairs) = 0

@@ -14,6 +14,7 @@ use Rattle.theory_format.specs.Readable.{Readable}
 use Rattle.comparison.specs.Same.{sameTables}
 use Rattle.writing_file.specs.declared.write.Written.{Written}
 use Rattle.writing_file.specs.declared.write.Written.the-variants.{Length, NotReadable, TooShort}
+use Rattle.numbers.specs.Refusals.{notReadable, bufferShort}
 
 -- did reading give these tables?
 abbrev pub gives : Part Tables → Tables → Bool
@@ -32,7 +33,7 @@ pub data WriteReply : Type 0 where
 -- 16 for tables that no file is read into, then 17 for a buffer too short
 abbrev pub writeReply : Bool → List ℕ → List ℕ → WriteReply
 writeReply readable w buffer =
-    cond readable (cond (leb (length w) (length buffer)) (wrote (length w)) (refusal 17 0)) (refusal 16 0)
+    cond readable (cond (leb (length w) (length buffer)) (wrote (length w)) (refusal bufferShort 0)) (refusal notReadable 0)
 
 -- the buffer: the bytes, and past them as it was; after a refusal all of it
 abbrev pub bufferAfter : WriteReply → List ℕ → List ℕ → List ℕ
@@ -41,11 +42,11 @@ bufferAfter (refusal k p) w buffer = buffer
 
 abbrev pub saidWritten : Written → WriteReply
 saidWritten (Length n) = wrote n
-saidWritten NotReadable = refusal 16 0
-saidWritten TooShort = refusal 17 0
+saidWritten NotReadable = refusal notReadable 0
+saidWritten TooShort = refusal bufferShort 0
 
 -- WHAT WRITING PROMISES: the reply, the whole buffer, and that 16 is replied exactly if no byte string is read into these tables
 pub record Writes (T : Tables) (entry : List ℕ) (r : Written) (exit : List ℕ) : Type 0 where
   pub reply : saidWritten r ≡ writeReply (restored T) (spelled T) entry
   pub buffer : exit ≡ bufferAfter (writeReply (restored T) (spelled T) entry) (spelled T) entry
-  pub unread : (saidWritten r ≡ refusal 16 0) ↔ (Readable T → ⊥)
+  pub unread : (saidWritten r ≡ refusal notReadable 0) ↔ (Readable T → ⊥)
