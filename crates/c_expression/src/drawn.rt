@@ -44,7 +44,7 @@ pub fn tell_drawn(reply: Reply, count: u8) -> Told
 }
 
 // Final marks and arcs, one after the other.
-fn put_tables(space: &mut [u8], pool: Pool)
+fn put_pool(space: &mut [u8], pool: Pool)
     requires { ⌜ poolLeast ≤ length (now space) ⌝ }
     ensures { λ u. ⌜ now (space .exit) ≡ poolOut pool ++ drop poolLeast (now (space .entry)) ⌝ }
 {
@@ -60,7 +60,7 @@ pub fn put_drawn(space: &mut [u8], reply: Reply, pool: Pool)
     ensures { λ u. ⌜ now (space .exit) ≡ poolAfter (saidReply reply) pool (now (space .entry)) ⌝ }
 {
     match reply {
-        Reply::Root(_) => put_tables(space, pool),
+        Reply::Root(_) => put_pool(space, pool),
         Reply::TooLong => {}
         Reply::Outside(_) => {}
         Reply::Offender(_, _) => {}

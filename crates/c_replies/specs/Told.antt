@@ -30,8 +30,8 @@ BAD = 3
 abbrev pub REFUSED : ℕ
 REFUSED = 4
 
-abbrev pub NO-ROOM : ℕ
-NO-ROOM = 5
+abbrev pub NO-QUEUE_ROOM : ℕ
+NO-QUEUE_ROOM = 5
 
 abbrev pub READ : ℕ
 READ = 6

@@ -65,7 +65,7 @@ fn put_large(space: &mut [u8], at: usize, t: Tables) -> usize
 }
 
 // All tables, at the front of the space. Returns how many bytes that is.
-pub fn put_tables(space: &mut [u8], t: Tables) -> usize
+pub fn put_flat(space: &mut [u8], t: Tables) -> usize
     requires { ⌜ Valid t ⌝ }
     requires { ⌜ tablesLeast ≤ length (now space) ⌝ }
     ensures { λ r. ⌜ Put (now (space .entry)) 0 tablesLeast (flat t) (now (space .exit)) r ⌝ }

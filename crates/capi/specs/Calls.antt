@@ -17,7 +17,7 @@ use Rattle.writing_file.specs.Write.{bufferAfter}
 use Rattle.c_tables.specs.Flat.{flat, tablesLeast}
 use Rattle.c_tables.specs.Taken.{tablesAt}
 use Rattle.c_tables.specs.Written.{writeReplyAt}
-use Rattle.c_replies.specs.Told.{NO-ROOM, toldReply, toldAnswer, toldMember, toldWritten, replyLeast, replyAfter}
+use Rattle.c_replies.specs.Told.{NO-QUEUE_ROOM, toldReply, toldAnswer, toldMember, toldWritten, replyLeast, replyAfter}
 use Rattle.c_replies.specs.Replays.{toldReplay, runAfter, recordLeast, blank}
 use Rattle.c_replies.specs.declared.told.Told.{Told}
 use Rattle.expression.specs.Expression.{expression}
@@ -35,7 +35,7 @@ replyFits reply = leb replyLeast (length reply)
 -- the kind that is told, and the reply's space at exit
 abbrev pub kindIf : Bool → Told → ℕ
 kindIf true t = t .kind
-kindIf false t = NO-ROOM
+kindIf false t = NO-QUEUE_ROOM
 
 abbrev pub keepUnless : Bool → List ℕ → List ℕ → List ℕ
 keepUnless true after before = after

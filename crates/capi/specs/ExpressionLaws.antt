@@ -8,7 +8,7 @@ use lib.Dec.{leb}
 use borrow.Author.Tests.{le-leb, lt-leb}
 use Rattle.theory_model.specs.Laws.Basics.{is-and}
 use Rattle.tables.specs.declared.tables.Pool.{Pool}
-use Rattle.c_replies.specs.Told.{NO-ROOM, replyLeast, replyAfter, Tells}
+use Rattle.c_replies.specs.Told.{NO-QUEUE_ROOM, replyLeast, replyAfter, Tells}
 use Rattle.c_replies.specs.declared.told.Told.{Told}
 use Rattle.expression.specs.Expression.{Drawn, expression}
 use Rattle.expression.specs.Said.{saidReply, saidDrawing}
@@ -21,7 +21,7 @@ module _ (text pool reply : List ℕ) where
   abbrev filled : List ℕ
   filled = poolAfter (expression text .reply) (expression text .pool) pool
 
-  expression-none : drawnFits pool reply ≡ false → ExpressionCall text pool reply NO-ROOM pool reply
+  expression-none : drawnFits pool reply ≡ false → ExpressionCall text pool reply NO-QUEUE_ROOM pool reply
   expression-none e =
       record {
         kind = kind-none (drawnFits pool reply) (drawnTold text) e;
@@ -29,10 +29,10 @@ module _ (text pool reply : List ℕ) where
         reply = kept (drawnFits pool reply) reply (replyAfter (drawnTold text) reply) e;
       }
 
-  pub expression-short : length pool < poolLeast → ExpressionCall text pool reply NO-ROOM pool reply
+  pub expression-short : length pool < poolLeast → ExpressionCall text pool reply NO-QUEUE_ROOM pool reply
   expression-short h = expression-none (first-none (leb poolLeast (length pool)) (replyFits reply) (lt-leb poolLeast (length pool) h))
 
-  pub expression-unheard : length reply < replyLeast → ExpressionCall text pool reply NO-ROOM pool reply
+  pub expression-unheard : length reply < replyLeast → ExpressionCall text pool reply NO-QUEUE_ROOM pool reply
   expression-unheard h = expression-none (second-none (leb poolLeast (length pool)) (replyFits reply) (lt-leb replyLeast (length reply) h))
 
   pub expression-told : {pool₁ reply₁ : List ℕ} {r : ℕ} {t : Told} → poolLeast ≤ length pool → replyLeast ≤ length reply → (d : Drawing)

@@ -37,13 +37,13 @@ use Rattle.c_tables.specs.Flat.{flat, tablesLeast}
 use Rattle.c_tables.specs.Taken.{tablesAt}
 use Rattle.c_tables.specs.Written.{writeReplyAt, WritesFlat}
 use Rattle.c_tables.specs.Laws.Put.{flat-front}
-use Rattle.c_replies.specs.Told.{LEAVES, BAD, NO-ROOM, toldOf, toldReply, toldAnswer, toldMember, toldWritten, toldVerdict, replyLeast, replyAfter, Tells}
+use Rattle.c_replies.specs.Told.{LEAVES, BAD, NO-QUEUE_ROOM, toldOf, toldReply, toldAnswer, toldMember, toldWritten, toldVerdict, replyLeast, replyAfter, Tells}
 use Rattle.c_replies.specs.Replays.{toldReplay, recordLeast, runAfter, blank}
 use Rattle.capi.specs.Calls.{replyFits, kindIf, keepUnless, spaceAfter, outcomeOf, replayTold, replayFits, ReadCall, WriteCall, MemberCall, CheckCall, ReplayCall}
 use Rattle.c_replies.specs.declared.told.Told.{Told}
 
--- ROOM FOR THE OUTPUT, or none
-pub kind-none : (b : Bool) (t : Told) → b ≡ false → NO-ROOM ≡ kindIf b t
+-- QUEUE_ROOM FOR THE OUTPUT, or none
+pub kind-none : (b : Bool) (t : Told) → b ≡ false → NO-QUEUE_ROOM ≡ kindIf b t
 kind-none b t e = sym (ap (λ x. kindIf x t) e)
 
 pub changed : (b : Bool) (before after : List ℕ) → b ≡ true → after ≡ keepUnless b after before
@@ -83,7 +83,7 @@ abbrev room : List ℕ → List ℕ → Bool
 room space reply = leb tablesLeast (length space) && replyFits reply
 
 module _ (file space reply : List ℕ) where
-  read-none : room space reply ≡ false → ReadCall file space reply NO-ROOM space reply
+  read-none : room space reply ≡ false → ReadCall file space reply NO-QUEUE_ROOM space reply
   read-none e =
       record {
         kind = kind-none (room space reply) (toldAnswer (readReplyOf (readFile file))) e;
@@ -91,10 +91,10 @@ module _ (file space reply : List ℕ) where
         reply = kept (room space reply) reply (replyAfter (toldAnswer (readReplyOf (readFile file))) reply) e;
       }
 
-  pub read-short : length space < tablesLeast → ReadCall file space reply NO-ROOM space reply
+  pub read-short : length space < tablesLeast → ReadCall file space reply NO-QUEUE_ROOM space reply
   read-short h = read-none (first-none (leb tablesLeast (length space)) (replyFits reply) (lt-leb tablesLeast (length space) h))
 
-  pub read-unheard : length reply < replyLeast → ReadCall file space reply NO-ROOM space reply
+  pub read-unheard : length reply < replyLeast → ReadCall file space reply NO-QUEUE_ROOM space reply
   read-unheard h = read-none (second-none (leb tablesLeast (length space)) (replyFits reply) (lt-leb replyLeast (length reply) h))
 
 module _ {file space reply reply₁ : List ℕ} {t : Told} {r : ℕ} (h : tablesLeast ≤ length space) (l : replyLeast ≤ length reply) (x : Reading) (reads : Reads (readFile file) x) (told : t ≡ toldAnswer (saidAnswer (x .answer))) (tells : Tells t reply reply₁ r) where
@@ -125,7 +125,7 @@ module _ (tables buffer reply : List ℕ) where
   abbrev bufferThen : List ℕ
   bufferThen = bufferAfter (writeReplyAt tables buffer) (spelled (tablesAt tables)) buffer
 
-  pub write-unheard : length reply < replyLeast → WriteCall tables buffer reply NO-ROOM buffer reply
+  pub write-unheard : length reply < replyLeast → WriteCall tables buffer reply NO-QUEUE_ROOM buffer reply
   write-unheard h =
       let e = lt-leb replyLeast (length reply) h in
       record {
@@ -147,7 +147,7 @@ module _ (tables buffer reply : List ℕ) where
 
 -- MEMBERSHIP
 module _ (file : List ℕ) (control : ℕ) (contents reply : List ℕ) where
-  pub member-unheard : length reply < replyLeast → MemberCall file control contents reply NO-ROOM reply
+  pub member-unheard : length reply < replyLeast → MemberCall file control contents reply NO-QUEUE_ROOM reply
   member-unheard h =
       let e = lt-leb replyLeast (length reply) h in
       record {
@@ -175,7 +175,7 @@ module _ (file seen queue contents reply : List ℕ) where
   abbrev whole : Checked
   whole = checkOf file seen queue contents
 
-  pub check-unheard : length reply < replyLeast → CheckCall file seen queue contents reply NO-ROOM seen queue contents reply
+  pub check-unheard : length reply < replyLeast → CheckCall file seen queue contents reply NO-QUEUE_ROOM seen queue contents reply
   check-unheard h =
       let e = lt-leb replyLeast (length reply) h in
       record {
@@ -202,7 +202,7 @@ module _ (file seen queue contents reply : List ℕ) where
 
 -- REPLAYING
 module _ (file trace memory run reply : List ℕ) where
-  replay-none : replayFits run reply ≡ false → ReplayCall file trace memory run reply NO-ROOM memory run reply
+  replay-none : replayFits run reply ≡ false → ReplayCall file trace memory run reply NO-QUEUE_ROOM memory run reply
   replay-none e =
       let o = outcomeOf file trace memory in
       record {
@@ -212,10 +212,10 @@ module _ (file trace memory run reply : List ℕ) where
         memory = kept (replayFits run reply) memory (o .queues) e;
       }
 
-  pub replay-short : length run < recordLeast → ReplayCall file trace memory run reply NO-ROOM memory run reply
+  pub replay-short : length run < recordLeast → ReplayCall file trace memory run reply NO-QUEUE_ROOM memory run reply
   replay-short h = replay-none (first-none (leb recordLeast (length run)) (replyFits reply) (lt-leb recordLeast (length run) h))
 
-  pub replay-unheard : length reply < replyLeast → ReplayCall file trace memory run reply NO-ROOM memory run reply
+  pub replay-unheard : length reply < replyLeast → ReplayCall file trace memory run reply NO-QUEUE_ROOM memory run reply
   replay-unheard h = replay-none (second-none (leb recordLeast (length run)) (replyFits reply) (lt-leb replyLeast (length reply) h))
 
   pub replay-told : {memory₁ run₁ reply₁ : List ℕ} {r : ℕ} {t : Told} → recordLeast ≤ length run → replyLeast ≤ length reply

@@ -15,7 +15,7 @@ use c_replies::told::tell_refusal;
 use c_replies::told::tell_verdict;
 use c_replies::told::tell_written;
 use c_tables::places::TABLES_LEAST;
-use c_tables::put::put_tables;
+use c_tables::put::put_flat;
 use c_tables::write::write_flat;
 use checking_file::check::check;
 use expression::draw::expression;
@@ -57,7 +57,7 @@ pub extern "C" fn swarmbanner_read(file: &[u8], space: &mut [u8], reply: &mut [u
         Answer::Refused(why) => put_told(reply, tell_refusal(why)),
         Answer::Read => {
             let tables = reading.tables;
-            put_tables(space, tables);
+            put_flat(space, tables);
             put_told(reply, bare(READ))
         }
     }

@@ -13,7 +13,7 @@ use Rattle.verdicts.specs.declared.verdict.Verdict.{Verdict}
 abbrev pub holds : ℕ → ℕ → ℕ → Bool
 holds room contents shown = leb shown contents && (leb shown 32768 && leb (4 * shown + 52) room)
 
-pub record Room (room contents shown : ℕ) (r : Bool) : Type 0 where
+pub record LineRoom (room contents shown : ℕ) (r : Bool) : Type 0 where
   pub is : r ≡ holds room contents shown
 
 -- the text where there is room for a line that shows so many messages, else nothing

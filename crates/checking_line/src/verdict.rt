@@ -12,11 +12,11 @@ ghost use mathlib.Core.List.{[]};
 ghost use lib.ListN.{take};
 ghost use Rattle.theory_model.specs.Verdict.{closed, outside, leaves, bad};
 ghost use Rattle.theory_model.specs.Line.{line, refusedLine};
-ghost use Rattle.checking_line.specs.Said.{Room, Lined, Writes};
+ghost use Rattle.checking_line.specs.Said.{LineRoom, Lined, Writes};
 
 // Whether a buffer of so many bytes has room for any line that shows so many messages of the contents.
 fn has_room(room: usize, contents: usize, shown: usize) -> bool
-    ensures { λ r. ⌜ Room room contents shown r ⌝ }
+    ensures { λ r. ⌜ LineRoom room contents shown r ⌝ }
 {
     if contents < shown {
         return false;

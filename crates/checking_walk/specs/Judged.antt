@@ -37,9 +37,9 @@ module _ (arcs finals rows : List ℕ) (w : Walk) where
 pub record ShownFits (arcs finals rows : List ℕ) (w : Walk) (root : Pair) : Type 0 where
   pub most : (u : List ℕ) → judgedOver arcs finals rows w root ≡ fails u → length u ≤ contentsLeast
 
-abbrev pub shownOf : Judge.Judged → List ℕ
-shownOf (passes n) = []
-shownOf (fails u) = u
+abbrev pub contentsShown : Judge.Judged → List ℕ
+contentsShown (passes n) = []
+contentsShown (fails u) = u
 
 -- what the code's answer says, with the contents buffer that it left
 abbrev pub saidJudged : Judged → List ℕ → Judge.Judged
@@ -55,9 +55,9 @@ shownBy (Fails n) = n
 pub record WalkJudged (arcs finals rows : List ℕ) (w : Walk) (root : Pair) (contents seen′ queue′ contents′ : List ℕ) (r : Judged) : Type 0 where
   pub reply : saidJudged r contents′ ≡ judgedOver arcs finals rows w root
   pub blank : Blank seen′ queue′
-  pub number : shownBy r ≡ length (shownOf (judgedOver arcs finals rows w root))
+  pub number : shownBy r ≡ length (contentsShown (judgedOver arcs finals rows w root))
   pub shown : contents′
-      ≡ shownOf (judgedOver arcs finals rows w root) ++ drop (length (shownOf (judgedOver arcs finals rows w root))) contents
+      ≡ contentsShown (judgedOver arcs finals rows w root) ++ drop (length (contentsShown (judgedOver arcs finals rows w root))) contents
 
 -- the walk is that of an item of a session that the tables are of
 pub record WalksItem (arcs finals rows : List ℕ) (w : Walk) (root : Pair) (S : Session) (i : Item) : Type 0 where

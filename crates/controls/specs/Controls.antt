@@ -8,7 +8,7 @@ use lib.Dec.{eqb}
 use Rattle.tables.specs.Limits.{mostMachines, mostControls}
 use Rattle.tables.specs.Rows.{machineAt, fromAt, toAt}
 use Rattle.tables.specs.declared.tables.Machines.{Machines}
-use Rattle.theory_model.specs.Model.{product, number, places}
+use Rattle.theory_model.specs.Model.{sizesProduct, number, places}
 use Rattle.controls.specs.declared.parting.Parted.{Parted}
 
 -- for each machine how many states it has, and its starting state
@@ -36,16 +36,16 @@ Moved m rows row c r = r ≡ number (sizesOf m) (set (places (sizesOf m) c) (mac
 -- the product from a machine on: of none it is 1, with one machine more it is multiplied, and it stays small
 pub record Stepped (states : List ℕ) (count : ℕ) : Type 0 where
   pub most : count ≤ mostMachines
-  pub end : product (drop count (take count states)) ≡ 1
+  pub end : sizesProduct (drop count (take count states)) ≡ 1
   pub before : (j : ℕ) → j < count
-      → getD states j 0 * product (drop (j + 1) (take count states)) ≡ product (drop j (take count states))
-  pub small : (j : ℕ) → (1 ≤ product (drop j (take count states))) × (product (drop j (take count states)) ≤ mostControls)
+      → getD states j 0 * sizesProduct (drop (j + 1) (take count states)) ≡ sizesProduct (drop j (take count states))
+  pub small : (j : ℕ) → (1 ≤ sizesProduct (drop j (take count states))) × (sizesProduct (drop j (take count states)) ≤ mostControls)
 
 -- WHAT IS ASKED to part a control state at a machine
 pub record Partable (states : List ℕ) (count c machine : ℕ) : Type 0 where
   pub stepped : Stepped states count
   pub long : count ≤ length states
-  pub below : c < product (take count states)
+  pub below : c < sizesProduct (take count states)
   pub within : machine < count
 
 -- WHAT IS ASKED to number the states of so many machines
@@ -59,7 +59,7 @@ pub record Numberable (states places : List ℕ) (count : ℕ) : Type 0 where
 -- UNDERWAY: the machines before number i are numbered by sum, and with the rest it is the number of all
 abbrev pub withRest : List ℕ → List ℕ → ℕ → ℕ → ℕ → ℕ
 withRest states places count i sum =
-    sum * product (drop i (take count states)) + number (drop i (take count states)) (drop i (take count places))
+    sum * sizesProduct (drop i (take count states)) + number (drop i (take count states)) (drop i (take count places))
 
 pub record Numbering (states places : List ℕ) (count i sum : ℕ) : Type 0 where
   pub is : withRest states places count i sum ≡ number (take count states) (take count places)

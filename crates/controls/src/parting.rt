@@ -5,7 +5,7 @@ use tables::tables::Machines;
 ghost use mathlib.Core.Path.{_≡_};
 ghost use Prim.Native.Nat.{_<_, _≤_};
 ghost use lib.ListN.{take, drop};
-ghost use Rattle.theory_model.specs.Model.{product};
+ghost use Rattle.theory_model.specs.Model.{sizesProduct};
 ghost use Rattle.controls.specs.Controls.{sizesOf, Located, Partable, Stepped};
 ghost use Rattle.tables.specs.Valid.{MachinesValid};
 
@@ -21,7 +21,7 @@ pub struct Parted {
 fn product_from(states: [u8; 4], count: usize, i: usize) -> usize
     requires { ⌜ Stepped states count ⌝ }
     requires { ⌜ i ≤ count ⌝ }
-    ensures { λ r. ⌜ r ≡ product (drop i (take count states)) ⌝ }
+    ensures { λ r. ⌜ r ≡ sizesProduct (drop i (take count states)) ⌝ }
 {
     let mut product: usize = 1;
     let mut j = count;

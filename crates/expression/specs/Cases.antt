@@ -6,23 +6,23 @@ use Rattle.theory_exploration.specs.Explore.{explore, rounds, expand, fresh, st
 use Rattle.theory_grammar.specs.Tree.{letter, empty, sequence, either, star}
 use Rattle.theory_grammar.specs.Parse.{run}
 use Rattle.theory_grammar.specs.Offends.{limitsFrom}
-use Rattle.theory_occurrences.specs.Sets.{union, meet, linkFrom, gatherFrom, markedFrom}
+use Rattle.theory_occurrences.specs.Sets.{joined, meet, linkFrom, gatherFrom, markedFrom}
 use Rattle.theory_occurrences.specs.Positions.{automaton, ends}
 use Rattle.expression.specs.Expression.{states, turnedAway, expression}
 
 -- 0*: the start is not the set that it leads to
 star-of-one : states (automaton (sequence (star (letter 0)) empty)) ≡ 0 ∷ 1 ∷ []
-unfolding explore rounds expand fresh starts childrenFrom union meet linkFrom gatherFrom markedFrom
+unfolding explore rounds expand fresh starts childrenFrom joined meet linkFrom gatherFrom markedFrom
 star-of-one = refl
 
 -- (0|1)* 2: the start, and each of the three occurrences by itself; only the last ends a word
 both-and-two : states (automaton (sequence (star (either (letter 0) (letter 1))) (sequence (letter 2) empty))) ≡ 0 ∷ 1 ∷ 2 ∷ 4 ∷ []
-unfolding explore rounds expand fresh starts childrenFrom union meet linkFrom gatherFrom markedFrom
+unfolding explore rounds expand fresh starts childrenFrom joined meet linkFrom gatherFrom markedFrom
 both-and-two = refl
 
 two-ends : map (ends (automaton (sequence (star (either (letter 0) (letter 1))) (sequence (letter 2) empty)))) (0 ∷ 1 ∷ 2 ∷ 4 ∷ [])
     ≡ false ∷ false ∷ false ∷ true ∷ []
-unfolding union meet
+unfolding joined meet
 two-ends = refl
 
 -- 01, (0 and 32

@@ -9,7 +9,7 @@ use expression_scan::limits::Limit;
 use expression_scan::limits::check;
 use expression_sets::sets::MOST_OCCURRENCES;
 use expression_sets::sets::marks_of;
-use expression_states::grow::ROOM;
+use expression_states::grow::MOST_LISTED;
 use expression_states::grow::grow;
 use tables::kinds::DiagramState;
 use tables::tables::POOL_ARCS;
@@ -58,7 +58,7 @@ fn draw(part: Part, follow: &[u32; MOST_OCCURRENCES], label: &[u8; MOST_OCCURREN
     ensures { λ r. ⌜ saidDrawing r ≡ draw (automatonOf part (now (follow .entry)) (now (label .entry))) ⌝ }
 {
     let marks = marks_of(label);
-    let mut states = [0u32; ROOM];
+    let mut states = [0u32; MOST_LISTED];
     let count = grow(part.first, follow, &marks, &mut states);
     if DiagramState::LIMIT < count {
         return turned_away(Reply::TooManyStates);

@@ -8,7 +8,7 @@ use lib.Dec.{ltb, leb, eqb}
 use lib.ListN.{length, getD, drop}
 use Rattle.theory_grammar.specs.Tree.{Tree, empty, size}
 use Rattle.theory_grammar.specs.Parse.{isDigit, Frame, State, state, fresh, item, chain, choice, Parsed, parsed, stuck, run, parse}
-use Rattle.theory_occurrences.specs.Sets.{union, link}
+use Rattle.theory_occurrences.specs.Sets.{joined, link}
 use Rattle.theory_occurrences.specs.Positions.{first, last, skips, follows, labels}
 use Rattle.expression_parse.specs.declared.parts.Part.{Part}
 use Rattle.expression_parse.specs.declared.parts.Step.{Step}
@@ -117,16 +117,16 @@ Alternatives s at k L F L′ F′ r = Result s at k L F L′ F′ (AlternativesR
 pub record Sequenced (a b : Part) (F F′ : List ℕ) (r : Part) : Type 0 where
   pub next : r .next ≡ b .next
   pub count : r .count ≡ b .count
-  pub begins : r .first ≡ union (a .first) (cond (a .skips) (b .first) 0)
-  pub ends : r .last ≡ union (b .last) (cond (b .skips) (a .last) 0)
+  pub begins : r .first ≡ joined (a .first) (cond (a .skips) (b .first) 0)
+  pub ends : r .last ≡ joined (b .last) (cond (b .skips) (a .last) 0)
   pub skipped : r .skips ≡ (a .skips && b .skips)
   pub linked : F′ ≡ link (a .last) (b .first) F
 
 pub record Eithered (a b r : Part) : Type 0 where
   pub next : r .next ≡ b .next
   pub count : r .count ≡ b .count
-  pub begins : r .first ≡ union (a .first) (b .first)
-  pub ends : r .last ≡ union (a .last) (b .last)
+  pub begins : r .first ≡ joined (a .first) (b .first)
+  pub ends : r .last ≡ joined (a .last) (b .last)
   pub skipped : r .skips ≡ (a .skips || b .skips)
 
 -- a number or a group up to `end` becomes an item

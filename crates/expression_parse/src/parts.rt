@@ -2,9 +2,9 @@
 use expression_scan::digits::run_at;
 use expression_sets::sets::MOST_OCCURRENCES;
 use expression_sets::sets::connect;
+use expression_sets::sets::joined;
 use expression_sets::sets::only;
 use expression_sets::sets::put;
-use expression_sets::sets::union;
 use expression_sets::sets::when;
 ghost use mathlib.Core.Path.{_≡_};
 ghost use mathlib.Core.Bool.{_&&_};
@@ -76,8 +76,8 @@ pub(crate) fn sequence(head: Part, rest: Part, follow: &mut [u32; MOST_OCCURRENC
     Part {
         next: rest.next,
         count: rest.count,
-        first: union(head.first, when(head.skips, rest.first)),
-        last: union(rest.last, when(rest.skips, head.last)),
+        first: joined(head.first, when(head.skips, rest.first)),
+        last: joined(rest.last, when(rest.skips, head.last)),
         skips: both(head.skips, rest.skips),
     }
 }
@@ -89,8 +89,8 @@ pub(crate) fn either(head: Part, rest: Part) -> Part
     Part {
         next: rest.next,
         count: rest.count,
-        first: union(head.first, rest.first),
-        last: union(head.last, rest.last),
+        first: joined(head.first, rest.first),
+        last: joined(head.last, rest.last),
         skips: head.skips || rest.skips,
     }
 }

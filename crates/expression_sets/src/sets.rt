@@ -4,7 +4,7 @@ use numbers::number::wide;
 use tables::kinds::Message;
 ghost use mathlib.Core.Path.{_≡_};
 ghost use mathlib.Core.Bool.{cond};
-ghost use Rattle.theory_occurrences.specs.Sets.{union, only, put, link, gather};
+ghost use Rattle.theory_occurrences.specs.Sets.{joined, only, put, link, gather};
 ghost use Rattle.expression_sets.specs.Marks.{Marks};
 
 pub const MOST_OCCURRENCES: usize = 32;
@@ -15,8 +15,8 @@ pub fn only(k: usize) -> u32
     if k < MOST_OCCURRENCES { 1u32 << k } else { 0 }
 }
 
-pub fn union(x: u32, y: u32) -> u32
-    ensures { λ r. ⌜ r ≡ union x y ⌝ }
+pub fn joined(x: u32, y: u32) -> u32
+    ensures { λ r. ⌜ r ≡ joined x y ⌝ }
 {
     x | y
 }
@@ -46,7 +46,7 @@ pub fn connect(from: u32, to: u32, follow: &mut [u32; MOST_OCCURRENCES])
         if rest == 0 {
             return;
         }
-        let sum = union(follow[i], to);
+        let sum = joined(follow[i], to);
         if rest % 2 == 1 {
             follow[i] = sum;
         }
@@ -67,7 +67,7 @@ pub fn marks_of(label: &[u8; MOST_OCCURRENCES]) -> [u32; Message::LIMIT]
             i += 1;
             continue;
         }
-        marks[m] = union(marks[m], only(i));
+        marks[m] = joined(marks[m], only(i));
         i += 1;
     }
     marks

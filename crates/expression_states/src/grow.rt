@@ -11,7 +11,7 @@ ghost use Rattle.expression_states.specs.States.{placeFrom};
 ghost use Rattle.expression_states.specs.Grows.{aState, Grows, AddsNext, FindsStates};
 
 // Room for a state whose messages all lead to new ones after the last that is allowed.
-pub const ROOM: usize = DiagramState::LIMIT + Message::LIMIT;
+pub const MOST_LISTED: usize = DiagramState::LIMIT + Message::LIMIT;
 
 // 0 if the set is none of the states, else 1 plus its place.
 pub fn place_of(states: &[u32], set: u32) -> usize

@@ -13,7 +13,7 @@ ghost use Rattle.theory_model.specs.Diagram.{word};
 ghost use Rattle.following.specs.Follow.{FollowsTo};
 
 // A queue's messages at the start lie in so many bytes of their table.
-const ROOM: usize = MOST_STARTING as usize;
+const STARTING_ROOM: usize = MOST_STARTING as usize;
 
 // Where all that waits at the start leads. Each queue's messages are a ring of their table that is not gone round.
 pub fn follow_starting(arcs: &[u8], from: Reached, q: Queues) -> Reached
@@ -28,7 +28,15 @@ pub fn follow_starting(arcs: &[u8], from: Reached, q: Queues) -> Reached
     let mut at = from;
     let mut i: usize = 0;
     while i < count {
-        let part = follow_part(arcs, at, &contents, i * ROOM, ROOM, 0, wide(lengths[i]));
+        let part = follow_part(
+            arcs,
+            at,
+            &contents,
+            i * STARTING_ROOM,
+            STARTING_ROOM,
+            0,
+            wide(lengths[i]),
+        );
         at = part.to;
         i += 1;
     }

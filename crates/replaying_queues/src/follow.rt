@@ -1,5 +1,5 @@
 // Where the messages that wait lead by the table of arcs, those of all rings, queue 0 first; and how many they are.
-use crate::ROOM;
+use crate::QUEUE_ROOM;
 use following::messages::Followed;
 use following::messages::follow;
 use following::rows::row_of;
@@ -61,7 +61,15 @@ pub fn follow_rings(
     let mut row = row_of(from.state());
     let mut q: usize = 0;
     while q < count {
-        match follow(arcs, row, memory, q * ROOM, ROOM, heads[q], lengths[q]) {
+        match follow(
+            arcs,
+            row,
+            memory,
+            q * QUEUE_ROOM,
+            QUEUE_ROOM,
+            heads[q],
+            lengths[q],
+        ) {
             Followed::Lost(n) => return Led::Lost(waiting_in(lengths, q) + n),
             Followed::At(next) => {
                 row = next;

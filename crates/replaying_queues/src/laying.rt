@@ -1,5 +1,5 @@
 // The form of the start: what waits in each queue lies at the front of its ring.
-use crate::ROOM;
+use crate::QUEUE_ROOM;
 use crate::words::put_word;
 use numbers::number::wide;
 use tables::tables::MOST_QUEUES;
@@ -33,7 +33,7 @@ pub fn lay_starting(memory: &mut [u8], queues: Queues)
     while q < count {
         let at = q * MOST_STARTING as usize;
         let n = wide(lengths[q]);
-        put_word(memory, q * ROOM, 0, &contents, at, n);
+        put_word(memory, q * QUEUE_ROOM, 0, &contents, at, n);
         q += 1;
     }
 }

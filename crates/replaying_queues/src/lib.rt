@@ -5,4 +5,4 @@ pub mod settle;
 pub mod words;
 
 // A queue holds so many messages at most, each in a byte of its ring.
-pub const ROOM: usize = 1024;
+pub const QUEUE_ROOM: usize = 1024;

@@ -1,5 +1,5 @@
 // The form of the end: the messages of each ring at its front, oldest first, and then 0.
-use crate::ROOM;
+use crate::QUEUE_ROOM;
 use numbers::put::put_word;
 use tables::tables::MOST_QUEUES;
 ghost use mathlib.Core.Path.{_≡_};
@@ -13,10 +13,10 @@ fn settle_queue(memory: &mut [u8], base: usize, head: usize, count: usize)
     requires { ⌜ Ring (now memory) base head count ⌝ }
     ensures { λ r. ⌜ now (memory .exit) ≡ sets (now (memory .entry)) base (laid (waiting (now (memory .entry)) base head count)) ⌝ }
 {
-    let mut ring = [0u8; ROOM];
+    let mut ring = [0u8; QUEUE_ROOM];
     let mut i: usize = 0;
     while i < count {
-        ring[i] = memory[base + (head + i) % ROOM];
+        ring[i] = memory[base + (head + i) % QUEUE_ROOM];
         i += 1;
     }
     put_word(memory, base, &ring);
@@ -34,7 +34,7 @@ pub fn settle_queues(
 {
     let mut q: usize = 0;
     while q < count {
-        settle_queue(memory, q * ROOM, heads[q], lengths[q]);
+        settle_queue(memory, q * QUEUE_ROOM, heads[q], lengths[q]);
         q += 1;
     }
 }

@@ -1,5 +1,5 @@
 // Words of the transition table at a ring: put in after the messages that wait, and asked for at their front.
-use crate::ROOM;
+use crate::QUEUE_ROOM;
 ghost use mathlib.Core.Path.{_≡_};
 ghost use Prim.Native.Nat.{_+_, _*_, _≤_};
 ghost use lib.ListN.{length, take, drop};
@@ -17,12 +17,12 @@ pub fn put_word(memory: &mut [u8], base: usize, from: usize, rows: &[u8], at: us
     ensures { λ r. ⌜ now (memory .exit) ≡ putRound (now (memory .entry)) base from (take n (drop at (now (rows .entry)))) ⌝ }
 {
     if n == 1 {
-        memory[base + from % ROOM] = rows[at];
+        memory[base + from % QUEUE_ROOM] = rows[at];
         return;
     }
     let mut i: usize = 0;
     while i < n {
-        memory[base + (from + i) % ROOM] = rows[at + i];
+        memory[base + (from + i) % QUEUE_ROOM] = rows[at + i];
         i += 1;
     }
 }
@@ -51,7 +51,7 @@ pub fn begins(
     let mut same = true;
     let mut i: usize = 0;
     while i < n {
-        if memory[base + (head + i) % ROOM] != rows[at + i] {
+        if memory[base + (head + i) % QUEUE_ROOM] != rows[at + i] {
             same = false;
         }
         i += 1;

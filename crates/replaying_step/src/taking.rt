@@ -1,5 +1,5 @@
 // A transition taken in the parts of the run's record: its word goes to the end of its queue or leaves its front, and its machine moves.
-use replaying_queues::ROOM;
+use replaying_queues::QUEUE_ROOM;
 use replaying_queues::words::begins;
 use replaying_queues::words::put_word;
 use tables::tables::FROM;
@@ -42,10 +42,17 @@ fn send(
     let q = rows[row + QUEUE] as usize;
     let n = rows[row + LENGTH] as usize;
     let count = lengths[q];
-    if ROOM < count + n {
+    if QUEUE_ROOM < count + n {
         return Took::NoRoom;
     }
-    put_word(memory, q * ROOM, heads[q] + count, rows, row + WORD, n);
+    put_word(
+        memory,
+        q * QUEUE_ROOM,
+        heads[q] + count,
+        rows,
+        row + WORD,
+        n,
+    );
     lengths[q] = count + n;
     Took::Yes
 }
@@ -65,10 +72,10 @@ fn receive(
     let n = rows[row + LENGTH] as usize;
     let head = heads[q];
     let count = lengths[q];
-    if !begins(memory, q * ROOM, head, count, rows, row + WORD, n) {
+    if !begins(memory, q * QUEUE_ROOM, head, count, rows, row + WORD, n) {
         return Took::NotPossible;
     }
-    heads[q] = (head + n) % ROOM;
+    heads[q] = (head + n) % QUEUE_ROOM;
     lengths[q] = count - n;
     Took::Yes
 }

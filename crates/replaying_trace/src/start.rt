@@ -6,7 +6,7 @@ use numbers::number::wide;
 use numbers::refusal::MOST_BYTES;
 use reading_file::reading::Answer;
 use reading_file::reading::read_into;
-use replaying_queues::ROOM;
+use replaying_queues::QUEUE_ROOM;
 use replaying_queues::laying::lay_starting;
 use replaying_queues::laying::starting_lengths;
 use replaying_step::runs::RunRecord;
@@ -44,7 +44,7 @@ fn opening(answer: Answer, queues: u8, length: usize, bytes: usize) -> Progress
             if MOST_BYTES < length {
                 return refused(Stop::TraceTooLong);
             }
-            if bytes < wide(queues) * ROOM {
+            if bytes < wide(queues) * QUEUE_ROOM {
                 return refused(Stop::MemoryShort);
             }
             Progress {

@@ -7,7 +7,7 @@ ghost use lib.ListN.{length};
 ghost use Rattle.streams.specs.Counts.{fileLong};
 
 // A file of so many bytes at the front of the space, or the end of the stream.
-pub enum Next {
+pub enum NextFile {
     File(usize),
     Nothing,
 }
@@ -26,16 +26,16 @@ pub fn next_tag() -> Tag {
     Tag::Byte(tag[0])
 }
 
-pub fn next_file(space: &mut [u8]) -> Next
+pub fn next_file(space: &mut [u8]) -> NextFile
     ensures { λ r. ⌜ fileLong r ≤ length (now (space .exit)) ⌝ }
 {
     let mut head = [0u8; 3];
     if io::read_full(0, &mut head) < 3 {
-        return Next::Nothing;
+        return NextFile::Nothing;
     }
     let length = wide(head[0]) + 256 * wide(head[1]) + 65536 * wide(head[2]);
     if fill_front(space, length) {
-        return Next::File(length);
+        return NextFile::File(length);
     }
-    Next::Nothing
+    NextFile::Nothing
 }

@@ -7,14 +7,10 @@ use mathlib.Core.List.{List}
 use Rattle.numbers.specs.Part as Part
 use Rattle.reading_file.specs.File.{readFile}
 use Rattle.tables.specs.declared.tables.Tables.{Tables}
-use Rattle.theory_model.specs.Verdict.{Reply, closed, items, Means, Closed}
+use Rattle.theory_model.specs.Verdict.{Reply, closed, items, Means, Closed, mostInAll}
 use Rattle.theory_model.specs.TwoRuns.{TwoRuns}
 use Rattle.theory_files.specs.Tables.{sessionOf}
 use Rattle.theory_files.specs.Reply.{FileReply, refused, verdict, replyTo}
-
--- the pairs of a whole file are at most so many
-abbrev pub mostInAll : ℕ
-mostInAll = 1066385472
 
 -- DEMAND 2: what a reply means where reading gave x
 pub record Meant (x : Part.Part Tables) (r : FileReply) : Type 0 where

@@ -85,8 +85,8 @@ unfoldable pub pool : ℕ → Pool → List ℕ
 pool sum P = number (P .count) ++ each (state (P .finals) (P .arcs) sum) (P .count) 0
 
 -- field 5: for each of so many control states 0 for no root, or 1 plus the root, as the table has it
-unfoldable pub map : ℕ → Map → List ℕ
-map product R = entries (R .roots) product 0
+unfoldable pub mapped : ℕ → Map → List ℕ
+mapped product R = entries (R .roots) product 0
 
 -- field 6: how many; for each its control state and its root, as it is
 unfoldable pub bad : BadList → List ℕ
@@ -100,4 +100,4 @@ spelled T =
     machines (waits (T .queues .lengths)) (T .machines)
     ++ (queues (T .queues)
     ++ (transitions (T .transitions)
-    ++ (pool (T .queues .sum) (T .pool) ++ (map (T .machines .product) (T .map) ++ bad (T .bad)))))
+    ++ (pool (T .queues .sum) (T .pool) ++ (mapped (T .machines .product) (T .map) ++ bad (T .bad)))))

@@ -29,19 +29,19 @@ pub record Model : Type 0 where
   pub transitions : List Transition
 
 -- CONTROL STATES are numbered with machine 0 most significant
-abbrev pub product : List ℕ → ℕ
-product [] = 1
-product (k ∷ ks) = k * product ks
+abbrev pub sizesProduct : List ℕ → ℕ
+sizesProduct [] = 1
+sizesProduct (k ∷ ks) = k * sizesProduct ks
 
 abbrev pub number : List ℕ → List ℕ → ℕ
 number [] ps = 0
 number (k ∷ ks) [] = 0
-number (k ∷ ks) (p ∷ ps) = p * product ks + number ks ps
+number (k ∷ ks) (p ∷ ps) = p * sizesProduct ks + number ks ps
 
 -- and back: each machine's state
 abbrev pub places : List ℕ → ℕ → List ℕ
 places [] c = []
-places (k ∷ ks) c = (c / product ks) ∷ places ks (c % product ks)
+places (k ∷ ks) c = (c / sizesProduct ks) ∷ places ks (c % sizesProduct ks)
 
 -- MESSAGES are numbered through the queues: the first of queue q comes after all of the queues before it
 abbrev pub firstOf : List ℕ → ℕ → ℕ
@@ -87,7 +87,7 @@ act (receive q w) qs = Option·map (λ rest. set qs q rest) (strip w (getD qs q 
 module _ (M : Model) where
   -- how many control states; how many messages; the first message of queue q
   abbrev pub controls : ℕ
-  controls = product (M .sizes)
+  controls = sizesProduct (M .sizes)
 
   abbrev pub messages : ℕ
   messages = total (M .queues)

@@ -83,11 +83,11 @@ module _ (S : Session) where
   abbrev pub UpTo : ℕ → List ℕ → Type 0
   UpTo q u = Between 0 (first (S .model) (suc q)) u
 
-  abbrev pub After : ℕ → List ℕ → Type 0
-  After q v = Between (first (S .model) (suc q)) (messages (S .model)) v
+  abbrev pub Beyond : ℕ → List ℕ → Type 0
+  Beyond q v = Between (first (S .model) (suc q)) (messages (S .model)) v
 
-  abbrev pub Before : ℕ → List ℕ → Type 0
-  Before q u = Between 0 (first (S .model) q) u
+  abbrev pub Below : ℕ → List ℕ → Type 0
+  Below q u = Between 0 (first (S .model) q) u
 
   abbrev pub From : ℕ → List ℕ → Type 0
   From q v = Between (first (S .model) q) (messages (S .model)) v
@@ -99,9 +99,9 @@ module _ (S : Session) (source target : Option ℕ) where
 
   abbrev pub StepPair : Action → Pair → Type 0
   StepPair (send q w) (before s t) = (u : List ℕ) × UpTo S q u × Stand u u s t
-  StepPair (send q w) (after s t) = (u v : List ℕ) × UpTo S q u × After S q v × Stand (u ++ v) (u ++ (w ++ v)) s t
-  StepPair (receive q w) (before s t) = (u : List ℕ) × Before S q u × Stand u u s t
-  StepPair (receive q w) (after s t) = (u v : List ℕ) × Before S q u × From S q v × Stand (u ++ (w ++ v)) (u ++ v) s t
+  StepPair (send q w) (after s t) = (u v : List ℕ) × UpTo S q u × Beyond S q v × Stand (u ++ v) (u ++ (w ++ v)) s t
+  StepPair (receive q w) (before s t) = (u : List ℕ) × Below S q u × Stand u u s t
+  StepPair (receive q w) (after s t) = (u v : List ℕ) × Below S q u × From S q v × Stand (u ++ (w ++ v)) (u ++ v) s t
   StepPair local (before s t) = ⊥
   StepPair local (after s t) = (u : List ℕ) × Any S u × Stand u u s t
 
@@ -125,6 +125,10 @@ module _ (S : Session) where
 -- AT MOST SO MANY PAIRS over n states: before and after, n states for the source, and for the target these and nowhere; of a bad entry, one kind and no nowhere
 abbrev pub mostPairs : ℕ → ℕ
 mostPairs n = 2 * (n * (n + 1))
+
+-- the pairs of a whole file are at most so many: 256 · 128 steps over 127 states, and 64 bad entries
+abbrev pub mostInAll : ℕ
+mostInAll = 1066385472
 
 module _ (S : Session) where
   abbrev pub most : Item → ℕ

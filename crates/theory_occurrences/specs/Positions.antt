@@ -8,7 +8,7 @@ use lib.Dec.{ltb, eqb}
 use lib.ListN.{replicate}
 use Rattle.theory_grammar.specs.Tree.{Tree, letter, empty, sequence, either, star, size}
 use Rattle.theory_grammar.specs.Offends.{mostOccurrences, messageLimit}
-use Rattle.theory_occurrences.specs.Sets.{union, meet, only, put, link, gather, marked}
+use Rattle.theory_occurrences.specs.Sets.{joined, meet, only, put, link, gather, marked}
 
 -- is the empty word one of its words?
 abbrev pub skips : Tree → Bool
@@ -21,15 +21,15 @@ skips (star a) = true
 abbrev pub first : Tree → ℕ → ℕ
 first (letter m) k = only k
 first empty k = 0
-first (sequence a b) k = union (first a k) (cond (skips a) (first b (k + size a)) 0)
-first (either a b) k = union (first a k) (first b (k + size a))
+first (sequence a b) k = joined (first a k) (cond (skips a) (first b (k + size a)) 0)
+first (either a b) k = joined (first a k) (first b (k + size a))
 first (star a) k = first a k
 
 abbrev pub last : Tree → ℕ → ℕ
 last (letter m) k = only k
 last empty k = 0
-last (sequence a b) k = union (last b (k + size a)) (cond (skips b) (last a k) 0)
-last (either a b) k = union (last a k) (last b (k + size a))
+last (sequence a b) k = joined (last b (k + size a)) (cond (skips b) (last a k) 0)
+last (either a b) k = joined (last a k) (last b (k + size a))
 last (star a) k = last a k
 
 -- THE TABLE of what may follow each occurrence

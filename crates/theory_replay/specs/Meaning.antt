@@ -36,7 +36,7 @@ last S ts = configuration (S .model) ts (length ts)
 
 -- WHAT AN END MEANS: the trace leads by some numbers to a place where the replay stops, for the reason told; as many steps were taken as there are
 -- numbers, and the configuration is the last of their run
-pub record Means (S : Session) (s : List ℕ) (e : Ended) : Type 0 where
+pub record EndMeans (S : Session) (s : List ℕ) (e : Ended) : Type 0 where
   pub numbers : List ℕ
   pub at : ℕ
   pub leads : Leads S s numbers at

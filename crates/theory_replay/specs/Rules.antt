@@ -69,5 +69,5 @@ pub data ReplaysFrom (S : Session) (s : List ℕ) : ℕ → ℕ → Configuratio
   step : {n at t next : ℕ} {γ γ′ : Configuration} {e : Ended} → Steps S s at γ t γ′ next → ReplaysFrom S s (n + 1) next γ′ e → ReplaysFrom S s n at γ e
 
 -- THE REPLAY of a trace ends so: it starts as the session says, at the trace's first byte
-abbrev pub Replays : Session → List ℕ → Ended → Type 0
-Replays S s e = ReplaysFrom S s 0 0 (begin (S .model)) e
+abbrev pub ReplayEnds : Session → List ℕ → Ended → Type 0
+ReplayEnds S s e = ReplaysFrom S s 0 0 (begin (S .model)) e

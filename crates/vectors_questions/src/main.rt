@@ -6,7 +6,7 @@ mod replays;
 mod report;
 mod verdicts_of;
 
-use streams::files::Next;
+use streams::files::NextFile;
 use streams::files::Tag;
 use streams::files::next_file;
 use streams::files::next_tag;
@@ -45,7 +45,7 @@ fn answer_next(file: &mut [u8], second: &mut [u8], third: &mut [u8]) -> bool {
     let Tag::Byte(tag) = next_tag() else {
         return false;
     };
-    let Next::File(length) = next_file(file) else {
+    let NextFile::File(length) = next_file(file) else {
         return false;
     };
     answer_about(tag, &file[..length], second, third)

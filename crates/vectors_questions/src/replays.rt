@@ -4,14 +4,14 @@ use crate::lent::record_from;
 use crate::report::report;
 use numbers::number::wide;
 use replaying_trace::run::replay_from;
-use streams::files::Next;
+use streams::files::NextFile;
 use streams::files::next_file;
 use streams::lent::digest;
 use streams::lent::fill;
 
 // Answers the replay against this file.
 pub(crate) fn answer(file: &[u8], trace: &mut [u8], memory: &mut [u8]) -> bool {
-    let Next::File(length) = next_file(trace) else {
+    let NextFile::File(length) = next_file(trace) else {
         return false;
     };
     answer_of(file, &trace[..length], memory)

@@ -1,6 +1,6 @@
 // Writing from flat tables that were edited entry by entry.
 use c_tables::places::TABLES_LEAST;
-use c_tables::put::put_tables;
+use c_tables::put::put_flat;
 use c_tables::write::write_flat;
 use numbers::number::entry;
 use numbers::number::wide;
@@ -24,7 +24,7 @@ fn put_read(tables: &mut [u8], file: &[u8])
         Answer::Refused(_) => {}
         Answer::Read => {
             let t = reading.tables;
-            put_tables(tables, t);
+            put_flat(tables, t);
         }
     }
 }

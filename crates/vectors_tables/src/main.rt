@@ -7,7 +7,7 @@ mod texts;
 mod writings;
 mod written;
 
-use streams::files::Next;
+use streams::files::NextFile;
 use streams::files::Tag;
 use streams::files::next_file;
 use streams::files::next_tag;
@@ -44,7 +44,7 @@ fn answer_next(file: &mut [u8], question: &mut [u8], buffer: &mut [u8]) -> bool 
     let Tag::Byte(tag) = next_tag() else {
         return false;
     };
-    let Next::File(length) = next_file(file) else {
+    let NextFile::File(length) = next_file(file) else {
         return false;
     };
     answer_about(tag, &file[..length], question, buffer)

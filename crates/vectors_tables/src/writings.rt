@@ -6,7 +6,7 @@ use crate::product::write_with;
 use crate::written::report;
 use numbers::number::entry;
 use numbers::number::wide;
-use streams::files::Next;
+use streams::files::NextFile;
 use streams::files::next_file;
 use streams::lent::digest;
 use streams::lent::fill;
@@ -21,7 +21,7 @@ const HEAD: usize = 4;
 
 // Answers the question about this file.
 pub(crate) fn answer(file: &[u8], question: &mut [u8], buffer: &mut [u8]) -> bool {
-    let Next::File(length) = next_file(question) else {
+    let NextFile::File(length) = next_file(question) else {
         return false;
     };
     answer_of(file, &question[..length], buffer)

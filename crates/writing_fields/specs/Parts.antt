@@ -8,7 +8,7 @@ use Rattle.tables.specs.Limits.{mostMessages}
 use Rattle.tables.specs.Rows.{kindAt}
 use Rattle.tables.specs.Starting.{waits}
 use Rattle.tables.specs.declared.tables.Queues.{Queues}
-use Rattle.theory_format.specs.Spelled.{number, contents, action, arcsOf, pool, map, bad}
+use Rattle.theory_format.specs.Spelled.{number, contents, action, arcsOf, pool, mapped, bad}
 use Rattle.tables.specs.declared.head.Head.{Head}
 
 -- further than any text goes, and no sum with it passes what a place can hold
@@ -39,4 +39,4 @@ kind rows row = number (kindAt rows row) ++ cond (eqb (kindAt rows row) 0) [] (a
 unfoldable pub diagrams : Head → List ℕ → List ℕ → List ℕ → List ℕ → List ℕ
 diagrams h finals arcs roots entries =
     pool (h .queues .sum) (record { count = h .states; finals = finals; arcs = arcs })
-    ++ (map (h .machines .product) (record { roots = roots }) ++ bad (record { count = h .bad; rows = entries }))
+    ++ (mapped (h .machines .product) (record { roots = roots }) ++ bad (record { count = h .bad; rows = entries }))

@@ -34,7 +34,7 @@ fn put_diagrams(
 }
 
 // Answers the file's length, whether the buffer has room for it or not.
-pub fn put_tables(
+pub fn put_file(
     s: &mut [u8],
     h: Head,
     rows: &[u8],

@@ -7,7 +7,7 @@ use tables::tables::ENTRY;
 ghost use Prim.Native.Nat.{_+_, _≤_};
 ghost use Rattle.tables.specs.Limits.{mostControls};
 ghost use Rattle.numbers.specs.Put.{Put};
-ghost use Rattle.theory_format.specs.Spelled.{map, bad};
+ghost use Rattle.theory_format.specs.Spelled.{mapped, bad};
 ghost use Rattle.writing_fields.specs.Parts.{amplePlace};
 
 pub(crate) fn put_map(s: &mut [u8], at: usize, product: usize, roots: &[u8]) -> usize

@@ -15,7 +15,7 @@ use tables::tables::Pool;
 use tables::tables::ROWS;
 use tables::tables::Tables;
 use tables::tables::Transitions;
-use writing_fields::file::put_tables;
+use writing_fields::file::put_file;
 ghost use mathlib.Core.Path.{_≡_};
 ghost use Rattle.reading_file.specs.File.{readFile};
 ghost use Rattle.tables.specs.Head.{tablesOf};
@@ -87,7 +87,7 @@ pub fn write_parts(
         return Written::NotReadable;
     }
     let mut bytes = [0u8; MOST_BYTES];
-    let n = put_tables(&mut bytes, h, rows, finals, arcs, roots, entries);
+    let n = put_file(&mut bytes, h, rows, finals, arcs, roots, entries);
     if MOST_BYTES < n {
         return Written::NotReadable;
     }

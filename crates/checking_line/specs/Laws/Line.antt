@@ -21,7 +21,7 @@ use Rattle.tables.specs.declared.kinds.ControlState.{ControlState}
 use Rattle.verdicts.specs.Said.{saidVerdict, shownIn}
 use Rattle.verdicts.specs.declared.verdict.Verdict.{Verdict}
 use Rattle.verdicts.specs.declared.verdict.Verdict.the-variants.{Closed, Outside, Leaves, Bad, Refused, ShortMemory}
-use Rattle.checking_line.specs.Said.{holds, Room, given, Lined, Writes}
+use Rattle.checking_line.specs.Said.{holds, LineRoom, given, Lined, Writes}
 
 -- ROOM
 pub room-is : (room contents shown : ℕ) → holds room contents shown ≡ true → (shown ≤ contents) × (4 * shown + 52 ≤ room)
@@ -31,7 +31,7 @@ room-is room contents shown e =
     (leb-true shown contents a, leb-true (4 * shown + 52) room c)
 
 -- what the test says where it holds, and where it does not
-module _ {room contents shown : ℕ} {r : Bool} (found : Room room contents shown r) where
+module _ {room contents shown : ℕ} {r : Bool} (found : LineRoom room contents shown r) where
   pub enough : r ≡ true → holds room contents shown ≡ true
   enough e = sym (found .is) ∙ e
 

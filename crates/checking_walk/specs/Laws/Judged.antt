@@ -26,7 +26,7 @@ use Rattle.checking_walk.specs.Laws.Over.{searched-over, go-is}
 use Rattle.checking_walk.specs.Laws.Exploring.{view-place}
 use Rattle.checking_walk.specs.Answers.{Answered}
 use Rattle.checking_walk.specs.Shown.{parentOf, partOver, edgeLetter, shownFrom, shownOver, Shown}
-use Rattle.checking_walk.specs.Judged.{contentsOver, settledOver, judgedOver, shownOf, WalkJudged}
+use Rattle.checking_walk.specs.Judged.{contentsOver, settledOver, judgedOver, contentsShown, WalkJudged}
 
 -- letters one after the other
 contents-append : (rows : List ℕ) (w : Walk) (u v : List ℕ) → contentsOver rows w (u ++ v) ≡ contentsOver rows w u ++ contentsOver rows w v
@@ -87,8 +87,8 @@ module _ {arcs finals rows : List ℕ} {w : Walk} {root : Pair} {contents seen q
       record {
         reply = sym e;
         blank = b;
-        number = ap (λ j. length (shownOf j)) (sym e);
-        shown = ap (λ j. shownOf j ++ drop (length (shownOf j)) contents) (sym e);
+        number = ap (λ j. length (contentsShown j)) (sym e);
+        shown = ap (λ j. contentsShown j ++ drop (length (contentsShown j)) contents) (sym e);
       }
 
   pub judges-fails : {u contents′ : List ℕ} {n : ℕ} → judgedOver arcs finals rows w root ≡ fails u → Blank seen queue → Shown u contents contents′ n
@@ -98,10 +98,10 @@ module _ {arcs finals rows : List ℕ} {w : Walk} {root : Pair} {contents seen q
         reply =
             ap fails (ap (take n) (s .is) ∙ take-at u (drop n contents) n (sym (s .number))) ∙ sym e;
         blank = b;
-        number = s .number ∙ ap (λ j. length (shownOf j)) (sym e);
+        number = s .number ∙ ap (λ j. length (contentsShown j)) (sym e);
         shown =
             s .is ∙ ap (λ k. u ++ drop k contents) (s .number)
-            ∙ ap (λ j. shownOf j ++ drop (length (shownOf j)) contents) (sym e);
+            ∙ ap (λ j. contentsShown j ++ drop (length (contentsShown j)) contents) (sym e);
       }
 
 -- FOR A SESSION that the tables are of, the judgement is the model's

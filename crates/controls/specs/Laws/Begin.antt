@@ -10,7 +10,7 @@ use lib.Seq.{drop-cons, getD-take}
 use Rattle.tables.specs.Limits.{mostControls}
 use Rattle.tables.specs.Valid.{MachinesValid}
 use Rattle.tables.specs.declared.tables.Machines.{Machines}
-use Rattle.theory_model.specs.Model.{product, number}
+use Rattle.theory_model.specs.Model.{sizesProduct, number}
 use Rattle.theory_model.specs.Session.{States}
 use Rattle.theory_model.specs.Laws.Controls.{number-below}
 use Rattle.theory_files.specs.Laws.Counts.{states-are}
@@ -28,8 +28,8 @@ number-step : (states places : List ℕ) (count i sum k p : ℕ) → Numberable 
     → k ≡ getD states i 0 → p ≡ getD places i 0
     → withRest states places count i sum ≡ withRest states places count (i + 1) (sum * k + p)
 number-step states places count i sum k p a h e f =
-    ap₂ (λ ks ps. sum * product ks + number ks ps) cut-states cut-places
-    ∙ gathered sum k p (product (drop (i + 1) (take count states))) _
+    ap₂ (λ ks ps. sum * sizesProduct ks + number ks ps) cut-states cut-places
+    ∙ gathered sum k p (sizesProduct (drop (i + 1) (take count states))) _
   where
     cut-states : drop i (take count states) ≡ k ∷ drop (i + 1) (take count states)
     cut-states =
@@ -45,7 +45,7 @@ number-step states places count i sum k p a h e f =
 number-end : (states places : List ℕ) (count i sum : ℕ) → Numberable states places count → count ≤ i
     → withRest states places count i sum ≡ sum
 number-end states places count i sum a h =
-    ap (λ ks. sum * product ks + number ks (drop i (take count places)))
+    ap (λ ks. sum * sizesProduct ks + number ks (drop i (take count places)))
     (drop-of-length-le (take count states) {i = i} (omega (arith, length-take count states, a .statesLong)))
     ∙ omega (arith, mul-one sum)
 
@@ -76,7 +76,7 @@ module _ {states places : List ℕ} {count : ℕ} (a : Numberable states places 
     -- the sum stays small, and is the number at the end
     pub numbering-small : sum ≤ mostControls
     numbering-small =
-        let g : sum * 1 ≤ sum * product (drop i (take count states)) = mul-le-mul (le-refl sum) (a .stepped .small i .0) in
+        let g : sum * 1 ≤ sum * sizesProduct (drop i (take count states)) = mul-le-mul (le-refl sum) (a .stepped .small i .0) in
         omega (arith, g, n .is, a .small, mul-one sum)
 
     pub numbering-end : count ≤ i → sum ≡ number (take count states) (take count places)

@@ -11,7 +11,7 @@ use Rattle.tables.specs.Limits.{mostMachines, mostControls}
 use Rattle.tables.specs.Kinds.{limited}
 use Rattle.tables.specs.Valid.{MachinesValid}
 use Rattle.tables.specs.declared.tables.Machines.{Machines}
-use Rattle.theory_model.specs.Model.{product, number, places}
+use Rattle.theory_model.specs.Model.{sizesProduct, number, places}
 use Rattle.theory_model.specs.Laws.Controls.{number-places, number-below, places-are-states, states-set}
 use Rattle.theory_files.specs.Laws.Counts.{product-is}
 use Rattle.tables.specs.Laws.Kinds.{control-made}
@@ -25,25 +25,25 @@ Positive ks = (i : ℕ) → i < length ks → 1 ≤ getD ks i 0
 positive-tail : (k : ℕ) (ks : List ℕ) → Positive (k ∷ ks) → Positive ks
 positive-tail k ks h i l = h (suc i) (omega arith)
 
-pub product-positive : (ks : List ℕ) → Positive ks → 1 ≤ product ks
+pub product-positive : (ks : List ℕ) → Positive ks → 1 ≤ sizesProduct ks
 product-positive [] h = omega arith
 product-positive (k ∷ ks) h = mul-le-mul (h 0 (omega arith)) (product-positive ks (positive-tail k ks h))
 
 -- a part of the machines has no more joint states than all
-pub product-drop : (ks : List ℕ) → Positive ks → (j : ℕ) → (1 ≤ product (drop j ks)) × (product (drop j ks) ≤ product ks)
-product-drop ks h zero = (product-positive ks h, le-refl (product ks))
+pub product-drop : (ks : List ℕ) → Positive ks → (j : ℕ) → (1 ≤ sizesProduct (drop j ks)) × (sizesProduct (drop j ks) ≤ sizesProduct ks)
+product-drop ks h zero = (product-positive ks h, le-refl (sizesProduct ks))
 product-drop [] h (suc j) = (omega arith, omega arith)
 product-drop (k ∷ ks) h (suc j) =
     let r = product-drop ks (positive-tail k ks h) j in
-    let g : 1 * product ks ≤ k * product ks = mul-le-mul (h 0 (omega arith)) (le-refl (product ks)) in
-    (r .0, omega (arith, one-mul (product ks)))
+    let g : 1 * sizesProduct ks ≤ k * sizesProduct ks = mul-le-mul (h 0 (omega arith)) (le-refl (sizesProduct ks)) in
+    (r .0, omega (arith, one-mul (sizesProduct ks)))
 
 -- one machine back
 pub stepped-back : (states : List ℕ) (count i j p x : ℕ) → Stepped states count → i < j → j ≤ count
-    → p ≡ product (drop j (take count states)) → x ≡ getD states (j - 1) 0 → x * p ≡ product (drop (j - 1) (take count states))
+    → p ≡ sizesProduct (drop j (take count states)) → x ≡ getD states (j - 1) 0 → x * p ≡ sizesProduct (drop (j - 1) (take count states))
 stepped-back states count i j p x S h l e f =
     ap (λ n. n * p) f
-    ∙ ap (λ n. getD states (j - 1) 0 * n) (e ∙ ap (λ n. product (drop n (take count states))) one)
+    ∙ ap (λ n. getD states (j - 1) 0 * n) (e ∙ ap (λ n. sizesProduct (drop n (take count states))) one)
     ∙ S .before (j - 1) (omega arith)
   where
     one : j ≡ j - 1 + 1
@@ -62,10 +62,10 @@ module _ (m : Machines) (v : MachinesValid m) where
       let l : i < m .count = omega (arith, sizes-length) in
       subst (λ n. 1 ≤ n) (sym (size-at i l)) (v .states i l .0)
 
-  pub sizes-product : product (sizesOf m) ≡ m .product
+  pub sizes-product : sizesProduct (sizesOf m) ≡ m .product
   sizes-product = product-is (m .states) (m .count) (omega (arith, v .statesLong, v .most)) ∙ sym (v .product)
 
-  pub sizes-small : (j : ℕ) → (1 ≤ product (drop j (sizesOf m))) × (product (drop j (sizesOf m)) ≤ mostControls)
+  pub sizes-small : (j : ℕ) → (1 ≤ sizesProduct (drop j (sizesOf m))) × (sizesProduct (drop j (sizesOf m)) ≤ mostControls)
   sizes-small j =
       let r = product-drop (sizesOf m) sizes-positive j in
       (r .0, omega (arith, r .1, sizes-product, v .productMost))
@@ -74,11 +74,11 @@ module _ (m : Machines) (v : MachinesValid m) where
   sizes-stepped =
       record {
         most = v .most;
-        end = ap product (drop-of-length-le (sizesOf m) {i = m .count} (omega (arith, sizes-length)));
+        end = ap sizesProduct (drop-of-length-le (sizesOf m) {i = m .count} (omega (arith, sizes-length)));
         before = λ j h.
-            ap (λ n. n * product (drop (j + 1) (sizesOf m))) (sym (size-at j h))
-            ∙ ap (λ n. getD (sizesOf m) j 0 * product (drop n (sizesOf m))) (add-one j)
-            ∙ ap product (sym (drop-cons (sizesOf m) j 0 (omega (arith, sizes-length))));
+            ap (λ n. n * sizesProduct (drop (j + 1) (sizesOf m))) (sym (size-at j h))
+            ∙ ap (λ n. getD (sizesOf m) j 0 * sizesProduct (drop n (sizesOf m))) (add-one j)
+            ∙ ap sizesProduct (sym (drop-cons (sizesOf m) j 0 (omega (arith, sizes-length))));
         small = λ j. sizes-small j;
       }
 
@@ -92,14 +92,14 @@ module _ (m : Machines) (v : MachinesValid m) where
 
 -- THE MACHINES BEFORE NUMBER i are parted off: base is what they give, rest what is left
 pub record Front (ks : List ℕ) (c machine i base rest : ℕ) : Type 0 where
-  pub within : rest < product (drop i ks)
+  pub within : rest < sizesProduct (drop i ks)
   pub state : getD (places (drop i ks) rest) (machine - i) 0 ≡ getD (places ks c) machine 0
   pub moved : (to : ℕ) → base + number (drop i ks) (set (places (drop i ks) rest) (machine - i) to)
       ≡ number ks (set (places ks c) machine to)
   pub few : base + rest ≤ c
 
 module _ (ks : List ℕ) (c machine : ℕ) where
-  pub front-begin : c < product ks → Front ks c machine 0 0 c
+  pub front-begin : c < sizesProduct ks → Front ks c machine 0 0 c
   front-begin h =
       record { within = h; state = ap (λ n. getD (places ks c) n 0) z; moved = λ to. zero-add _ ∙ ap (λ n. number ks (set (places ks c) n to)) z; few = omega arith }
     where
@@ -107,7 +107,7 @@ module _ (ks : List ℕ) (c machine : ℕ) where
       z = omega arith
 
   module _ (i base rest : ℕ) (F : Front ks c machine i base rest) (h : i < machine) (l : machine < length ks)
-      (P : ℕ) (p : P ≡ product (drop (i + 1) ks)) (pos : 1 ≤ P) where
+      (P : ℕ) (p : P ≡ sizesProduct (drop (i + 1) ks)) (pos : 1 ≤ P) where
     cut : drop i ks ≡ getD ks i 0 ∷ drop (i + 1) ks
     cut = drop-cons ks i 0 (omega arith) ∙ ap (λ n. getD ks i 0 ∷ drop n ks) (sym (add-one i))
 
@@ -140,7 +140,7 @@ module _ (ks : List ℕ) (c machine : ℕ) where
             ∙ F .moved to
 
   module _ (base rest : ℕ) (F : Front ks c machine machine base rest) (l : machine < length ks) (most : c ≤ mostControls)
-      (P : ℕ) (p : P ≡ product (drop (machine + 1) ks)) (pos : 1 ≤ P) (small : P ≤ mostControls) where
+      (P : ℕ) (p : P ≡ sizesProduct (drop (machine + 1) ks)) (pos : 1 ≤ P) (small : P ≤ mostControls) where
     end-cut : drop machine ks ≡ getD ks machine 0 ∷ drop (machine + 1) ks
     end-cut = drop-cons ks machine 0 l ∙ ap (λ n. getD ks machine 0 ∷ drop n ks) (sym (add-one machine))
 
@@ -163,13 +163,13 @@ module _ (ks : List ℕ) (c machine : ℕ) where
             ∙ ap (λ js. getD (places js rest) (machine - machine) 0) (sym end-cut)
             ∙ F .state
 
-        below : rest % product (drop (machine + 1) ks) < product (drop (machine + 1) ks)
+        below : rest % sizesProduct (drop (machine + 1) ks) < sizesProduct (drop (machine + 1) ks)
         below = subst (λ n. rest % n < n) p (mod-lt rest pos)
 
         moved-end : (to : ℕ) → base + (to * P + rest % P) ≡ number ks (set (places ks c) machine to)
         moved-end to =
             ap (λ n. base + (to * n + rest % n)) p
-            ∙ ap (λ n. base + (to * product (drop (machine + 1) ks) + n)) (sym (number-places (drop (machine + 1) ks) (rest % product (drop (machine + 1) ks)) below))
+            ∙ ap (λ n. base + (to * sizesProduct (drop (machine + 1) ks) + n)) (sym (number-places (drop (machine + 1) ks) (rest % sizesProduct (drop (machine + 1) ks)) below))
             ∙ sym (ap (λ n. base + number (getD ks machine 0 ∷ drop (machine + 1) ks) (set (places (getD ks machine 0 ∷ drop (machine + 1) ks) rest) n to)) none)
             ∙ ap (λ js. base + number js (set (places js rest) (machine - machine) to)) (sym end-cut)
             ∙ F .moved to

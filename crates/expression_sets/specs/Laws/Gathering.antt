@@ -12,7 +12,7 @@ use Rattle.numbers.specs.Laws.Parts.{one-more}
 use Rattle.numbers.specs.Laws.Written.{at-or-other, zeros-hold}
 use Rattle.tables.specs.Limits.{mostMessages}
 use Rattle.theory_grammar.specs.Offends.{mostOccurrences}
-use Rattle.theory_occurrences.specs.Sets.{union, only, gather, gatherFrom, marked, markedFrom}
+use Rattle.theory_occurrences.specs.Sets.{joined, only, gather, gatherFrom, marked, markedFrom}
 use Rattle.expression_sets.specs.Marks.{Marks}
 
 -- THE OCCURRENCES OF A MESSAGE
@@ -22,7 +22,7 @@ module _ (m : ℕ) (L : List ℕ) {most i : ℕ} (sum : ℕ) where
   marked-skip h e = rw (one-more h, ne-eqb (getD L i 0) m e, markedFrom)
 
   marked-on : i < most → getD L i 0 ≡ m
-      → markedFrom (most - i) i m L sum ≡ markedFrom (most - (i + 1)) (i + 1) m L (union sum (only i))
+      → markedFrom (most - i) i m L sum ≡ markedFrom (most - (i + 1)) (i + 1) m L (joined sum (only i))
   unfolding markedFrom
   marked-on h e = rw (one-more h, eq-eqb (getD L i 0) m e, markedFrom)
 
@@ -54,7 +54,7 @@ module _ {L M : List ℕ} {i : ℕ} (W : Marking L M i) (h : i < mostOccurrences
         within = omega arith;
       }
 
-  pub marking-with : {m x bit : ℕ} → m ≡ getD L i 0 → m < mostMessages → bit ≡ only i → x ≡ union (getD M m 0) bit → Marking L (set M m x) (i + 1)
+  pub marking-with : {m x bit : ℕ} → m ≡ getD L i 0 → m < mostMessages → bit ≡ only i → x ≡ joined (getD M m 0) bit → Marking L (set M m x) (i + 1)
   marking-with {m} {x} {bit} e l b z =
       record {
         left =
@@ -70,8 +70,8 @@ module _ {L M : List ℕ} {i : ℕ} (W : Marking L M i) (h : i < mostOccurrences
         within = omega arith;
       }
     where
-      same : getD (set M m x) m 0 ≡ union (getD M m 0) (only i)
-      same = getD-set-same M m x 0 (omega (arith, W .long)) ∙ z ∙ ap (union (getD M m 0)) b
+      same : getD (set M m x) m 0 ≡ joined (getD M m 0) (only i)
+      same = getD-set-same M m x 0 (omega (arith, W .long)) ∙ z ∙ ap (joined (getD M m 0)) b
 
 pub marking-ends : {L M : List ℕ} {i : ℕ} → Marking L M i → mostOccurrences ≤ i → Marks L M
 marking-ends {L} {M} {i} W h = record { each = λ m k. sym (marked-end m L (getD M m 0) h) ∙ W .left m k }
@@ -84,7 +84,7 @@ module _ (F : List ℕ) {most i : ℕ} (x sum : ℕ) where
 
   gather-on : i < most → x % 2 ≡ 1
       → gatherFrom (most - i) i x F sum ≡ gatherFrom (most - (i + 1)) (i + 1) (x / 2) F (bitOr sum (getD F i 0))
-  unfolding gatherFrom union
+  unfolding gatherFrom joined
   gather-on h e = rw (one-more h, eq-eqb (x % 2) 1 e, gatherFrom)
 
   gather-end : most ≤ i → gatherFrom (most - i) i x F sum ≡ sum

@@ -10,7 +10,7 @@ use native.Mathlib.Omega.{arith}
 use native.Mathlib.Nat.{one-mul, mod-eq-of-lt, pow-suc, one-le-pow, pow-le-pow-right, sub-eq-zero-of-le}
 use Rattle.numbers.specs.Laws.Parts.{one-more}
 use Rattle.theory_grammar.specs.Offends.{mostOccurrences}
-use Rattle.theory_occurrences.specs.Sets.{union, only, linkFrom, link}
+use Rattle.theory_occurrences.specs.Sets.{joined, only, linkFrom, link}
 
 -- a bit, shifted in a word that it does not leave
 pub only-shift : (k : ℕ) → k < mostOccurrences → 1 * 2 ^ k % 4294967296 ≡ only k
@@ -29,7 +29,7 @@ pub record Linking (from to : ℕ) (F₀ : List ℕ) (rest i : ℕ) (F : List �
 -- the definition's steps, n being the number of all occurrences
 module _ (n rest to : ℕ) (F : List ℕ) {i : ℕ} where
   on : i < n → linkFrom (n - i) i rest to F
-      ≡ linkFrom (n - (i + 1)) (i + 1) (rest / 2) to (cond (eqb (rest % 2) 1) (set F i (union (getD F i 0) to)) F)
+      ≡ linkFrom (n - (i + 1)) (i + 1) (rest / 2) to (cond (eqb (rest % 2) 1) (set F i (joined (getD F i 0) to)) F)
   unfolding linkFrom
   on h = rw (one-more h)
 
@@ -41,7 +41,7 @@ pub linking-begins : (from to : ℕ) (F : List ℕ) → Linking from to F from 0
 linking-begins from to F = record { is = refl; within = omega arith }
 
 module _ {from to : ℕ} {F₀ : List ℕ} {rest i : ℕ} {F : List ℕ} (W : Linking from to F₀ rest i F) (h : i < mostOccurrences) {G : List ℕ} where
-  step : G ≡ cond (eqb (rest % 2) 1) (set F i (union (getD F i 0) to)) F → Linking from to F₀ (rest / 2) (i + 1) G
+  step : G ≡ cond (eqb (rest % 2) 1) (set F i (joined (getD F i 0) to)) F → Linking from to F₀ (rest / 2) (i + 1) G
   step g =
       record {
         is =
@@ -51,7 +51,7 @@ module _ {from to : ℕ} {F₀ : List ℕ} {rest i : ℕ} {F : List ℕ} (W : Li
         within = omega arith;
       }
 
-  pub linking-with : {z : ℕ} → rest % 2 ≡ 1 → z ≡ union (getD F i 0) to → G ≡ set F i z → Linking from to F₀ (rest / 2) (i + 1) G
+  pub linking-with : {z : ℕ} → rest % 2 ≡ 1 → z ≡ joined (getD F i 0) to → G ≡ set F i z → Linking from to F₀ (rest / 2) (i + 1) G
   linking-with e z g = step (g ∙ rw (z, eq-eqb (rest % 2) 1 e))
 
   pub linking-without : (rest % 2 ≡ 1 → ⊥) → G ≡ F → Linking from to F₀ (rest / 2) (i + 1) G

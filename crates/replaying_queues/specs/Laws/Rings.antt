@@ -114,7 +114,7 @@ module _ {mem heads lengths : List ℕ} {count : ℕ} (r : Rings mem heads lengt
         held = set-keeps (λ k. k ≤ room) lengths q (getD lengths q 0 - n) (r .held) (omega (arith, r .held q));
       }
 
--- THE ROOM: rings keep within it, and a queue that would pass it does not fit
+-- THE QUEUE_ROOM: rings keep within it, and a queue that would pass it does not fit
 pub each-fits : (f : ℕ → List ℕ) (n q : ℕ) → ((j : ℕ) → length (f j) ≤ room) → fits (each f n q) ≡ true
 each-fits f zero q h = refl
 each-fits f (suc n) q h = rw (le-leb (length (f q)) room (h q)) (each-fits f n (q + 1) h)

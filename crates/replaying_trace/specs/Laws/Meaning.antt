@@ -15,7 +15,7 @@ use Rattle.theory_model.specs.Model.{take?}
 use Rattle.theory_model.specs.Session.{Outside, howFarIn}
 use Rattle.theory_files.specs.Tables.{sessionOf}
 use Rattle.theory_replay.specs.Rules.{room, Why, outside, refusal, Asked}
-use Rattle.theory_replay.specs.Meaning.{Leads, Means, last}
+use Rattle.theory_replay.specs.Meaning.{Leads, EndMeans, last}
 use Rattle.theory_replay.specs.Replay.{replayed}
 use Rattle.theory_replay.specs.Laws.Meaning.{replay-means, outside-exactly, untaken-exactly}
 use Rattle.replaying_step.specs.declared.runs.RunRecord.{RunRecord}

@@ -28,13 +28,13 @@ module _ {Node : Type 0} (M : ℕ) (δ : Node → ℕ → Option Node) (same : N
     pub none-has : (w : List ℕ) (y : Node) → reach M δ r w ≡ some y → p y ≡ true → ⊥
     pub size : Size (ReachedFrom M δ r) (length L)
 
-  abbrev pub Means : Outcome Node → Type 0
-  Means (found k L) = Shows k L
-  Means (finished L) = Excludes L
+  abbrev pub SearchMeans : Outcome Node → Type 0
+  SearchMeans (found k L) = Shows k L
+  SearchMeans (finished L) = Excludes L
 
 module _ {Node : Type 0} (M : ℕ) (δ : Node → ℕ → Option Node) (same : Node → Node → Bool) (equal : IsEquality same) (p : Node → Bool)
     (r : Node) (fuel : ℕ) (enough : length (explore M δ same (r ∷ []) fuel) ≤ fuel) where
-  answers-mean : (o : Outcome Node) → Answers M δ same p o (explore M δ same (r ∷ []) fuel) → Means M δ same p r o
+  answers-mean : (o : Outcome Node) → Answers M δ same p o (explore M δ same (r ∷ []) fuel) → SearchMeans M δ same p r o
   answers-mean (found k L) a =
       let e : Entry Node = a .first in
       let f = first-has-it (λ e. p (e .at)) (explore M δ same (r ∷ []) fuel) e (a .is-first) in
@@ -52,5 +52,5 @@ module _ {Node : Type 0} (M : ℕ) (δ : Node → ℕ → Option Node) (same : N
         size = subst (Size (ReachedFrom M δ r)) (sym same-length) (size-from M δ same equal r fuel enough);
       }
 
-  pub search-means : Means M δ same p r (searchFrom M δ same p r fuel)
+  pub search-means : SearchMeans M δ same p r (searchFrom M δ same p r fuel)
   search-means = answers-mean (searchFrom M δ same p r fuel) (search-is M δ same equal p r fuel enough)

@@ -6,20 +6,20 @@ use lib.ListN.{length, getD, take}
 use lib.Seq.{take-suc}
 use native.Mathlib.Omega.{arith}
 use native.Mathlib.Nat.{mul-assoc, mul-one, one-mul}
-use Rattle.theory_model.specs.Model.{product, Between, nothing, message}
+use Rattle.theory_model.specs.Model.{sizesProduct, Between, nothing, message}
 use Rattle.theory_model.specs.Session.{States}
 use Rattle.tables.specs.Valid.{productOf}
 
 -- PRODUCTS
-product-snoc : (ks : List ℕ) (k : ℕ) → product (ks ++ (k ∷ [])) ≡ product ks * k
+product-snoc : (ks : List ℕ) (k : ℕ) → sizesProduct (ks ++ (k ∷ [])) ≡ sizesProduct ks * k
 product-snoc [] k = mul-one k ∙ sym (one-mul k)
-product-snoc (j ∷ ks) k = ap (λ (x : ℕ). j * x) (product-snoc ks k) ∙ sym (mul-assoc j (product ks) k)
+product-snoc (j ∷ ks) k = ap (λ (x : ℕ). j * x) (product-snoc ks k) ∙ sym (mul-assoc j (sizesProduct ks) k)
 
-pub product-is : (t : List ℕ) (n : ℕ) → n ≤ length t → product (take n t) ≡ productOf t n
+pub product-is : (t : List ℕ) (n : ℕ) → n ≤ length t → sizesProduct (take n t) ≡ productOf t n
 unfolding productOf
 product-is t zero h = refl
 product-is t (suc n) h =
-    ap product (take-suc t n 0 h) ∙ product-snoc (take n t) (getD t n 0) ∙ ap (λ (x : ℕ). x * getD t n 0) (product-is t n (omega arith))
+    ap sizesProduct (take-suc t n 0 h) ∙ product-snoc (take n t) (getD t n 0) ∙ ap (λ (x : ℕ). x * getD t n 0) (product-is t n (omega arith))
 
 -- ENTRIES
 -- a state for each of the first n machines

@@ -9,13 +9,13 @@ use Rattle.tables.specs.Limits.{mostMessages}
 use Rattle.tables.specs.Valid.{MachinesValid}
 use Rattle.tables.specs.declared.tables.Machines.{Machines}
 use Rattle.tables.specs.declared.tables.Pool.{Pool}
-use Rattle.theory_model.specs.Model.{product}
+use Rattle.theory_model.specs.Model.{sizesProduct}
 use Rattle.theory_model.specs.Diagram.{along, isFinal}
 use Rattle.theory_tables.specs.Pool.{arcOf, poolOf}
 use Rattle.tables.specs.Lookup.{alongArc, finalAt}
 use Rattle.theory_files.specs.Laws.Counts.{product-is}
 
-pub controls-are : {m : Machines} → MachinesValid m → product (take (m .count) (m .states)) ≡ m .product
+pub controls-are : {m : Machines} → MachinesValid m → sizesProduct (take (m .count) (m .states)) ≡ m .product
 controls-are {m} v = product-is (m .states) (m .count) (omega (arith, v .most, v .statesLong)) ∙ sym (v .product)
 
 pub along-is : (P : Pool) (s : Option ℕ) (m : ℕ) → m < mostMessages → along (poolOf P) s m ≡ alongArc (P .arcs) s m

@@ -23,7 +23,7 @@ use Rattle.tables.specs.declared.tables.Tables.{Tables}
 use Rattle.reading_pool.specs.Laws.Arcs.{Ascends}
 use Rattle.reading_file.specs.Valid.{Valid}
 use Rattle.theory_format.specs.Spelled.{number, each, entries, firstNumber, machines, content, contents, queues, action, transition, transitions}
-use Rattle.theory_format.specs.Spelled.{arcsOf, arcs, state, pool, map, bad, spelled}
+use Rattle.theory_format.specs.Spelled.{arcsOf, arcs, state, pool, mapped, bad, spelled}
 use Rattle.theory_format.specs.Readable.{Bytes}
 use Rattle.theory_format.specs.Laws.Arcs.{ascends-few, pool-ascending}
 
@@ -192,8 +192,8 @@ module _ {sum : ℕ} {P : Pool} (few : sum ≤ mostMessages) (z : PoolValid sum 
       fits-then (omega (arith, z .most)) (fits-one (P .count) (omega (arith, z .most)))
       (fits-each (state (P .finals) (P .arcs) sum) 66 (P .count) 0 (λ i h g. fits-state i (omega arith)))
 
-fits-map : {product n : ℕ} {R : Map} → product ≤ mostControls → n < 128 → MapValid product n R → Fits 256 (map product R)
-unfolding map
+fits-map : {product n : ℕ} {R : Map} → product ≤ mostControls → n < 128 → MapValid product n R → Fits 256 (mapped product R)
+unfolding mapped
 fits-map {product} {R = R} h g z =
     fits-wider (omega arith) (fits-entries (R .roots) product 0 (λ k _ _. omega (arith, z .roots k)))
 

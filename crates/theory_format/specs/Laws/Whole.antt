@@ -15,7 +15,7 @@ use Rattle.reading_file.specs.File.{readFile, modelTables, setTables}
 use Rattle.reading_file.specs.Valid.{Valid}
 use Rattle.reading_file.specs.Laws.Fields.{Fields, isOrdered, read-is}
 use Rattle.reading_file.specs.Laws.Valid.{FieldsValid, fields-valid, valid}
-use Rattle.theory_format.specs.Spelled.{machines, queues, transitions, pool, map, bad, spelled}
+use Rattle.theory_format.specs.Spelled.{machines, queues, transitions, pool, mapped, bad, spelled}
 use Rattle.theory_format.specs.Readable.{Bytes, Readable}
 use Rattle.theory_format.specs.Laws.Here.{Here, here-then, here-part, whole-here, here-whole}
 use Rattle.theory_format.specs.Laws.Model.{modelText, model-forth, model-back}
@@ -28,7 +28,7 @@ abbrev modelBytes : Tables → List ℕ
 modelBytes T = modelText (modelTables T)
 
 abbrev setsBytes : Tables → List ℕ
-setsBytes T = map (T .machines .product) (T .map) ++ bad (T .bad)
+setsBytes T = mapped (T .machines .product) (T .map) ++ bad (T .bad)
 
 spelled-parts : (T : Tables) → spelled T ≡ modelBytes T ++ (pool (T .queues .sum) (T .pool) ++ setsBytes T)
 unfolding spelled

@@ -13,7 +13,7 @@ use Rattle.theory_model.specs.Model.{Action, local, send, receive, Trans
 use Rattle.theory_model.specs.Diagram.{along, follow}
 use Rattle.theory_model.specs.Session.{Session, WellFormed}
 use Rattle.theory_model.specs.Verdict.{Item, start, step, entry, stepsAt, stepsFrom, entriesFrom, items, Pair, before, after, StepPair, BadPair}
-use Rattle.theory_model.specs.Verdict.{Visited, Sum, mostPairs, most}
+use Rattle.theory_model.specs.Verdict.{Visited, Sum, mostPairs, mostInAll, most}
 use Rattle.theory_model.specs.Laws.Basics.{byTest, none-not-some}
 use Rattle.theory_model.specs.Laws.Items.{IsItem, item-is, at-place, step-here, step-not-here, entries-from}
 use Rattle.theory_model.specs.Laws.Spaces.{Standing, stepSpace, step-space-length, before-in-space, after-in-space, entrySpace, entry-space-length}
@@ -121,7 +121,7 @@ module _ (S : Session) (wf : WellFormed S) (small : Within S) where
       let (b, e, p, g) = entries-from 0 (S .bad) i m in
       subst (λ i. most S i ≤ 16129) (sym p) (entry-most (S .pool .states) (small .states))
 
-  pub file-bound : (k : ℕ) → Sum S (items S) k → k ≤ 1066385472
+  pub file-bound : (k : ℕ) → Sum S (items S) k → k ≤ mostInAll
   file-bound k (j, m, z, s, e) =
       let M = S .model in
       let steps = stepsFrom M 0 (controls M) in

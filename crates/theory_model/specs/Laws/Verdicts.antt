@@ -13,7 +13,7 @@ use Rattle.theory_model.specs.Model.{Action, local, send, receive, contr
 use Rattle.theory_model.specs.Diagram.{follow, isFinal, accepts, word}
 use Rattle.theory_model.specs.Session.{Session, inside, Outside, WellFormed}
 use Rattle.theory_model.specs.Verdict.{Item, start, step, entry, items, Pair, before, after, StepPair, BadPair, Visited, Passes, Sum, First, Means}
-use Rattle.theory_model.specs.Verdict.{Reply, closed, outside, bad, Closed, stepsFrom, entriesFrom}
+use Rattle.theory_model.specs.Verdict.{Reply, closed, outside, bad, Closed, mostInAll, stepsFrom, entriesFrom}
 use Rattle.theory_model.specs.Judge.{Judged, passes, fails, Begun, beginStep, beginEntry, walkOf, judgeWalk, judge, reply, decide, verdict}
 use Rattle.theory_model.specs.TwoRuns.{TwoRuns}
 use Rattle.theory_model.specs.Laws.Items.{IsItem, item-is}
@@ -153,7 +153,7 @@ module _ (S : Session) (wf : WellFormed S) where
             fails = start-means S wf false o;
           }
 
-  pub closed-bound : Within S → (n : ℕ) → verdict S ≡ closed n → n ≤ 1066385472
+  pub closed-bound : Within S → (n : ℕ) → verdict S ≡ closed n → n ≤ mostInAll
   closed-bound small n e = file-bound S wf small n (verdict-is (closed n) .0 (sym e) .1)
 
   pub two-runs : (ts : List ℕ) → TwoRuns S (verdict S) ts

@@ -10,7 +10,7 @@ use Rattle.theory_grammar.specs.Tree.{Tree, letter, empty, sequence, either, st
 use Rattle.theory_model.specs.Laws.Basics.{false-not-true}
 use Rattle.theory_occurrences.specs.Sets.{has}
 use Rattle.theory_occurrences.specs.Positions.{skips, first, last}
-use Rattle.theory_occurrences.specs.Laws.Sets.{has-zero, in-union, in-union-when, in-only}
+use Rattle.theory_occurrences.specs.Laws.Sets.{has-zero, in-joined, in-joined-when, in-only}
 use Rattle.theory_occurrences.specs.Laws.Marked.{Split, split-none, split-first, first-split, split-map, split-after, letter-is, empty-is, sequence-is, is-sequence, either-is, star-is, is-star, marked-skips, skips-marked}
 
 -- THE REST: behind the occurrence p the list l may stand, to the end of a word of the tree
@@ -41,11 +41,11 @@ rest-within (star a) k p l s = rest-within a k p (s .front) (s .before)
 -- WHAT BEGINS
 first-sequence : (a b : Tree) (k p : ℕ)
     → (has (first (sequence a b) k) p ≡ true) ↔ ((has (first a k) p ≡ true) ⊎ ((skips a ≡ true) × (has (first b (k + size a)) p ≡ true)))
-first-sequence a b k p = in-union-when (first a k) (skips a) (first b (k + size a)) p
+first-sequence a b k p = in-joined-when (first a k) (skips a) (first b (k + size a)) p
 
 first-either : (a b : Tree) (k p : ℕ)
     → (has (first (either a b) k) p ≡ true) ↔ ((has (first a k) p ≡ true) ⊎ (has (first b (k + size a)) p ≡ true))
-first-either a b k p = in-union (first a k) (first b (k + size a)) p
+first-either a b k p = in-joined (first a k) (first b (k + size a)) p
 
 pub first-within : (t : Tree) (k p : ℕ) → Fits t k → has (first t k) p ≡ true → Within t k p
 first-within (letter m) k p f h = let e = in-only k p (omega arith) .0 h in omega arith
@@ -120,11 +120,11 @@ first-marked (star a) k p l f h s = is-star (first-split (split-map s (first-mar
 -- WHAT ENDS
 last-sequence : (a b : Tree) (k p : ℕ)
     → (has (last (sequence a b) k) p ≡ true) ↔ ((has (last b (k + size a)) p ≡ true) ⊎ ((skips b ≡ true) × (has (last a k) p ≡ true)))
-last-sequence a b k p = in-union-when (last b (k + size a)) (skips b) (last a k) p
+last-sequence a b k p = in-joined-when (last b (k + size a)) (skips b) (last a k) p
 
 last-either : (a b : Tree) (k p : ℕ)
     → (has (last (either a b) k) p ≡ true) ↔ ((has (last a k) p ≡ true) ⊎ (has (last b (k + size a)) p ≡ true))
-last-either a b k p = in-union (last a k) (last b (k + size a)) p
+last-either a b k p = in-joined (last a k) (last b (k + size a)) p
 
 -- an occurrence with nothing behind it is a last one
 pub rest-last : (t : Tree) (k p : ℕ) → Fits t k → Rest t k p [] → has (last t k) p ≡ true

@@ -1,4 +1,4 @@
--- Sets as numbers: what union, meet and the set of one have, that sets with the same members are the same, and how large a number is.
+-- Sets as numbers: what joined, meet and the set of one have, that sets with the same members are the same, and how large a number is.
 use mathlib.Core.Path.{_≡_, refl, sym, ap, _∙_}
 use mathlib.Core.Logic.{_↔_, _⊎_, inl, inr, ⊎-elim, ⊎-map}
 use mathlib.Core.Bool.{Bool, true, false, cond, _&&_, _||_}
@@ -12,7 +12,7 @@ use lib.Dec.{ltb, eqb, eqb·zero-suc, eqb·suc-zero, eqb·suc-suc}
 use lib.Pow.{pow-lt, pow-pos}
 use Rattle.theory_grammar.specs.Offends.{mostOccurrences}
 use Rattle.theory_model.specs.Laws.Basics.{byTest, false-not-true, and-is, is-and}
-use Rattle.theory_occurrences.specs.Sets.{has, union, meet, only}
+use Rattle.theory_occurrences.specs.Sets.{has, joined, meet, only}
 
 pub or-is : (a b : Bool) → (a || b) ≡ true → (a ≡ true) ⊎ (b ≡ true)
 or-is true b e = inl refl
@@ -39,12 +39,12 @@ digit P z o x = which (x % 2) (mod-lt x (zero-lt-suc 1))
     which (suc zero) l = o
     which (suc (suc d)) l = absurd (omega arith)
 
-pub has-union : (x y p : ℕ) → has (union x y) p ≡ (has x p || has y p)
-unfolding union
-has-union x y zero =
+pub has-joined : (x y p : ℕ) → has (joined x y) p ≡ (has x p || has y p)
+unfolding joined
+has-joined x y zero =
     ap (λ d. eqb d 1) (or-mod x y 1)
     ∙ digit (λ a. eqb (bitOr a (y % 2)) 1 ≡ (eqb a 1 || eqb (y % 2) 1)) refl (digit (λ b. eqb (bitOr 1 b) 1 ≡ true) refl refl y) x
-has-union x y (suc p) = ap (λ z. has z p) (or-shr x y 1) ∙ has-union (x / 2) (y / 2) p
+has-joined x y (suc p) = ap (λ z. has z p) (or-shr x y 1) ∙ has-joined (x / 2) (y / 2) p
 
 pub has-meet : (x y p : ℕ) → has (meet x y) p ≡ (has x p && has y p)
 unfolding meet
@@ -69,8 +69,8 @@ has-power (suc k) (suc p) =
     ap (λ z. has z p) half ∙ has-power k p ∙ sym (eqb·suc-suc p k)
 
 -- the same as propositions
-pub in-union : (x y p : ℕ) → (has (union x y) p ≡ true) ↔ ((has x p ≡ true) ⊎ (has y p ≡ true))
-in-union x y p = rw (has-union x y p) (or-is (has x p) (has y p), ⊎-elim (is-or-left (has x p) (has y p)) (is-or-right (has x p) (has y p)))
+pub in-joined : (x y p : ℕ) → (has (joined x y) p ≡ true) ↔ ((has x p ≡ true) ⊎ (has y p ≡ true))
+in-joined x y p = rw (has-joined x y p) (or-is (has x p) (has y p), ⊎-elim (is-or-left (has x p) (has y p)) (is-or-right (has x p) (has y p)))
 
 pub in-meet : (x y p : ℕ) → (has (meet x y) p ≡ true) ↔ ((has x p ≡ true) × (has y p ≡ true))
 in-meet x y p = rw (has-meet x y p) (and-is (has x p) (has y p), λ (h, l). is-and (has x p) (has y p) h l)
@@ -78,11 +78,11 @@ in-meet x y p = rw (has-meet x y p) (and-is (has x p) (has y p), λ (h, l). is-a
 in-when : (b : Bool) (x p : ℕ) → (has (cond b x 0) p ≡ true) ↔ ((b ≡ true) × (has x p ≡ true))
 in-when b x p = rw (has-when b x p) (and-is b (has x p), λ (h, l). is-and b (has x p) h l)
 
-pub in-union-when : (x : ℕ) (b : Bool) (y p : ℕ)
-    → (has (union x (cond b y 0)) p ≡ true) ↔ ((has x p ≡ true) ⊎ ((b ≡ true) × (has y p ≡ true)))
-in-union-when x b y p = (
-  λ h. ⊎-map (λ k. k) (in-when b y p .0) (in-union x (cond b y 0) p .0 h),
-  λ h. in-union x (cond b y 0) p .1 (⊎-map (λ k. k) (in-when b y p .1) h),
+pub in-joined-when : (x : ℕ) (b : Bool) (y p : ℕ)
+    → (has (joined x (cond b y 0)) p ≡ true) ↔ ((has x p ≡ true) ⊎ ((b ≡ true) × (has y p ≡ true)))
+in-joined-when x b y p = (
+  λ h. ⊎-map (λ k. k) (in-when b y p .0) (in-joined x (cond b y 0) p .0 h),
+  λ h. in-joined x (cond b y 0) p .1 (⊎-map (λ k. k) (in-when b y p .1) h),
 )
 
 pub has-only : (k p : ℕ) → k < mostOccurrences → has (only k) p ≡ eqb p k
@@ -137,9 +137,9 @@ low-members (suc k) x low =
     let half : x / 2 < 2 ^ k = low-members k (x / 2) (λ p h. let l = low (suc p) h in omega arith) in
     rw (pow-suc 2 k) (omega arith)
 
-pub union-low : (k x y : ℕ) → x < 2 ^ k → y < 2 ^ k → union x y < 2 ^ k
-unfolding union
-union-low k x y h l = or-lt k x y h l
+pub joined-low : (k x y : ℕ) → x < 2 ^ k → y < 2 ^ k → joined x y < 2 ^ k
+unfolding joined
+joined-low k x y h l = or-lt k x y h l
 
 pub meet-low : (k x y : ℕ) → y < 2 ^ k → meet x y < 2 ^ k
 unfolding meet

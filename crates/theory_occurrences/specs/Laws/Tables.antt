@@ -12,8 +12,8 @@ use lib.ListN.{length, getD, set, replicate, length-set, length-replicate, getD-
 use lib.Seq.{getD-set-same, getD-set-other}
 use Rattle.theory_grammar.specs.Offends.{mostOccurrences}
 use Rattle.theory_model.specs.Laws.Basics.{byTest, false-not-true, and-is, is-and}
-use Rattle.theory_occurrences.specs.Sets.{has, union, only, put, linkFrom, link, gatherFrom, gather, markedFrom, marked}
-use Rattle.theory_occurrences.specs.Laws.Sets.{or-is, is-or-left, is-or-right, has-zero, has-union, in-union, in-only, member-low, low-members}
+use Rattle.theory_occurrences.specs.Sets.{has, joined, only, put, linkFrom, link, gatherFrom, gather, markedFrom, marked}
+use Rattle.theory_occurrences.specs.Laws.Sets.{or-is, is-or-left, is-or-right, has-zero, has-joined, in-joined, in-only, member-low, low-members}
 
 -- THE BLANK TABLE
 abbrev pub zeros : List ℕ
@@ -40,8 +40,8 @@ length-linkFrom : (left i from to : ℕ) (F : List ℕ) → length (linkFrom lef
 unfolding linkFrom
 length-linkFrom zero i from to F = refl
 length-linkFrom (suc left) i from to F =
-    length-linkFrom left (i + 1) (from / 2) to (cond (eqb (from % 2) 1) (set F i (union (getD F i 0) to)) F)
-    ∙ length-stored (eqb (from % 2) 1) F i (union (getD F i 0) to)
+    length-linkFrom left (i + 1) (from / 2) to (cond (eqb (from % 2) 1) (set F i (joined (getD F i 0) to)) F)
+    ∙ length-stored (eqb (from % 2) 1) F i (joined (getD F i 0) to)
 
 pub length-link : (from to : ℕ) (F : List ℕ) → length (link from to F) ≡ length F
 length-link = length-linkFrom mostOccurrences 0
@@ -68,28 +68,28 @@ linkFrom-before : (left i from to : ℕ) (F : List ℕ) (j : ℕ) → j < i → 
 unfolding linkFrom
 linkFrom-before zero i from to F j l = refl
 linkFrom-before (suc left) i from to F j l =
-    linkFrom-before left (i + 1) (from / 2) to (cond (eqb (from % 2) 1) (set F i (union (getD F i 0) to)) F) j (omega arith)
-    ∙ stored-other (eqb (from % 2) 1) F i j (union (getD F i 0) to) (λ e. omega arith)
+    linkFrom-before left (i + 1) (from / 2) to (cond (eqb (from % 2) 1) (set F i (joined (getD F i 0) to)) F) j (omega arith)
+    ∙ stored-other (eqb (from % 2) 1) F i j (joined (getD F i 0) to) (λ e. omega arith)
 
 linkFrom-entry : (left i from to : ℕ) (F : List ℕ) (n : ℕ) → n < left → i + n < length F
-    → getD (linkFrom left i from to F) (i + n) 0 ≡ cond (has from n) (union (getD F (i + n) 0) to) (getD F (i + n) 0)
+    → getD (linkFrom left i from to F) (i + n) 0 ≡ cond (has from n) (joined (getD F (i + n) 0) to) (getD F (i + n) 0)
 unfolding linkFrom
 linkFrom-entry zero i from to F n h l = absurd (omega arith)
 linkFrom-entry (suc left) i from to F zero h l =
     rw (add-zero i)
-    (linkFrom-before left (i + 1) (from / 2) to (cond (eqb (from % 2) 1) (set F i (union (getD F i 0) to)) F) i (omega arith)
-    ∙ stored-same (eqb (from % 2) 1) F i (union (getD F i 0) to) (omega arith))
+    (linkFrom-before left (i + 1) (from / 2) to (cond (eqb (from % 2) 1) (set F i (joined (getD F i 0) to)) F) i (omega arith)
+    ∙ stored-same (eqb (from % 2) 1) F i (joined (getD F i 0) to) (omega arith))
 linkFrom-entry (suc left) i from to F (suc n) h l =
-    let G : List ℕ = cond (eqb (from % 2) 1) (set F i (union (getD F i 0) to)) F in
+    let G : List ℕ = cond (eqb (from % 2) 1) (set F i (joined (getD F i 0) to)) F in
     let shift : i + suc n ≡ i + 1 + n = omega arith in
-    let long : length G ≡ length F = length-stored (eqb (from % 2) 1) F i (union (getD F i 0) to) in
-    let other : getD G (i + 1 + n) 0 ≡ getD F (i + 1 + n) 0 = stored-other (eqb (from % 2) 1) F i (i + 1 + n) (union (getD F i 0) to) (λ e. omega arith) in
+    let long : length G ≡ length F = length-stored (eqb (from % 2) 1) F i (joined (getD F i 0) to) in
+    let other : getD G (i + 1 + n) 0 ≡ getD F (i + 1 + n) 0 = stored-other (eqb (from % 2) 1) F i (i + 1 + n) (joined (getD F i 0) to) (λ e. omega arith) in
     rw shift
     (linkFrom-entry left (i + 1) (from / 2) to G n (omega arith) (omega arith)
-    ∙ ap (λ z. cond (has (from / 2) n) (union z to) z) other)
+    ∙ ap (λ z. cond (has (from / 2) n) (joined z to) z) other)
 
-has-linked : (b : Bool) (x to q : ℕ) → has (cond b (union x to) x) q ≡ (has x q || b && has to q)
-has-linked true x to q = has-union x to q
+has-linked : (b : Bool) (x to q : ℕ) → has (cond b (joined x to) x) q ≡ (has x q || b && has to q)
+has-linked true x to q = has-joined x to q
 has-linked false x to q = byTest (has x q) (λ e. rw e) (λ e. rw e)
 
 -- an entry of the table gets what is linked to it
@@ -109,44 +109,44 @@ in-link from to F p q h l =
           (λ (f, t). is-or-right (has (getD F p 0) q) (has from p && has to q) (is-and (has from p) (has to q) f t)),
     )
 
--- COLLECTING: the union of sets, of those whose test holds, from i on
+-- COLLECTING: the joined of sets, of those whose test holds, from i on
 module _ (test : ℕ → Bool) (part : ℕ → ℕ) where
   unfoldable collect : ℕ → ℕ → ℕ → ℕ
   collect zero i sum = sum
-  collect (suc left) i sum = collect left (i + 1) (cond (test i) (union sum (part i)) sum)
+  collect (suc left) i sum = collect left (i + 1) (cond (test i) (joined sum (part i)) sum)
 
   abbrev Part : ℕ → ℕ → Type 0
   Part p q = (test p ≡ true) × (has (part p) q ≡ true)
 
-  step-keeps : (b : Bool) (sum x q : ℕ) → has sum q ≡ true → has (cond b (union sum x) sum) q ≡ true
-  step-keeps true sum x q h = in-union sum x q .1 (inl h)
+  step-keeps : (b : Bool) (sum x q : ℕ) → has sum q ≡ true → has (cond b (joined sum x) sum) q ≡ true
+  step-keeps true sum x q h = in-joined sum x q .1 (inl h)
   step-keeps false sum x q h = h
 
   collect-keeps : (left i sum q : ℕ) → has sum q ≡ true → has (collect left i sum) q ≡ true
   unfolding collect
   collect-keeps zero i sum q h = h
   collect-keeps (suc left) i sum q h =
-      collect-keeps left (i + 1) (cond (test i) (union sum (part i)) sum) q (step-keeps (test i) sum (part i) q h)
+      collect-keeps left (i + 1) (cond (test i) (joined sum (part i)) sum) q (step-keeps (test i) sum (part i) q h)
 
   collect-adds : (left i sum p q : ℕ) → i ≤ p → p < i + left → Part p q → has (collect left i sum) q ≡ true
   unfolding collect
   collect-adds zero i sum p q l h c = absurd (omega arith)
   collect-adds (suc left) i sum p q l h c =
-      let sum′ : ℕ = cond (test i) (union sum (part i)) sum in
+      let sum′ : ℕ = cond (test i) (joined sum (part i)) sum in
       byTest (eqb p i)
       (λ e.
       let same : p ≡ i = eqb-true p i e in
       let (t, m) = subst (λ j. Part j q) same c in
-      let added : has (union sum (part i)) q ≡ true = in-union sum (part i) q .1 (inr m) in
-      collect-keeps left (i + 1) sum′ q (ap (λ b. has (cond b (union sum (part i)) sum) q) t ∙ added))
+      let added : has (joined sum (part i)) q ≡ true = in-joined sum (part i) q .1 (inr m) in
+      collect-keeps left (i + 1) sum′ q (ap (λ b. has (cond b (joined sum (part i)) sum) q) t ∙ added))
       (λ e. let other : p ≡ i → ⊥ = eqb-false p i e in collect-adds left (i + 1) sum′ p q (omega arith) (omega arith) c)
 
   abbrev Collected : ℕ → ℕ → ℕ → Type 0
   Collected sum most q = (has sum q ≡ true) ⊎ ((p : ℕ) × (p < most) × Part p q)
 
-  step-from : (b : Bool) (i most sum q : ℕ) → test i ≡ b → i < most → has (cond b (union sum (part i)) sum) q ≡ true → Collected sum most q
+  step-from : (b : Bool) (i most sum q : ℕ) → test i ≡ b → i < most → has (cond b (joined sum (part i)) sum) q ≡ true → Collected sum most q
   step-from true i most sum q t l h =
-      ⊎-map (λ k. k) (λ k. (i, l, (t, k))) (in-union sum (part i) q .0 h)
+      ⊎-map (λ k. k) (λ k. (i, l, (t, k))) (in-joined sum (part i) q .0 h)
   step-from false i most sum q t l h = inl h
 
   collect-from : (left i sum q : ℕ) → has (collect left i sum) q ≡ true → Collected sum (i + left) q
@@ -157,7 +157,7 @@ module _ (test : ℕ → Bool) (part : ℕ → ℕ) where
       ⊎-elim
       (λ k. step-from (test i) i (i + suc left) sum q refl (omega arith) k)
       (λ k. inr k)
-      (rw shift at (collect-from left (i + 1) (cond (test i) (union sum (part i)) sum) q h))
+      (rw shift at (collect-from left (i + 1) (cond (test i) (joined sum (part i)) sum) q h))
 
   has-collect : (most q : ℕ) → (has (collect most 0 0) q ≡ true) ↔ ((p : ℕ) × (p < most) × Part p q)
   has-collect most q = (
@@ -170,14 +170,14 @@ gather-collects : (left i x : ℕ) (F : List ℕ) (sum : ℕ) (test : ℕ → Bo
 unfolding gatherFrom collect
 gather-collects zero i x F sum test same = refl
 gather-collects (suc left) i x F sum test same =
-    ap (λ b. gatherFrom left (i + 1) (x / 2) F (cond b (union sum (getD F i 0)) sum)) (rw add-zero at (same 0))
-    ∙ gather-collects left (i + 1) (x / 2) F (cond (test i) (union sum (getD F i 0)) sum) test
+    ap (λ b. gatherFrom left (i + 1) (x / 2) F (cond b (joined sum (getD F i 0)) sum)) (rw add-zero at (same 0))
+    ∙ gather-collects left (i + 1) (x / 2) F (cond (test i) (joined sum (getD F i 0)) sum) test
     (λ n. let shift : i + suc n ≡ i + 1 + n = omega arith in rw shift at (same (suc n)))
 
 marked-collects : (left i m : ℕ) (L : List ℕ) (sum : ℕ) → markedFrom left i m L sum ≡ collect (λ p. eqb (getD L p 0) m) only left i sum
 unfolding markedFrom collect
 marked-collects zero i m L sum = refl
-marked-collects (suc left) i m L sum = marked-collects left (i + 1) m L (cond (eqb (getD L i 0) m) (union sum (only i)) sum)
+marked-collects (suc left) i m L sum = marked-collects left (i + 1) m L (cond (eqb (getD L i 0) m) (joined sum (only i)) sum)
 
 -- WHAT IS GATHERED is in the entry of a member
 pub has-gather : (x : ℕ) (F : List ℕ) (q : ℕ) → x < 2 ^ mostOccurrences

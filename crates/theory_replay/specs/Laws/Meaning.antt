@@ -1,4 +1,4 @@
--- What the end of a replay says of the run: it means what `Means` says, nothing else does, and each reason to end is told exactly where it holds.
+-- What the end of a replay says of the run: it means what `EndMeans` says, nothing else does, and each reason to end is told exactly where it holds.
 use Prim.Native.Nat.{ℕ, _+_, _≤_, _<_}
 use mathlib.Core.Path.{_≡_, refl, sym, ap, subst, _∙_}
 use mathlib.Core.Bool.{false}
@@ -16,16 +16,16 @@ use Rattle.theory_model.specs.Session.{Session, Inside, Outside, howFarIn}
 use Rattle.theory_model.specs.Verdict.{closed}
 use Rattle.theory_model.specs.TwoRuns.{Says}
 use Rattle.theory_model.specs.Laws.Basics.{false-not-true}
-use Rattle.theory_replay.specs.Rules.{fits, Why, end, outside, refusal, Asked, Stops, left-map, no-more, unread, untaken, full, Ended, ended, Replays}
-use Rattle.theory_replay.specs.Meaning.{Numbers, none-left, number, Leads, last, Means}
+use Rattle.theory_replay.specs.Rules.{fits, Why, end, outside, refusal, Asked, Stops, left-map, no-more, unread, untaken, full, Ended, ended, ReplayEnds}
+use Rattle.theory_replay.specs.Meaning.{Numbers, none-left, number, Leads, last, EndMeans}
 use Rattle.theory_replay.specs.Replay.{replayed}
 use Rattle.theory_replay.specs.Laws.Numbers.{number-after, below-refused, refusal-number, refusal-within}
 use Rattle.theory_replay.specs.Laws.Rules.{replay-rules, rules-replay}
 use Rattle.theory_replay.specs.Laws.Ways.{way-replays, replay-way, way-leads, leads-way}
 
 module _ (S : Session) (s : List ℕ) where
-  -- THE REPLAY ENDS AS `Means` SAYS, and that leaves one end
-  pub replay-means : Means S s (replayed S s)
+  -- THE REPLAY ENDS AS `EndMeans` SAYS, and that leaves one end
+  pub replay-means : EndMeans S s (replayed S s)
   replay-means =
       let R = replay-way (replay-rules S s) in
       let (L, e) = way-leads (R .way) in
@@ -41,9 +41,9 @@ module _ (S : Session) (s : List ℕ) where
   -- where the trace leads and the replay stops, there it ends
   pub leads-ends : {ts : List ℕ} {at : ℕ} {w : Why} → Leads S s ts at → Stops S s at (last S ts) w → ended w (length ts) (last S ts) ≡ replayed S s
   leads-ends {ts} {at} {w} L p =
-      rules-replay S s (subst (λ n. Replays S s (ended w n (last S ts))) (zero-add (length ts)) (way-replays 0 (leads-way L) p))
+      rules-replay S s (subst (λ n. ReplayEnds S s (ended w n (last S ts))) (zero-add (length ts)) (way-replays 0 (leads-way L) p))
 
-  pub means-replay : {e : Ended} → Means S s e → e ≡ replayed S s
+  pub means-replay : {e : Ended} → EndMeans S s e → e ≡ replayed S s
   means-replay {e} m = same ∙ leads-ends (m .leads) (m .stops)
     where
       same : e ≡ ended (e .why) (length (m .numbers)) (last S (m .numbers))

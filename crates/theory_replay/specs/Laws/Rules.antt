@@ -6,7 +6,7 @@ use native.Mathlib.Omega.{arith}
 use lib.ListN.{length}
 use Rattle.theory_model.specs.Model.{Configuration, begin}
 use Rattle.theory_model.specs.Session.{Session}
-use Rattle.theory_replay.specs.Rules.{Ended, ReplaysFrom, stop, step, Replays}
+use Rattle.theory_replay.specs.Rules.{Ended, ReplaysFrom, stop, step, ReplayEnds}
 use Rattle.theory_replay.specs.Replay.{Turn, stops, goes, turn, replayFrom, replayed}
 use Rattle.theory_replay.specs.Laws.Turns.{turn-stops, turn-goes, stops-turn, steps-turn, step-advances, replay-stops, replay-goes-on}
 
@@ -35,8 +35,8 @@ module _ (S : Session) (s : List ℕ) where
       let a = step-advances p in
       from-rules r left (omega arith) ∙ sym (replay-goes-on S s _ _ left _ (steps-turn p))
 
-  pub replay-rules : Replays S s (replayed S s)
+  pub replay-rules : ReplayEnds S s (replayed S s)
   replay-rules = rules-from (length s) 0 0 (begin (S .model)) (omega arith)
 
-  pub rules-replay : {e : Ended} → Replays S s e → e ≡ replayed S s
+  pub rules-replay : {e : Ended} → ReplayEnds S s e → e ≡ replayed S s
   rules-replay r = from-rules r (length s) (omega arith)

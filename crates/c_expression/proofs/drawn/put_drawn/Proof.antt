@@ -7,15 +7,15 @@ use Rattle.c_expression.proofs.drawn.put_drawn.Statement.{statement}
 use Rattle.c_expression.proofs.drawn.put_drawn.Tie as tie
 use Rattle.c_expression.proofs.drawn.put_drawn.Reads as reads
 use Rattle.c_expression.proofs.drawn.put_drawn.Lts as lts
-use Rattle.c_expression.proofs.drawn.put_tables.Reads as put-tables-reads
+use Rattle.c_expression.proofs.drawn.put_pool.Reads as put-pool-reads
 
 -- src/drawn.rt:58:38
 enum-told : tie.Need-enum-told
 enum-told c = search needs
 
 -- src/drawn.rt:58:27
-put-tables-requires : tie.Need-put-tables-requires
-put-tables-requires c κs = search needs
+put-pool-requires : tie.Need-put-pool-requires
+put-pool-requires c κs = search needs
 
 enum-told-2 : tie.Need-enum-told-2
 enum-told-2 c = search needs
@@ -35,7 +35,7 @@ same-length c = search needs
 
 -- src/drawn.rt:53:1
 returns : tie.Need-returns
-returns c = c .before .before .put-tables .ensures ∙ sym (ap (λ x. poolAfter (saidReply x) (c .before .before .before .before .before .before .before .args .pool) (now (c .before .before .before .before .before .before .before .args .space))) (c .before .before .before .before .enum-told .given .1))
+returns c = c .before .before .put-pool .ensures ∙ sym (ap (λ x. poolAfter (saidReply x) (c .before .before .before .before .before .before .before .args .pool) (now (c .before .before .before .before .before .before .before .args .space))) (c .before .before .before .before .enum-told .given .1))
 
 -- src/drawn.rt:53:1
 returns-2 : tie.Need-returns-2
@@ -58,7 +58,7 @@ put-drawn-spec =
     tie.close
     (tie.spec
     enum-told
-    put-tables-requires
+    put-pool-requires
     enum-told-2
     enum-told-3
     enum-told-4

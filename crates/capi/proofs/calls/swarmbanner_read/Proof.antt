@@ -9,7 +9,7 @@ use Rattle.capi.proofs.calls.swarmbanner_read.Statement.{statement}
 use Rattle.capi.proofs.calls.swarmbanner_read.Tie as tie
 use Rattle.capi.proofs.calls.swarmbanner_read.Reads as reads
 use Rattle.capi.proofs.calls.swarmbanner_read.Lts as lts
-use Rattle.c_tables.proofs.put.put_tables.Reads as put-tables-reads
+use Rattle.c_tables.proofs.put.put_flat.Reads as put-flat-reads
 use Rattle.c_replies.proofs.told.bare.Reads as bare-reads
 use Rattle.c_replies.proofs.told.put_told.Reads as put-told-reads
 use Rattle.c_replies.proofs.told.tell_refusal.Reads as tell-refusal-reads
@@ -44,8 +44,8 @@ enum-told : tie.Need-enum-told
 enum-told c = search needs
 
 -- src/calls.rt:36:13
-put-tables-requires : tie.Need-put-tables-requires
-put-tables-requires c κs = (read-valid (now (c .before .before .before .before .before .before .before .before .before .before .args .file)) (sym (ap saidAnswer (c .before .before .enum-told .given .1)) ∙ c .before .before .before .before .read .ensures .reply) (c .before .before .before .before .read .ensures .tables), c .before .before .before .before .before .before .if1 .left)
+put-flat-requires : tie.Need-put-flat-requires
+put-flat-requires c κs = (read-valid (now (c .before .before .before .before .before .before .before .before .before .before .args .file)) (sym (ap saidAnswer (c .before .before .enum-told .given .1)) ∙ c .before .before .before .before .read .ensures .reply) (c .before .before .before .before .read .ensures .tables), c .before .before .before .before .before .before .if1 .left)
 
 -- src/calls.rt:37:29
 bare-requires : tie.Need-bare-requires
@@ -73,7 +73,7 @@ same-length-3 c = search needs
 
 -- src/calls.rt:20:1
 returns-4 : tie.Need-returns-4
-returns-4 c = read-filled (c .before .before .before .before .before .before .before .before .before .before .before .before .before .before .if1 .left) (c .before .before .before .before .before .before .before .before .before .before .before .before .before .if2 .left) (c .before .before .before .before .before .before .before .before .before .before .before .before .read .result) (c .before .before .before .before .before .before .before .before .before .before .before .before .read .ensures) (c .before .before .before .bare .ensures ∙ sym (ap (λ x. toldAnswer (saidAnswer x)) (c .before .before .before .before .before .before .before .before .before .before .enum-told .given .1))) (c .before .before .put-told2 .ensures) (ap saidAnswer (c .before .before .before .before .before .before .before .before .before .before .enum-told .given .1)) (c .before .before .before .before .before .before .before .put-tables .ensures)
+returns-4 c = read-filled (c .before .before .before .before .before .before .before .before .before .before .before .before .before .before .if1 .left) (c .before .before .before .before .before .before .before .before .before .before .before .before .before .if2 .left) (c .before .before .before .before .before .before .before .before .before .before .before .before .read .result) (c .before .before .before .before .before .before .before .before .before .before .before .before .read .ensures) (c .before .before .before .bare .ensures ∙ sym (ap (λ x. toldAnswer (saidAnswer x)) (c .before .before .before .before .before .before .before .before .before .before .enum-told .given .1))) (c .before .before .put-told2 .ensures) (ap saidAnswer (c .before .before .before .before .before .before .before .before .before .before .enum-told .given .1)) (c .before .before .before .before .before .before .before .put-flat .ensures)
 
 pub swarmbanner-read-spec : {M : Type 1} → statement M
 swarmbanner-read-spec =
@@ -86,7 +86,7 @@ swarmbanner-read-spec =
     tell-refusal-requires
     put-told-requires
     enum-told
-    put-tables-requires
+    put-flat-requires
     bare-requires
     put-told-requires-2
     same-length

@@ -3,7 +3,7 @@ use Prim.Native.Nat.{_≤_}
 use mathlib.Core.Path.{_≡_, sym, ap, _∙_}
 use lib.ListN.{take, drop}
 use native.Mathlib.Omega.{arith}
-use Rattle.theory_model.specs.Model.{product as product-of}
+use Rattle.theory_model.specs.Model.{sizesProduct as product-of}
 use Rattle.controls.specs.Laws.Parting.{stepped-back}
 use Prim.Native.Nat.{ℕ, _-_}
 use Rattle.controls.proofs.parting.product_from.Statement.{statement}

@@ -6,7 +6,7 @@ use Rattle.expression_parse.proofs.parts.sequence.Reads as reads
 use Rattle.expression_parse.proofs.parts.sequence.Lts as lts
 use Rattle.expression_parse.proofs.parts.both.Reads as both-reads
 use Rattle.expression_sets.proofs.sets.connect.Reads as connect-reads
-use Rattle.expression_sets.proofs.sets.union.Reads as union-reads
+use Rattle.expression_sets.proofs.sets.joined.Reads as joined-reads
 use Rattle.expression_sets.proofs.sets.when.Reads as when-reads
 
 -- src/parts.rt:75:5
@@ -18,16 +18,16 @@ when-requires : tie.Need-when-requires
 when-requires c κs = search needs
 
 -- src/parts.rt:79:16
-union-requires : tie.Need-union-requires
-union-requires c κs = search needs
+joined-requires : tie.Need-joined-requires
+joined-requires c κs = search needs
 
 -- src/parts.rt:80:32
 when-requires-2 : tie.Need-when-requires-2
 when-requires-2 c κs = search needs
 
 -- src/parts.rt:80:15
-union-requires-2 : tie.Need-union-requires-2
-union-requires-2 c κs = search needs
+joined-requires-2 : tie.Need-joined-requires-2
+joined-requires-2 c κs = search needs
 
 -- src/parts.rt:81:16
 both-requires : tie.Need-both-requires
@@ -51,8 +51,8 @@ sequence-spec =
     (tie.spec
     connect-requires
     when-requires
-    union-requires
+    joined-requires
     when-requires-2
-    union-requires-2
+    joined-requires-2
     both-requires
     returns)

@@ -7,7 +7,7 @@ use Rattle.expression_sets.proofs.sets.connect.Statement.{statement}
 use Rattle.expression_sets.proofs.sets.connect.Tie as tie
 use Rattle.expression_sets.proofs.sets.connect.Reads as reads
 use Rattle.expression_sets.proofs.sets.connect.Lts as lts
-use Rattle.expression_sets.proofs.sets.union.Reads as union-reads
+use Rattle.expression_sets.proofs.sets.joined.Reads as joined-reads
 
 abbrev Inv-loop : tie.InvT-loop
 Inv-loop from to follow₀ rest₀ i₀ follow rest i = Linking from to follow₀ rest i follow
@@ -24,16 +24,16 @@ returns : tie.Need-returns Inv-loop μ-loop
 returns c = linking-empty (c .before .before .loop .inv) (c .if1 .taken)
 
 -- src/sets.rt:48:25
-mul-union : tie.Need-mul-union Inv-loop μ-loop
-mul-union c = search needs
+mul-joined : tie.Need-mul-joined Inv-loop μ-loop
+mul-joined c = search needs
 
 -- src/sets.rt:48:25
-element-copy-out-union : tie.Need-element-copy-out-union Inv-loop μ-loop
-element-copy-out-union c = search needs
+element-copy-out-joined : tie.Need-element-copy-out-joined Inv-loop μ-loop
+element-copy-out-joined c = search needs
 
 -- src/sets.rt:48:13
-union-requires : tie.Need-union-requires Inv-loop μ-loop
-union-requires c κs = search needs
+joined-requires : tie.Need-joined-requires Inv-loop μ-loop
+joined-requires c κs = search needs
 
 -- src/sets.rt:50:13
 mul-follow : tie.Need-mul-follow Inv-loop μ-loop
@@ -67,9 +67,9 @@ connect-spec =
     μ-loop
     loop-holds
     returns
-    mul-union
-    element-copy-out-union
-    union-requires
+    mul-joined
+    element-copy-out-joined
+    joined-requires
     mul-follow
     element-write-follow
     add-i

@@ -10,7 +10,7 @@ use Rattle.expression_sets.proofs.sets.marks_of.Reads as reads
 use Rattle.expression_sets.proofs.sets.marks_of.Lts as lts
 use Rattle.numbers.proofs.number.wide.Reads as wide-reads
 use Rattle.expression_sets.proofs.sets.only.Reads as only-reads
-use Rattle.expression_sets.proofs.sets.union.Reads as union-reads
+use Rattle.expression_sets.proofs.sets.joined.Reads as joined-reads
 
 abbrev Inv-loop : tie.InvT-loop
 Inv-loop label marks₀ i₀ marks i = Marking label marks i
@@ -43,20 +43,20 @@ loop-again : tie.Need-loop-again Inv-loop μ-loop
 loop-again c = marking-without (c .before .before .before .before .loop .inv) (c .before .before .before .loop-test .taken) (omega (arith, c .before .wide .ensures .same, c .if1 .taken))
 
 -- src/sets.rt:70:26
-mul-union : tie.Need-mul-union Inv-loop μ-loop
-mul-union c = search needs
+mul-joined : tie.Need-mul-joined Inv-loop μ-loop
+mul-joined c = search needs
 
 -- src/sets.rt:70:26
-array-read-union : tie.Need-array-read-union Inv-loop μ-loop
-array-read-union c = search needs
+array-read-joined : tie.Need-array-read-joined Inv-loop μ-loop
+array-read-joined c = search needs
 
 -- src/sets.rt:70:36
 only-requires : tie.Need-only-requires Inv-loop μ-loop
 only-requires c κs = search needs
 
 -- src/sets.rt:70:20
-union-requires : tie.Need-union-requires Inv-loop μ-loop
-union-requires c κs = search needs
+joined-requires : tie.Need-joined-requires Inv-loop μ-loop
+joined-requires c κs = search needs
 
 -- src/sets.rt:70:9
 mul-marks : tie.Need-mul-marks Inv-loop μ-loop
@@ -94,10 +94,10 @@ marks-of-spec =
     add-i
     loop-less
     loop-again
-    mul-union
-    array-read-union
+    mul-joined
+    array-read-joined
     only-requires
-    union-requires
+    joined-requires
     mul-marks
     array-write-marks
     add-i-2

@@ -6,7 +6,7 @@ use Rattle.vectors_tables.proofs.edited.put_read.Statement.{statement}
 use Rattle.vectors_tables.proofs.edited.put_read.Tie as tie
 use Rattle.vectors_tables.proofs.edited.put_read.Reads as reads
 use Rattle.vectors_tables.proofs.edited.put_read.Lts as lts
-use Rattle.c_tables.proofs.put.put_tables.Reads as put-tables-reads
+use Rattle.c_tables.proofs.put.put_flat.Reads as put-flat-reads
 use Rattle.reading_file.proofs.reading.read.Reads as read-reads
 
 -- src/edited.rt:21:9
@@ -21,8 +21,8 @@ enum-told-2 : tie.Need-enum-told-2
 enum-told-2 c = search needs
 
 -- src/edited.rt:27:13
-put-tables-requires : tie.Need-put-tables-requires
-put-tables-requires c κs = (answer-valid _ _ (c .before .before .before .before .read .ensures) (ap saidAnswer (c .before .before .enum-told2 .given .1)), c .before .before .before .before .before .before .before .pre)
+put-flat-requires : tie.Need-put-flat-requires
+put-flat-requires c κs = (answer-valid _ _ (c .before .before .before .before .read .ensures) (ap saidAnswer (c .before .before .enum-told2 .given .1)), c .before .before .before .before .before .before .before .pre)
 
 -- src/edited.rt:18:1
 returns : tie.Need-returns
@@ -43,7 +43,7 @@ put-read-spec =
     read-requires
     enum-told
     enum-told-2
-    put-tables-requires
+    put-flat-requires
     returns
     same-length
     returns-2)

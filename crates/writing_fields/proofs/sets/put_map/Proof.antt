@@ -1,5 +1,5 @@
 use native.Mathlib.Omega.{arith}
-use Rattle.theory_format.specs.Spelled.{map}
+use Rattle.theory_format.specs.Spelled.{mapped}
 use Rattle.writing_fields.specs.Laws.Texts.{put-wider}
 use borrow.Author.Needs.{needs}
 use Rattle.writing_fields.proofs.sets.put_map.Statement.{statement}
@@ -18,7 +18,7 @@ same-length c = search needs
 
 -- src/sets.rt:11:1
 returns : tie.Need-returns
-unfolding map
+unfolding mapped
 returns c = put-wider _ (c .before .before .put-entries .ensures) (omega (arith, c .before .before .before .before .before .before .pre .1))
 
 pub put-map-spec : {M : Type 1} → statement M

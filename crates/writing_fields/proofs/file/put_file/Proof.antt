@@ -6,10 +6,10 @@ use Rattle.theory_format.specs.Spelled.{machines, spelled}
 use Rattle.writing_fields.specs.Parts.{diagrams}
 use Rattle.writing_fields.specs.Laws.Texts.{put-as}
 use borrow.Author.Needs.{needs}
-use Rattle.writing_fields.proofs.file.put_tables.Statement.{statement}
-use Rattle.writing_fields.proofs.file.put_tables.Tie as tie
-use Rattle.writing_fields.proofs.file.put_tables.Reads as reads
-use Rattle.writing_fields.proofs.file.put_tables.Lts as lts
+use Rattle.writing_fields.proofs.file.put_file.Statement.{statement}
+use Rattle.writing_fields.proofs.file.put_file.Tie as tie
+use Rattle.writing_fields.proofs.file.put_file.Reads as reads
+use Rattle.writing_fields.proofs.file.put_file.Lts as lts
 use Rattle.tables.proofs.starting.waits.Reads as waits-reads
 use Rattle.writing_fields.proofs.file.put_diagrams.Reads as put-diagrams-reads
 use Rattle.writing_fields.proofs.moves.put_machines.Reads as put-machines-reads
@@ -48,8 +48,8 @@ returns c =
     (put-then {most = 526840} (c .before .before .before .before .before .before .before .before .before .before .put-queues .ensures)
     (put-then {most = 395768} (c .before .before .before .before .before .before .put-transitions .ensures) (c .before .before .put-diagrams .ensures) (omega arith)) (omega arith)) (omega arith)
 
-pub put-tables-spec : {M : Type 1} → statement M
-put-tables-spec =
+pub put-file-spec : {M : Type 1} → statement M
+put-file-spec =
     tie.close
     (tie.spec
     waits-requires

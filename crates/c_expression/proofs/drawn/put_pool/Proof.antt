@@ -5,10 +5,10 @@ use Rattle.tables.specs.Limits.{mostPool}
 use Rattle.tables.specs.Pool.{poolArcs}
 use Rattle.c_expression.specs.Laws.{pool-front}
 use borrow.Author.Needs.{needs}
-use Rattle.c_expression.proofs.drawn.put_tables.Statement.{statement}
-use Rattle.c_expression.proofs.drawn.put_tables.Tie as tie
-use Rattle.c_expression.proofs.drawn.put_tables.Reads as reads
-use Rattle.c_expression.proofs.drawn.put_tables.Lts as lts
+use Rattle.c_expression.proofs.drawn.put_pool.Statement.{statement}
+use Rattle.c_expression.proofs.drawn.put_pool.Tie as tie
+use Rattle.c_expression.proofs.drawn.put_pool.Reads as reads
+use Rattle.c_expression.proofs.drawn.put_pool.Lts as lts
 use Rattle.numbers.proofs.put.put_word.Reads as put-word-reads
 
 -- src/drawn.rt:48:35
@@ -35,8 +35,8 @@ same-length c = search needs
 returns : tie.Need-returns
 returns c = pool-front (search (needs, c .before .before .before .before .before .before .before .before .before .before .before .before .before .good)) (search (needs, c .before .before .before .before .before .before .before .before .before .before .before .before .before .good)) (c .before .before .before .before .before .before .before .before .before .before .before .before .before .pre) (c .before .before .before .before .before .before .before .put-word .ensures) (c .before .before .put-word2 .ensures)
 
-pub put-tables-spec : {M : Type 1} → statement M
-put-tables-spec =
+pub put-pool-spec : {M : Type 1} → statement M
+put-pool-spec =
     tie.close
     (tie.spec
     slice-aggregate-put-word

@@ -1,9 +1,9 @@
 use Rattle.c_tables.specs.Laws.Put.{put-flat}
 use borrow.Author.Needs.{needs}
-use Rattle.c_tables.proofs.put.put_tables.Statement.{statement}
-use Rattle.c_tables.proofs.put.put_tables.Tie as tie
-use Rattle.c_tables.proofs.put.put_tables.Reads as reads
-use Rattle.c_tables.proofs.put.put_tables.Lts as lts
+use Rattle.c_tables.proofs.put.put_flat.Statement.{statement}
+use Rattle.c_tables.proofs.put.put_flat.Tie as tie
+use Rattle.c_tables.proofs.put.put_flat.Reads as reads
+use Rattle.c_tables.proofs.put.put_flat.Lts as lts
 use Rattle.c_tables.proofs.put.put_large.Reads as put-large-reads
 use Rattle.c_tables.proofs.put.put_small.Reads as put-small-reads
 use Rattle.c_tables.proofs.put.put_starting.Reads as put-starting-reads
@@ -37,8 +37,8 @@ same-length c = search needs
 returns : tie.Need-returns
 returns c = put-flat (c .before .before .before .before .before .before .before .before .before .before .before .before .before .before .before .before .before .before .before .before .args .t) (c .before .before .before .before .before .before .before .before .before .before .before .before .before .before .before .before .before .before .before .before .pre .0) (c .before .before .before .before .before .before .before .before .before .before .before .before .before .before .before .put-small .ensures) (c .before .before .before .before .before .before .before .before .before .before .before .put-starting .ensures) (c .before .before .before .before .before .before .before .put-large .ensures) (c .before .before .put-word .ensures)
 
-pub put-tables-spec : {M : Type 1} → statement M
-put-tables-spec =
+pub put-flat-spec : {M : Type 1} → statement M
+put-flat-spec =
     tie.close
     (tie.spec
     put-small-requires
