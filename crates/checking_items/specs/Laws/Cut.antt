@@ -1,22 +1,21 @@
 -- How each kind of action parts the contents.
-use Prim.Native.Nat.{ℕ, zero, suc, _+_, _-_, _≤_, _<_}
-use mathlib.Core.Path.{_≡_, refl, sym, ap, subst, _∙_}
-use mathlib.Core.Logic.{_⊎_, inl, inr}
+use Prim.Native.Nat.{ℕ, suc, _-_, _≤_, _<_}
+use mathlib.Core.Path.{_≡_, refl, sym, ap, _∙_}
+use mathlib.Core.Logic.{inl, inr}
 use mathlib.Core.List.{List}
 use native.Mathlib.Omega.{arith}
-use lib.ListN.{length, getD, take, drop}
+use lib.ListN.{length, take}
 use Rattle.tables.specs.Queues as Table
 use Rattle.tables.specs.Valid.{QueuesValid}
 use Rattle.tables.specs.Laws.Queues.{first-ascends}
 use Rattle.tables.specs.declared.tables.Queues.{Queues}
-use Rattle.theory_model.specs.Model.{Action, local, send, receive, firstOf}
+use Rattle.theory_model.specs.Model.{Action}
 use Rattle.theory_model.specs.Judge.{out, into, rootPair}
 use Rattle.theory_files.specs.Tables.{actionOf}
 use Rattle.reading_order.specs.Laws.Tables.{first-is}
-use Rattle.checking_pairs.specs.Pairs.{afterSide, sideOf}
+use Rattle.checking_pairs.specs.Pairs.{afterSide}
 use Rattle.following.specs.Standing.{wordOver}
-use Rattle.checking_items.specs.Start.{actionAt, cutOf, Cuts}
-use Rattle.checking_items.specs.declared.start.Cut.{Cut}
+use Rattle.checking_items.specs.Cut.{cutOf, Cuts}
 use Rattle.tables.specs.Rows.{wordEntry, kindAt, queueAt, lengthAt, wordAt}
 
 module _ (q : Queues) (rows : List ℕ) (row : ℕ) where

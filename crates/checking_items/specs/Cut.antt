@@ -1,5 +1,5 @@
 -- How an action parts the contents, in the model's words.
-use Prim.Native.Nat.{ℕ, suc, _+_, _≤_}
+use Prim.Native.Nat.{ℕ, suc, _≤_}
 use mathlib.Core.Path.{_≡_}
 use mathlib.Core.Option.{Option}
 use mathlib.Core.Logic.{_⊎_}
@@ -11,7 +11,7 @@ use Rattle.theory_model.specs.Judge.{out, into, rootPair}
 use Rattle.theory_files.specs.Tables.{actionOf}
 use Rattle.checking_pairs.specs.Pairs.{afterSide, sideOf}
 use Rattle.following.specs.Standing.{wordOver}
-use Rattle.checking_items.specs.declared.start.Cut.{Cut}
+use Rattle.checking_items.specs.declared.cut.Cut.{Cut}
 use Rattle.tables.specs.Rows.{wordEntry, kindAt, queueAt, lengthAt, wordAt}
 
 -- the action of the transition whose row begins here

@@ -9,7 +9,7 @@ use tables::tables::Queues;
 ghost use Prim.Native.Nat.{_+_, _<_, _≤_};
 ghost use lib.ListN.{length};
 ghost use Rattle.tables.specs.Rows.{rowLength, queueAt};
-ghost use Rattle.checking_items.specs.Start.{Cuts};
+ghost use Rattle.checking_items.specs.Cut.{Cuts};
 ghost use Rattle.tables.specs.Valid.{QueuesValid};
 
 // How an action parts the contents: the side it starts on, the first message that is read after it, and how many messages of
