@@ -43,10 +43,13 @@ modelOf m q τ =
       transitions = transitionsFrom (τ .rows) (τ .count) 0;
     }
 
--- so many bad entries from number b on
+-- bad entry b, a control state and a root; and so many from number b on
+abbrev pub entryAt : List ℕ → ℕ → ℕ × ℕ
+entryAt rows b = (getD rows (b * 2) 0, getD rows (b * 2 + 1) 0)
+
 abbrev pub badFrom : List ℕ → ℕ → ℕ → List (ℕ × ℕ)
 badFrom rows zero b = []
-badFrom rows (suc left) b = (getD rows (b * 2) 0, getD rows (b * 2 + 1) 0) ∷ badFrom rows left (suc b)
+badFrom rows (suc left) b = entryAt rows b ∷ badFrom rows left (suc b)
 
 -- THE SESSION of a file that was read
 abbrev pub sessionOf : Tables → Session

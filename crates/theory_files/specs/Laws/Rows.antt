@@ -14,7 +14,7 @@ use Rattle.tables.specs.declared.tables.BadList.{BadList}
 use Rattle.theory_exploration.specs.Mem.{Mem, here, there}
 use Rattle.theory_model.specs.Model.{Transition, first, Between}
 use Rattle.theory_model.specs.Session.{OwnWord}
-use Rattle.theory_files.specs.Tables.{actionOf, transitionAt, transitionsFrom, modelOf, badFrom}
+use Rattle.theory_files.specs.Tables.{actionOf, transitionAt, transitionsFrom, modelOf, entryAt, badFrom}
 use Rattle.reading_order.specs.Laws.Tables.{first-is}
 use Rattle.theory_files.specs.Laws.Counts.{between-take}
 use Rattle.tables.specs.Rows.{rowLength, wordEntry, queueAt, lengthAt, wordAt}
@@ -35,6 +35,12 @@ transition-at rows (suc left) t zero h = ap (λ n. some (transitionAt rows (n * 
 transition-at rows (suc left) t (suc i) h =
     transition-at rows left (suc t) i (omega arith) ∙ ap (λ n. some (transitionAt rows (n * rowLength))) (omega arith)
 
+-- and bad entry i
+pub entry-at : (rows : List ℕ) (left b i : ℕ) → i < left → getElem? (badFrom rows left b) i ≡ some (entryAt rows (b + i))
+entry-at rows zero b i h = absurd (omega arith)
+entry-at rows (suc left) b zero h = ap (λ n. some (entryAt rows n)) (omega arith)
+entry-at rows (suc left) b (suc i) h = entry-at rows left (suc b) i (omega arith) ∙ ap (λ n. some (entryAt rows n)) (omega arith)
+
 -- which row a transition is
 pub transition-row : (rows : List ℕ) (left t : ℕ) (τ : Transition) → Mem τ (transitionsFrom rows left t)
     → (j : ℕ) × (j < t + left) × (τ ≡ transitionAt rows (j * rowLength))
@@ -44,7 +50,7 @@ transition-row rows (suc left) t τ (there m) = let (j, l, e) = transition-row r
 
 -- and which a bad entry is
 pub entry-row : (rows : List ℕ) (left b : ℕ) (e : ℕ × ℕ) → Mem e (badFrom rows left b)
-    → (j : ℕ) × (j < b + left) × (e ≡ (getD rows (j * 2) 0, getD rows (j * 2 + 1) 0))
+    → (j : ℕ) × (j < b + left) × (e ≡ entryAt rows j)
 entry-row rows zero b e m = absurd (List·Memᴰ·not-nil m)
 entry-row rows (suc left) b e (here p) = (b, omega arith, p)
 entry-row rows (suc left) b e (there m) = let (j, l, p) = entry-row rows left (suc b) e m in (j, omega arith, p)

@@ -1,0 +1,2 @@
+// Where judging stands among the items of a session.
+pub mod cursor;
