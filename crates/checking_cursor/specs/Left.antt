@@ -14,10 +14,13 @@ use Rattle.theory_files.specs.Tables.{modelOf, transitionAt, entryAt}
 use Rattle.checking_cursor.specs.declared.cursor.Cursor.{Cursor}
 use Rattle.checking_cursor.specs.declared.cursor.Cursor.the-variants.{Start, Step, Entry, End}
 
--- the steps of n control states from c on, of c itself those from transition i on
+-- the steps of control state c from transition i on; and with them those of n control states from c on
+abbrev pub stepsOn : Model → ℕ → ℕ → List Item
+stepsOn M c i = stepsAt M c i (drop i (M .transitions))
+
 abbrev pub stepsLeft : Model → ℕ → ℕ → ℕ → List Item
 stepsLeft M c i zero = []
-stepsLeft M c i (suc n) = stepsAt M c i (drop i (M .transitions)) ++ stepsFrom M (suc c) n
+stepsLeft M c i (suc n) = stepsOn M c i ++ stepsFrom M (suc c) n
 
 -- from a step on, and from a bad entry on
 abbrev pub fromStep : Session → ℕ → ℕ → List Item
@@ -67,7 +70,8 @@ abbrev pub StandsAt : Head → List ℕ → Cursor → Type 0
 StandsAt h rows Start = Unit {0}
 StandsAt h rows (Step c i) =
     (c .0 < h .machines .product)
-    × ((i < h .transitions) × (isAt (modelIn h rows) (c .0) (transitionAt rows (i * rowLength)) ≡ true))
+    × (i < h .transitions)
+    × (isAt (modelIn h rows) (c .0) (transitionAt rows (i * rowLength)) ≡ true)
 StandsAt h rows (Entry b) = b < h .bad
 StandsAt h rows End = Unit {0}
 

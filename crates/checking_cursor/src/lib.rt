@@ -1,2 +1,3 @@
-// Where judging stands among the items of a session.
+// Where judging stands among the items of a session, and the item after it.
 pub mod cursor;
+pub mod next;

@@ -6,7 +6,7 @@ use mathlib.Core.List.{List}
 use Prim.Native.Nat.{ℕ, suc, _≤_}
 use lib.Dec.{ltb, eqb}
 use lib.ListN.{getD}
-use Rattle.reading_order.specs.Pool.{arcOf}
+use Rattle.theory_tables.specs.Pool.{arcOf}
 use Rattle.tables.specs.Lookup.{finalAt, ArcsSmall}
 use Rattle.tables.specs.Limits.{mostPool, mostMessages}
 use Rattle.theory_exploration.specs.Search.{Outcome, searchFrom}

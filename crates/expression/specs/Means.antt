@@ -12,7 +12,7 @@ use Rattle.theory_model.specs.Diagram.{Pool, follow, accepts}
 use Rattle.tables.specs.Limits.{mostMessages, mostPool}
 use Rattle.tables.specs.Valid.{PoolValid}
 use Rattle.tables.specs.declared.tables.Pool as Declared
-use Rattle.reading_order.specs.Pool.{poolOf}
+use Rattle.theory_tables.specs.Pool.{poolOf}
 use Rattle.theory_grammar.specs.Tree.{Tree, Word}
 use Rattle.theory_grammar.specs.Grammar.{Text, Outside}
 use Rattle.theory_grammar.specs.Offends.{Offends, Leftmost}

@@ -6,8 +6,7 @@ use Prim.Native.Nat.{ℕ, _+_, _≤_, _<_}
 use lib.Dec.{eqb}
 use lib.ListN.{length, take}
 use Rattle.tables.specs.Limits.{mostMessages, mostPool}
-use Rattle.reading_order.specs.Nodes.{gather}
-use Rattle.reading_order.specs.Search.{grown}
+use Rattle.theory_exploration.specs.Growing.{gather, grown}
 use Rattle.expression_sets.specs.Marks.{Marks}
 use Rattle.expression_states.specs.States.{setFor, statesFrom}
 

@@ -10,7 +10,8 @@ use Rattle.reading_model.specs.Queues.{readTerm, readCounts, countedQueues, rea
 use Rattle.tables.specs.Queues.{firstMessage}
 use Rattle.reading_model.specs.Transitions.{readAction, readTransition, readRows, readTransitions}
 use Rattle.reading_pool.specs.Pool.{readAscending, readArc, readArcs, readState, readStates, readPool}
-use Rattle.reading_order.specs.Nodes.{gather, queueNodes}
+use Rattle.theory_exploration.specs.Growing.{gather}
+use Rattle.reading_order.specs.Nodes.{queueNodes}
 use Rattle.reading_order.specs.Search.{reached, noneFails, inQueueOrder}
 use Rattle.reading_file.specs.Map.{readRoots, readMap}
 use Rattle.reading_file.specs.Bad.{readEntries, readBad}

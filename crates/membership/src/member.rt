@@ -20,7 +20,7 @@ ghost use Rattle.tables.specs.Limits.{mostPool};
 ghost use Rattle.tables.specs.Kinds.{reachedOf};
 ghost use Rattle.theory_model.specs.Model.{queueOf};
 ghost use Rattle.theory_model.specs.Diagram.{oneMore, howFar};
-ghost use Rattle.reading_order.specs.Pool.{poolOf};
+ghost use Rattle.theory_tables.specs.Pool.{poolOf};
 ghost use Rattle.theory_files.specs.Tables.{sessionOf};
 ghost use Rattle.membership.specs.Said.{saidMember};
 ghost use Rattle.membership.specs.Member.{judge, ask, memberOf};

@@ -8,8 +8,9 @@ use lib.Dec.{eqb}
 use lib.ListN.{length, getD, take}
 use Rattle.tables.specs.Limits.{mostPool}
 use Rattle.theory_exploration.specs.Marks.{mem, count}
-use Rattle.reading_order.specs.Nodes.{mostNodes, nodeOf, gather}
-use Rattle.reading_order.specs.Search.{grown}
+use Rattle.theory_exploration.specs.Growing.{gather}
+use Rattle.reading_order.specs.Nodes.{mostNodes, nodeOf}
+use Rattle.theory_exploration.specs.Growing.{grown}
 use Rattle.reading_order.specs.declared.finding.Step.{Step}
 use Rattle.reading_order.specs.declared.finding.Step.the-variants.{To, Nowhere}
 

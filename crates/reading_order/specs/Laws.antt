@@ -1,8 +1,5 @@
 -- What the test of queue order means, and what the proofs of its code rest on.
-pub mod Tables
-pub mod Grown
 pub mod Paths
-pub mod Gather
 pub mod Reached
 pub mod Ranks
 pub mod Words

@@ -1,4 +1,3 @@
-pub mod Pool
 pub mod Order
 pub mod Nodes
 pub mod Search

@@ -2,13 +2,14 @@
 -- root; or wrong, once a message of an earlier queue came after one of a later queue.
 use Prim.Native.Nat.{ℕ, zero, suc, _+_, _*_, _/_, _%_}
 use mathlib.Core.Bool.{Bool, true, false, cond}
-use mathlib.Core.Option.{Option, none, some, Option·map}
-use mathlib.Core.List.{List, [], _∷_, _++_}
+use mathlib.Core.Option.{some, Option·map}
+use mathlib.Core.List.{List, [], _++_}
 use lib.ListN.{getD}
 use lib.Dec.{ltb, eqb}
 use Rattle.tables.specs.Limits.{mostQueues, mostPool}
 use Rattle.tables.specs.Pool.{arcAt}
 use Rattle.tables.specs.Lookup.{rootOf, finalAt}
+use Rattle.theory_exploration.specs.Growing.{gather}
 
 -- no queue has this number, and every queue comes before it: what is wrong stays wrong
 abbrev pub wrong : ℕ
@@ -27,11 +28,6 @@ mostNodes = mostPool * ranks
 -- the rank after a message of queue q
 abbrev pub rankAfter : ℕ → ℕ → ℕ
 rankAfter r q = cond (ltb q r) wrong q
-
--- what a function gives for so many numbers from i on, in their order
-unfoldable pub gather : (ℕ → Option ℕ) → ℕ → ℕ → List ℕ
-gather f zero i = []
-gather f (suc left) i = elim (f i) [ none ↦ gather f left (i + 1) | some k ↦ k ∷ gather f left (i + 1) ]
 
 -- where the arcs of state s lead, for so many messages from m on, with rank r
 abbrev pub arcNodes : List ℕ → ℕ → ℕ → ℕ → ℕ → List ℕ

@@ -10,7 +10,7 @@ use Rattle.tables.specs.declared.tables.Queues.{Queues}
 use Rattle.tables.specs.declared.tables.Pool as Declared
 use Rattle.tables.specs.declared.tables.SetTables.{SetTables}
 use Rattle.theory_model.specs.Diagram.{accepts, OutOfOrder}
-use Rattle.reading_order.specs.Pool.{poolOf}
+use Rattle.theory_tables.specs.Pool.{poolOf}
 
 -- a root of the map, or of the bad list, where it counts also if its control state has no root
 pub data Root (D : SetTables) (s : ℕ) : Type 0 where

@@ -3,17 +3,14 @@
 use Prim.Native.Nat.{ℕ}
 use mathlib.Core.Bool.{Bool, true, false}
 use mathlib.Core.Option.{none, some}
-use mathlib.Core.List.{List, [], _++_}
+use mathlib.Core.List.{List, []}
 use lib.Dec.{eqb}
 use Rattle.tables.specs.declared.tables.Queues.{Queues}
 use Rattle.tables.specs.declared.tables.Pool.{Pool}
 use Rattle.tables.specs.declared.tables.SetTables.{SetTables}
-use Rattle.theory_exploration.specs.Explore.{fresh, expand, firstBy}
+use Rattle.theory_exploration.specs.Explore.{expand, firstBy}
+use Rattle.theory_exploration.specs.Growing.{grown}
 use Rattle.reading_order.specs.Nodes.{mostNodes, nextNodes, rootNodes, badNodes, fails}
-
--- nodes that go to the end of those found, unless they are there
-abbrev pub grown : List ℕ → List ℕ → List ℕ
-grown L new = L ++ fresh (λ k. k) eqb L new
 
 -- all that those found lead to; each node is taken once at most
 unfoldable pub reached : List ℕ → List ℕ → ℕ → List ℕ → List ℕ

@@ -11,7 +11,7 @@ use Rattle.tables.specs.declared.tables.BadList.{BadList}
 use Rattle.tables.specs.declared.tables.Tables.{Tables}
 use Rattle.theory_model.specs.Model.{Model, Configuration}
 use Rattle.theory_model.specs.Diagram.{accepts, howFar, word}
-use Rattle.reading_order.specs.Pool.{poolOf}
+use Rattle.theory_tables.specs.Pool.{poolOf}
 use Rattle.theory_files.specs.Tables.{modelOf}
 use Rattle.replaying_step.specs.declared.frame.Frame.{Frame}
 

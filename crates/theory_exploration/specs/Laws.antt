@@ -16,3 +16,6 @@ pub mod Sweep
 pub mod Search
 pub mod SearchMeaning
 pub mod Marks
+pub mod Gather
+pub mod Grown
+pub mod Front

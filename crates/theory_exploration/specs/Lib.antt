@@ -5,5 +5,6 @@ pub mod Order
 pub mod Explore
 pub mod Search
 pub mod Marks
+pub mod Growing
 pub mod Cases
 pub mod Laws

@@ -10,7 +10,7 @@ use Rattle.tables.specs.declared.tables.Transitions.{Transitions}
 use Rattle.tables.specs.declared.tables.Tables.{Tables}
 use Rattle.theory_model.specs.Model.{Model, Action, local, send, receive, Transition}
 use Rattle.theory_model.specs.Session.{Session}
-use Rattle.reading_order.specs.Pool.{poolOf}
+use Rattle.theory_tables.specs.Pool.{poolOf}
 use Rattle.tables.specs.Rows.{rowLength, machineAt, fromAt, toAt, kindAt, queueAt, wordAt}
 
 -- kinds: 0 local, 1 send, 2 receive

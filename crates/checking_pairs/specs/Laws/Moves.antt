@@ -8,7 +8,7 @@ use borrow.Author.Tests.{lt-ltb}
 use Rattle.tables.specs.Pool.{arcAt}
 use Rattle.tables.specs.Limits.{mostPool, mostMessages}
 use Rattle.tables.specs.Lookup.{alongArc, AlongTo}
-use Rattle.reading_order.specs.Pool.{arcOf}
+use Rattle.theory_tables.specs.Pool.{arcOf}
 use Rattle.theory_model.specs.Diagram.{along, follow}
 use Rattle.theory_model.specs.Verdict.{Pair, after}
 use Rattle.theory_model.specs.Judge.{pair}

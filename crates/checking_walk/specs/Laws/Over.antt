@@ -6,7 +6,7 @@ use mathlib.Core.List.{List, [], _∷_}
 use Prim.Native.Nat.{ℕ, suc}
 use lib.Dec.{ltb, eqb}
 use Rattle.theory_exploration.specs.Search.{searchFrom}
-use Rattle.reading_order.specs.Pool.{arcOf}
+use Rattle.theory_tables.specs.Pool.{arcOf}
 use Rattle.tables.specs.Lookup.{finalAt}
 use Rattle.theory_model.specs.Diagram.{along, follow, isFinal}
 use Rattle.theory_model.specs.Session.{Session}

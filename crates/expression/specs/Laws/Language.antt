@@ -10,7 +10,7 @@ use Rattle.theory_model.specs.Diagram as Diagram
 use Rattle.theory_model.specs.Laws.Basics.{none-not-some, false-not-true}
 use Rattle.tables.specs.Limits.{mostPool}
 use Rattle.tables.specs.declared.tables.Pool as Declared
-use Rattle.reading_order.specs.Pool.{poolOf}
+use Rattle.theory_tables.specs.Pool.{poolOf}
 use Rattle.theory_grammar.specs.Tree.{Tree, size}
 use Rattle.theory_grammar.specs.Grammar.{Text}
 use Rattle.theory_grammar.specs.Parse.{parsed, parse}

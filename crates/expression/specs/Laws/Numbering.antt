@@ -16,7 +16,7 @@ use Rattle.theory_exploration.specs.Laws.Meaning.{sound, sound-word, in-order, 
 use Rattle.theory_model.specs.Diagram as Diagram
 use Rattle.theory_model.specs.Laws.Basics.{none-not-some}
 use Rattle.tables.specs.Limits.{mostPool, mostMessages}
-use Rattle.reading_order.specs.Pool.{poolOf}
+use Rattle.theory_tables.specs.Pool.{poolOf}
 use Rattle.theory_grammar.specs.Tree.{Tree, size}
 use Rattle.theory_grammar.specs.Offends.{mostOccurrences}
 use Rattle.theory_occurrences.specs.Sets.{has}

@@ -19,8 +19,8 @@ use Rattle.theory_model.specs.Laws.Basics.{byTest}
 use Rattle.tables.specs.Limits.{mostMessages, mostPool}
 use Rattle.tables.specs.Pool.{poolArcs, arcAt}
 use Rattle.tables.specs.Lookup.{finalAt}
-use Rattle.reading_order.specs.Pool.{poolOf, arcOf}
-use Rattle.reading_order.specs.Nodes.{gather}
+use Rattle.theory_tables.specs.Pool.{poolOf, arcOf}
+use Rattle.theory_exploration.specs.Growing.{gather}
 use Rattle.theory_occurrences.specs.Positions.{Automaton, after, move, ends}
 use Rattle.expression_states.specs.States.{placeFrom}
 use Rattle.expression_states.specs.Laws.Numbering.{nodes-are}

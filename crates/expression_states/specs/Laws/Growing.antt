@@ -19,11 +19,10 @@ use Rattle.theory_exploration.specs.Marks.{mem}
 use Rattle.theory_exploration.specs.Laws.Mem.{append-move}
 use Rattle.theory_exploration.specs.Laws.Expand.{expand-extends}
 use Rattle.theory_exploration.specs.Laws.Fuel.{expand-nothing}
-use Rattle.reading_order.specs.Nodes.{gather}
-use Rattle.reading_order.specs.Search.{grown}
-use Rattle.reading_order.specs.Laws.Gather.{gather-skip, gather-on, gather-end}
-use Rattle.reading_order.specs.Laws.Grown.{grown-none, grown-old, grown-new, grown-append}
-use Rattle.reading_order.specs.Laws.Testing.{expand-on, front-many, front-next, front-end}
+use Rattle.theory_exploration.specs.Growing.{gather, grown}
+use Rattle.theory_exploration.specs.Laws.Gather.{gather-skip, gather-on, gather-end}
+use Rattle.theory_exploration.specs.Laws.Grown.{grown-none, grown-old, grown-new, grown-append}
+use Rattle.theory_exploration.specs.Laws.Front.{expand-on, front-many, front-next, front-end}
 use Rattle.theory_occurrences.specs.Sets.{meet, marked}
 use Rattle.expression_states.specs.States.{nextOf, setFor, statesFrom, placeFrom}
 use Rattle.expression_sets.specs.Marks.{Marks}

@@ -9,7 +9,7 @@ use lib.Dec.{eqb}
 use Rattle.theory_model.specs.Laws.Basics.{byTest}
 use Rattle.theory_exploration.specs.Explore.{Entry, seen, fresh, expand, rounds, starts, extend, childrenFrom, children, explore}
 use Rattle.theory_exploration.specs.Laws.Fresh.{fresh-old, fresh-new}
-use Rattle.reading_order.specs.Nodes.{gather}
+use Rattle.theory_exploration.specs.Growing.{gather}
 
 module _ {E Node : Type 0} (node : E → Node) (same : Node → Node → Bool) where
   map-append : (a b : List E) → map node (a ++ b) ≡ map node a ++ map node b

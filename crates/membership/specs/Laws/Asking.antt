@@ -15,7 +15,7 @@ use Rattle.reading_file.specs.Laws.Valid.{valid}
 use Rattle.tables.specs.declared.tables.Tables.{Tables}
 use Rattle.theory_model.specs.Model.{controls}
 use Rattle.theory_model.specs.Diagram.{howFar}
-use Rattle.reading_order.specs.Pool.{poolOf}
+use Rattle.theory_tables.specs.Pool.{poolOf}
 use Rattle.theory_files.specs.Tables.{sessionOf}
 use Rattle.tables.specs.Lookup.{rootOf}
 use Rattle.membership.specs.Member.{refusal, judge, ask, memberOf}

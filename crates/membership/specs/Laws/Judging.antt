@@ -18,10 +18,10 @@ use Rattle.tables.specs.declared.tables.Pool as Declared
 use Rattle.theory_model.specs.Model.{total, queueOf}
 use Rattle.theory_model.specs.Diagram.{Pool, along, oneMore, howFar}
 use Rattle.theory_model.specs.Laws.Far.{far-none}
-use Rattle.reading_order.specs.Pool.{poolOf}
+use Rattle.theory_tables.specs.Pool.{poolOf}
 use Rattle.tables.specs.Lookup.{alongArc, finalAt}
 use Rattle.membership.specs.Member.{MemberReply, refusal, answer, judge}
-use Rattle.reading_order.specs.Laws.Tables.{messages-are}
+use Rattle.theory_tables.specs.Laws.Queues.{messages-are}
 use Rattle.theory_files.specs.Laws.Lookup.{along-is, final-is}
 use Rattle.membership.specs.Laws.Queues.{drop-all}
 

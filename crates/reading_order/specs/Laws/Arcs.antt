@@ -18,7 +18,7 @@ use Rattle.theory_model.specs.Diagram.{Pool, follow, isFinal, accepts, OutOfOrd
 use Rattle.theory_model.specs.Laws.Basics.{byTest, false-not-true}
 use Rattle.theory_model.specs.Laws.Walks.{follow-append, follow-front}
 use Rattle.reading_order.specs.Order.{Root, Disordered}
-use Rattle.reading_order.specs.Pool.{arcOf, poolOf}
+use Rattle.theory_tables.specs.Pool.{arcOf, poolOf}
 
 -- an arc into a state and an arc out of it in the wrong order, where the first begins at a state that is reached from a root, and from
 -- where the second ends a final state is reached

@@ -14,13 +14,14 @@ use Rattle.numbers.specs.Laws.Written.{at-or-other, zeros-hold}
 use Rattle.tables.specs.Limits.{mostPool}
 use Rattle.theory_exploration.specs.Marks.{mem, count}
 use Rattle.theory_exploration.specs.Laws.Marks.{count-most, count-room, count-set, one-more-taken, one-more-known}
-use Rattle.reading_order.specs.Nodes.{wrong, ranks, mostNodes, nodeOf, rankAfter, gather, arcNodes, queueNodes}
-use Rattle.reading_order.specs.Search.{grown}
+use Rattle.theory_exploration.specs.Growing.{gather}
+use Rattle.reading_order.specs.Nodes.{wrong, ranks, mostNodes, nodeOf, rankAfter, arcNodes, queueNodes}
+use Rattle.theory_exploration.specs.Growing.{grown}
 use Rattle.reading_order.specs.Found.{Found, Grows, saidStep, stepNodes, entryNode, StepTo}
 use Rattle.reading_order.specs.declared.finding.Step.{Step}
 use Rattle.reading_order.specs.declared.finding.Step.the-variants.{To, Nowhere}
-use Rattle.reading_order.specs.Laws.Grown.{grown-none, grown-old, grown-new, grown-append}
-use Rattle.reading_order.specs.Laws.Gather.{gather-skip, gather-on}
+use Rattle.theory_exploration.specs.Laws.Grown.{grown-none, grown-old, grown-new, grown-append}
+use Rattle.theory_exploration.specs.Laws.Gather.{gather-skip, gather-on}
 use Rattle.reading_order.specs.Laws.Reached.{after-below}
 
 -- ONE MORE NODE

@@ -23,12 +23,14 @@ use Rattle.theory_model.specs.Laws.Basics.{byTest, false-not-true}
 use Rattle.theory_model.specs.Laws.Ordered.{followed-between}
 use Rattle.theory_exploration.specs.Mem.{Mem, Distinct}
 use Rattle.reading_order.specs.Nodes.{wrong, ranks, nodeOf, mostNodes, rootNodes, badNodes, fails}
-use Rattle.reading_order.specs.Search.{grown, inQueueOrder}
+use Rattle.theory_exploration.specs.Growing.{grown}
+use Rattle.reading_order.specs.Search.{inQueueOrder}
 use Rattle.reading_order.specs.Order.{Root, of-control, of-entry, Disordered}
-use Rattle.reading_order.specs.Pool.{poolOf}
-use Rattle.reading_order.specs.Laws.Gather.{gather-has, gather-is}
+use Rattle.theory_tables.specs.Pool.{poolOf}
+use Rattle.theory_exploration.specs.Laws.Gather.{gather-has, gather-is}
 use Rattle.reading_order.specs.Laws.Paths.{Path}
-use Rattle.reading_order.specs.Laws.Tables.{messages-are, arc-within}
+use Rattle.theory_tables.specs.Laws.Queues.{messages-are}
+use Rattle.theory_tables.specs.Laws.Arcs.{arc-within}
 use Rattle.reading_order.specs.Laws.Ranks.{rankAlong, rank-wrong, rank-below}
 use Rattle.reading_order.specs.Laws.Words.{node-state, node-rank, path-word, word-path}
 use Rattle.reading_order.specs.Laws.Reached.{grown-distinct, grown-has, grown-only, fails-found, none-found}
@@ -116,7 +118,7 @@ module _ (q : Queues) (P : Declared.Pool) (controls : ℕ) (D : SetTables) (Q : 
 
   follow-between : (s t : ℕ) (u : List ℕ) → follow (poolOf P) (some s) u ≡ some t → Between 0 (total ns) u
   follow-between =
-      followed-between (poolOf P) (total ns) (λ s m t e. omega (arith, messages-are Q, arc-within q P Q G s m t e .message))
+      followed-between (poolOf P) (total ns) (λ s m t e. omega (arith, messages-are Q, arc-within P G s m t e .message))
 
   accepted-end : (s : ℕ) (u : List ℕ) → accepts (poolOf P) (some s) u ≡ true
       → (t : ℕ) × (follow (poolOf P) (some s) u ≡ some t) × (finalAt (P .finals) (some t) ≡ true)

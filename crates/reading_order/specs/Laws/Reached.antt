@@ -21,9 +21,10 @@ use Rattle.theory_exploration.specs.Laws.Expand.{Steady, Ordered, expand-keeps,
 use Rattle.theory_exploration.specs.Laws.First.{first-has-it, none-has}
 use Rattle.theory_exploration.specs.Laws.Size.{at-most, below, below-length, below-each}
 use Rattle.reading_order.specs.Nodes.{wrong, ranks, nodeOf, mostNodes, rankAfter, arcNodes, queueNodes, nextNodes, fails}
-use Rattle.reading_order.specs.Search.{grown, reached, noneFails}
+use Rattle.theory_exploration.specs.Growing.{grown}
+use Rattle.reading_order.specs.Search.{reached, noneFails}
 use Rattle.reading_order.specs.Laws.Paths.{Path, stay, on}
-use Rattle.reading_order.specs.Laws.Gather.{gather-is}
+use Rattle.theory_exploration.specs.Laws.Gather.{gather-is}
 
 -- PATHS: one node more at the end
 pub path-snoc : {arcs counts : List ℕ} {queues j k l : ℕ} → Path arcs counts queues j k → Mem l (nextNodes arcs counts queues k)

@@ -6,11 +6,9 @@ use mathlib.Core.Option.{none, some}
 use mathlib.Core.List.{List, [], _∷_, _++_, append-assoc}
 use lib.Dec.{eqb}
 use lib.ListN.{length, getD, take, length-append}
-use lib.Seq.{length-take-le, getD-take, getD-at}
 use borrow.Author.Tests.{eq-eqb, ne-eqb}
 use native.Mathlib.Omega.{arith}
 use native.Mathlib.Nat.{sub-zero}
-use Rattle.numbers.specs.Laws.Parts.{one-more}
 use Rattle.tables.specs.Kinds.{reachedOf}
 use Rattle.tables.specs.Lookup.{finalAt}
 use Rattle.tables.specs.Laws.Lookup.{reached-small}
@@ -20,10 +18,12 @@ use Rattle.tables.specs.declared.tables.SetTables.{SetTables}
 use Rattle.theory_exploration.specs.Explore.{fresh, expand, firstBy}
 use Rattle.theory_exploration.specs.Laws.Mem.{append-move}
 use Rattle.theory_exploration.specs.Laws.Expand.{expand-extends}
+use Rattle.theory_exploration.specs.Laws.Front.{expand-on, front-next, front-end}
 use Rattle.theory_exploration.specs.Laws.Fuel.{expand-nothing}
 use Rattle.theory_exploration.specs.Laws.First.{first-here, first-skip, first-append}
 use Rattle.reading_order.specs.Nodes.{wrong, ranks, mostNodes, rootNodes, badNodes, fails}
-use Rattle.reading_order.specs.Search.{grown, reached, noneFails, inQueueOrder}
+use Rattle.theory_exploration.specs.Growing.{grown}
+use Rattle.reading_order.specs.Search.{reached, noneFails, inQueueOrder}
 use Rattle.reading_order.specs.Found.{Found, Grows}
 use Rattle.reading_order.specs.Laws.Finding.{found-most}
 
@@ -37,36 +37,6 @@ module _ (finals : List ℕ) (k : ℕ) where
 
   pub fails-not : (k % ranks ≡ wrong → ⊥) → false ≡ fails finals k
   fails-not n = sym (ap (λ b. elim b [ true ↦ finalAt finals (some (k / ranks)) | false ↦ false ]) (ne-eqb (k % ranks) wrong n))
-
--- WHAT IS REACHED: one more is done
-pub expand-on : (next : ℕ → List ℕ) {most k : ℕ} (done : List ℕ) (e : ℕ) (todo : List ℕ) → k < most
-    → expand (λ k. k) eqb next (most - k) done (e ∷ todo)
-    ≡ expand (λ k. k) eqb next (most - (k + 1)) (done ++ (e ∷ [])) (todo ++ fresh (λ k. k) eqb (done ++ (e ∷ todo)) (next e))
-unfolding expand
-expand-on next {most} {k} done e todo h = ap (λ i. expand (λ k. k) eqb next i done (e ∷ todo)) (one-more h)
-
--- A FRONT of a list in two parts: the second begins with the member at the place where the first ends
-module _ (nodes done todo : List ℕ) (n k : ℕ) (within : n ≤ length nodes) (whole : take n nodes ≡ done ++ todo) (taken : length done ≡ k) where
-  pub front-many : length (done ++ todo) ≡ n
-  front-many = sym (ap length whole) ∙ length-take-le n nodes within
-
-  pub front-next : k < n → (t : List ℕ) × (todo ≡ getD nodes k 0 ∷ t)
-  front-next h = go todo refl
-    where
-      go : (l : List ℕ) → todo ≡ l → (t : List ℕ) × (todo ≡ getD nodes k 0 ∷ t)
-      go [] z = absurd (omega (arith, front-many, length-append done todo, taken, ap length z))
-      go (x ∷ t) z =
-          let place : getD nodes k 0 ≡ x =
-          sym (getD-take n nodes k 0 h) ∙ ap (λ l. getD l k 0) (whole ∙ ap (λ l. done ++ l) z) ∙ getD-at done x t 0 k taken in
-          (t, z ∙ ap (λ y. y ∷ t) (sym place))
-
-  -- nothing is left where the first part is all
-  pub front-end : n ≤ k → todo ≡ []
-  front-end h = go todo refl
-    where
-      go : (l : List ℕ) → todo ≡ l → todo ≡ []
-      go [] z = z
-      go (x ∷ t) z = absurd (omega (arith, front-many, length-append done todo, taken, ap length z))
 
 -- THE LOOP: those done are the nodes before place k, and what is reached from here is all that is reached
 pub record Testing (next : ℕ → List ℕ) (p : ℕ → Bool) (all seen nodes : List ℕ) (n k : ℕ) : Type 0 where

@@ -23,10 +23,11 @@ use Rattle.theory_model.specs.Laws.Basics.{byTest}
 use Rattle.theory_model.specs.Laws.Walks.{follow-front}
 use Rattle.theory_exploration.specs.Mem.{Mem}
 use Rattle.reading_order.specs.Nodes.{ranks, nodeOf, rankAfter, arcNodes, queueNodes, nextNodes}
-use Rattle.reading_order.specs.Pool.{arcOf, poolOf}
-use Rattle.reading_order.specs.Laws.Gather.{gather-has, gather-is}
+use Rattle.theory_tables.specs.Pool.{arcOf, poolOf}
+use Rattle.theory_exploration.specs.Laws.Gather.{gather-has, gather-is}
 use Rattle.reading_order.specs.Laws.Paths.{Path, stay, on}
-use Rattle.reading_order.specs.Laws.Tables.{arc-is, messages-are, arc-within, queue-of}
+use Rattle.theory_tables.specs.Laws.Arcs.{arc-is, arc-within}
+use Rattle.theory_tables.specs.Laws.Queues.{messages-are, queue-of}
 use Rattle.reading_order.specs.Laws.Ranks.{rankAlong, rank-below}
 
 -- A NODE is its state and its rank
@@ -58,7 +59,7 @@ module _ (q : Queues) (P : Declared.Pool) (Q : QueuesValid q) (G : PoolValid (q 
       let (m, l, u, e) = gather-is _ (getD (q .messages) p 0) first k i in
       let (t, a, x) = map-eq-some-iff (λ t. nodeOf t (rankAfter r p)) (arcAt (P .arcs) s m) .0 e in
       let o : OfQueue q p m = record { queue = h; from = omega arith; below = omega (arith, first-step (q .messages) p) } in
-      (m, t, table-arc s p m o a, sym x ∙ ap (λ y. nodeOf t (rankAfter r y)) (sym (queue-of q P Q G p m o)))
+      (m, t, table-arc s p m o a, sym x ∙ ap (λ y. nodeOf t (rankAfter r y)) (sym (queue-of q Q p m o)))
 
   first-next : (p first : ℕ) → first ≡ firstMessage (q .messages) p → first + getD (q .messages) p 0 ≡ firstMessage (q .messages) (p + 1)
   first-next p first f = let n : p + 1 ≡ suc p = omega arith in omega (arith, first-step (q .messages) p, ap (firstMessage (q .messages)) n)
@@ -111,15 +112,15 @@ module _ (q : Queues) (P : Declared.Pool) (Q : QueuesValid q) (G : PoolValid (q 
   -- and every arc of its state is among that
   arc-next : (s r m t : ℕ) → r < ranks → arcOf (P .arcs) s m ≡ some t → Mem (nodeOf t (rankAfter r (queueOf ns m))) (next (nodeOf s r))
   arc-next s r m t h e =
-      let (p, o) = below-sum-of-queue q m Q (arc-within q P Q G s m t e .message) in
+      let (p, o) = below-sum-of-queue q m Q (arc-within P G s m t e .message) in
       let i = queues-reach s r (q .count) 0 0 m t p first-none o zero-le (omega (arith, o .queue)) (arc-is P s m e .1) in
-      subst₂ Mem (ap (λ y. nodeOf t (rankAfter r y)) (sym (queue-of q P Q G p m o))) (sym (node-next s r h)) i
+      subst₂ Mem (ap (λ y. nodeOf t (rankAfter r y)) (sym (queue-of q Q p m o))) (sym (node-next s r h)) i
 
   -- after a message that has an arc the rank is a rank: the next node can be taken apart in turn
   rank-next : (s r m t : ℕ) → r < ranks → arcOf (P .arcs) s m ≡ some t → rankAfter r (queueOf ns m) < ranks
   rank-next s r m t h e =
       let few : length ns ≤ mostQueues = omega (arith, length-take-le (q .count) (q .messages) (omega (arith, Q .most, Q .long)), Q .most) in
-      let l : m < total ns = omega (arith, messages-are Q, arc-within q P Q G s m t e .message) in
+      let l : m < total ns = omega (arith, messages-are Q, arc-within P G s m t e .message) in
       rank-below ns (m ∷ []) r few (message zero-le l nothing) h
 
   -- A PATH IS A WORD: it leads to the state that the word leads to, with the word's rank

@@ -16,9 +16,9 @@ use Rattle.theory_model.specs.Model.{Between, Own, number, total}
 use Rattle.theory_model.specs.Laws.Queues.{between-wide, word-between}
 use Rattle.theory_model.specs.Diagram.{Pool, follow, howFar, isFinal, accepts, word}
 use Rattle.theory_model.specs.Laws.Far.{far-whole}
-use Rattle.reading_order.specs.Pool.{poolOf}
+use Rattle.theory_tables.specs.Pool.{poolOf}
 use Rattle.theory_files.specs.Laws.Lookup.{along-is, final-is}
-use Rattle.reading_order.specs.Laws.Tables.{messages-are}
+use Rattle.theory_tables.specs.Laws.Queues.{messages-are}
 use Rattle.controls.specs.Controls.{sizesOf}
 use Rattle.following.specs.Follow.{followArcs, farArcs}
 use Rattle.following.specs.Laws.Follow.{follow-is}

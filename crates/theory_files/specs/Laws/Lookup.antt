@@ -11,7 +11,7 @@ use Rattle.tables.specs.declared.tables.Machines.{Machines}
 use Rattle.tables.specs.declared.tables.Pool.{Pool}
 use Rattle.theory_model.specs.Model.{product}
 use Rattle.theory_model.specs.Diagram.{along, isFinal}
-use Rattle.reading_order.specs.Pool.{arcOf, poolOf}
+use Rattle.theory_tables.specs.Pool.{arcOf, poolOf}
 use Rattle.tables.specs.Lookup.{alongArc, finalAt}
 use Rattle.theory_files.specs.Laws.Counts.{product-is}
 

@@ -15,7 +15,7 @@ use Rattle.theory_exploration.specs.Mem.{Mem, here, there}
 use Rattle.theory_model.specs.Model.{Transition, first, Between}
 use Rattle.theory_model.specs.Session.{OwnWord}
 use Rattle.theory_files.specs.Tables.{actionOf, transitionAt, transitionsFrom, modelOf, entryAt, badFrom}
-use Rattle.reading_order.specs.Laws.Tables.{first-is}
+use Rattle.theory_tables.specs.Laws.Queues.{first-is}
 use Rattle.theory_files.specs.Laws.Counts.{between-take}
 use Rattle.tables.specs.Rows.{rowLength, wordEntry, queueAt, lengthAt, wordAt}
 

@@ -14,9 +14,10 @@ use Rattle.theory_model.specs.Laws.Basics.{false-not-true}
 use Rattle.theory_model.specs.Laws.Walks.{follow-none}
 use Rattle.theory_model.specs.Laws.Ordered.{in-order, accepted-between}
 use Rattle.theory_model.specs.Laws.Bounds.{Within}
-use Rattle.reading_order.specs.Pool.{poolOf}
+use Rattle.theory_tables.specs.Pool.{poolOf}
 use Rattle.reading_order.specs.Order.{of-control}
-use Rattle.reading_order.specs.Laws.Tables.{arc-within, messages-are}
+use Rattle.theory_tables.specs.Laws.Arcs.{arc-within}
+use Rattle.theory_tables.specs.Laws.Queues.{messages-are}
 use Rattle.theory_files.specs.Tables.{sessionOf}
 use Rattle.tables.specs.Lookup.{rootOf}
 use Rattle.tables.specs.Laws.Lookup.{root-entry}
@@ -28,7 +29,7 @@ module _ (T : Tables) (ok : Valid T) where
   messages-within : (o : Option ℕ) (u : List ℕ) → accepts (poolOf (T .pool)) o u ≡ true → Between 0 (total (sessionOf T .model .queues)) u
   messages-within =
       accepted-between (poolOf (T .pool)) (total (sessionOf T .model .queues)) (λ s m s′ e.
-      let a = arc-within (T .queues) (T .pool) (ok .queues) (ok .pool) s m s′ e in
+      let a = arc-within (T .pool) (ok .pool) s m s′ e in
       omega (arith, a .message, messages-are (ok .queues)))
 
   -- what the root of a control state accepts is not out of order
@@ -51,7 +52,7 @@ module _ (T : Tables) (ok : Valid T) where
         starting = starting-own (T .queues) Q;
         moves = moves-within (T .machines) (T .queues) (T .transitions) Q (omega (arith, M .most, M .statesLong)) (ok .transitions);
         words = words-own (T .machines) (T .queues) (T .transitions) Q (ok .transitions);
-        arcs = λ s m s′ e. arc-within (T .queues) (T .pool) Q (ok .pool) s m s′ e .to;
+        arcs = λ s m s′ e. arc-within (T .pool) (ok .pool) s m s′ e .to;
         roots = λ c s e. omega (arith, root-entry (T .map .roots) c e, ok .map .roots c);
         entries = λ c s m. entries-within (T .machines .product) (T .pool .count) (T .bad) (ok .bad) (c, s) m;
         ordered =

@@ -25,7 +25,7 @@ use Rattle.theory_files.specs.Tables.{actionOf, sessionOf}
 use Rattle.theory_files.specs.Reply.{FileReply, refused, verdict, replyTo, shownOf}
 use Rattle.theory_files.specs.Checking.{mostShown, readLent, contentsAfter, checkOf}
 use Rattle.theory_files.specs.Laws.Rows.{transition-row}
-use Rattle.reading_order.specs.Laws.Tables.{messages-are}
+use Rattle.theory_tables.specs.Laws.Queues.{messages-are}
 use Rattle.theory_files.specs.Laws.Sessions.{well-formed}
 use Rattle.theory_files.specs.Laws.Claims.{Sound}
 use Rattle.theory_files.specs.Laws.Checking.{Ways, long, little, whole, ways, enough-long, lent-sound}

@@ -11,7 +11,7 @@ use Rattle.tables.specs.Valid.{QueuesValid}
 use Rattle.tables.specs.declared.tables.Queues.{Queues}
 use Rattle.theory_model.specs.Model.{Between, Own, none-left, queue, firstOf}
 use Rattle.theory_model.specs.Laws.Queues.{between-wide, first-zero}
-use Rattle.reading_order.specs.Laws.Tables.{first-is}
+use Rattle.theory_tables.specs.Laws.Queues.{first-is}
 use Rattle.theory_files.specs.Laws.Counts.{between-take}
 
 -- words one after the other, each of its own queue

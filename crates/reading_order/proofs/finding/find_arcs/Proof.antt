@@ -3,7 +3,7 @@ use native.Mathlib.Omega.{arith}
 use Prim.Native.Nat.{_≤_, _-_}
 use Rattle.reading_order.specs.Found.{rowNodes}
 use Rattle.reading_order.specs.Laws.Finding.{Finding, finding-begin, finding-part, finding-end, gather-step}
-use Rattle.reading_order.specs.Laws.Gather.{gather-end}
+use Rattle.theory_exploration.specs.Laws.Gather.{gather-end}
 use Rattle.reading_order.proofs.finding.find_arcs.Statement.{statement}
 use Rattle.reading_order.proofs.finding.find_arcs.Tie as tie
 use Rattle.reading_order.proofs.finding.find_arcs.Reads as reads

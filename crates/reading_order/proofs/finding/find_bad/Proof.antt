@@ -5,7 +5,7 @@ use mathlib.Core.Path.{_∙_}
 use native.Mathlib.Nat.{add-zero, sub-zero}
 use Rattle.reading_order.specs.Nodes.{badNodes}
 use Rattle.reading_order.specs.Laws.Finding.{Finding, finding-begin, finding-part, finding-end}
-use Rattle.reading_order.specs.Laws.Gather.{gather-on, gather-end}
+use Rattle.theory_exploration.specs.Laws.Gather.{gather-on, gather-end}
 use Rattle.reading_order.proofs.finding.find_bad.Statement.{statement}
 use Rattle.reading_order.proofs.finding.find_bad.Tie as tie
 use Rattle.reading_order.proofs.finding.find_bad.Reads as reads

@@ -7,7 +7,7 @@ use native.Mathlib.Nat.{add-zero, sub-zero}
 use Rattle.tables.specs.Lookup.{rootOf}
 use Rattle.reading_order.specs.Nodes.{rootNodes}
 use Rattle.reading_order.specs.Laws.Finding.{Finding, finding-begin, finding-skip, finding-part, finding-end}
-use Rattle.reading_order.specs.Laws.Gather.{gather-skip, gather-on, gather-end}
+use Rattle.theory_exploration.specs.Laws.Gather.{gather-skip, gather-on, gather-end}
 use Rattle.reading_order.proofs.finding.find_roots.Statement.{statement}
 use Rattle.reading_order.proofs.finding.find_roots.Tie as tie
 use Rattle.reading_order.proofs.finding.find_roots.Reads as reads

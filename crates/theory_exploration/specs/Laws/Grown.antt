@@ -5,10 +5,10 @@ use mathlib.Core.Bool.{Bool, true, false}
 use mathlib.Core.List.{List, [], _∷_, _++_, append-nil}
 use lib.Dec.{eqb}
 use lib.Seq.{append-snoc}
 use Rattle.theory_exploration.specs.Explore.{fresh}
 use Rattle.theory_exploration.specs.Marks.{mem}
 use Rattle.theory_exploration.specs.Laws.Fresh.{fresh-old, fresh-new}
-use Rattle.reading_order.specs.Search.{grown}
+use Rattle.theory_exploration.specs.Growing.{grown}
 
 pub grown-none : (L : List ℕ) → grown L [] ≡ L
 unfolding fresh

@@ -1,0 +1,3 @@
+-- The tables in the model's words.
+pub mod Queues
+pub mod Arcs
