@@ -9,7 +9,7 @@ use Rattle.tables.specs.Lookup.{rootOf, finalAt, RootAt}
 use Rattle.tables.specs.Starting.{startingOf}
 use Rattle.tables.specs.declared.tables.Tables.{Tables}
 use Rattle.reading_file.specs.Valid.{Valid}
-use Rattle.reading_order.specs.Pool.{poolOf}
+use Rattle.theory_tables.specs.Pool.{poolOf}
 use Rattle.theory_model.specs.Model.{number}
 use Rattle.theory_model.specs.Diagram.{isFinal, word}
 use Rattle.theory_files.specs.Laws.Lookup.{along-is, final-is}

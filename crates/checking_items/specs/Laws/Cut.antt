@@ -12,7 +12,7 @@ use Rattle.tables.specs.declared.tables.Queues.{Queues}
 use Rattle.theory_model.specs.Model.{Action}
 use Rattle.theory_model.specs.Judge.{out, into, rootPair}
 use Rattle.theory_files.specs.Tables.{actionOf}
-use Rattle.reading_order.specs.Laws.Tables.{first-is}
+use Rattle.theory_tables.specs.Laws.Queues.{first-is}
 use Rattle.checking_pairs.specs.Pairs.{afterSide}
 use Rattle.following.specs.Standing.{wordOver}
 use Rattle.checking_items.specs.Cut.{cutOf, Cuts}

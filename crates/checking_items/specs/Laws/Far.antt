@@ -12,8 +12,8 @@ use Rattle.tables.specs.Lookup.{rootOf, RootAt}
 use Rattle.tables.specs.Rows.{wordEntry}
 use Rattle.tables.specs.declared.tables.Tables.{Tables}
 use Rattle.reading_file.specs.Valid.{Valid}
-use Rattle.reading_order.specs.Pool.{arcOf}
-use Rattle.reading_order.specs.Laws.Tables.{messages-are}
+use Rattle.theory_tables.specs.Pool.{arcOf}
+use Rattle.theory_tables.specs.Laws.Queues.{messages-are}
 use Rattle.theory_model.specs.Model.{Action, Transition, Between, moved}
 use Rattle.theory_model.specs.Diagram.{howFar, frontOf, restOf}
 use Rattle.theory_model.specs.Session.{Session}

@@ -24,7 +24,7 @@ use Rattle.tables.specs.Laws.Lookup.{reached-nowhere, reached-state, reached-sm
 use Rattle.tables.specs.declared.kinds.DiagramState.{DiagramState}
 use Rattle.tables.specs.declared.kinds.Reached.{Reached}
 use Rattle.theory_files.specs.Laws.Sessions.{well-formed}
-use Rattle.reading_order.specs.Laws.Tables.{messages-are}
+use Rattle.theory_tables.specs.Laws.Queues.{messages-are}
 use Rattle.checking_pairs.specs.Pairs.{mostCodes, afterSide, pairOf}
 use Rattle.checking_pairs.specs.Over.{walkOver}
 use Rattle.checking_walk.specs.Judged.{judgedOver, ShownFits}
