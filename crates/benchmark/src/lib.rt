@@ -8,7 +8,7 @@ use tables::tables::MOST_CONTROLS;
 use tables::tables::POOL_ARCS;
 use tables::tables::ROWS;
 ghost use mathlib.Core.Path.{_≡_};
-ghost use Rattle.reading_file.specs.File.{readFile, tablesOf};
+ghost use Rattle.reading_file.specs.File.{readFile, tablesRead};
 ghost use Rattle.benchmark.specs.Measured.{together, sampled, toldOf, Told};
 
 fn sample(
@@ -30,14 +30,13 @@ fn sample(
 // unfilled.
 #[no_mangle]
 pub extern "C" fn measured_read(file: &[u8], i: usize) -> usize
-    ensures { λ r. ⌜ r ≡ sampled (tablesOf (readFile (now (file .entry)))) i ⌝ }
+    ensures { λ r. ⌜ r ≡ sampled (tablesRead (readFile (now (file .entry)))) i ⌝ }
 {
     let mut rows = [0u8; ROWS];
     let mut finals = [0u8; DiagramState::LIMIT];
     let mut arcs = [0u8; POOL_ARCS];
-    let head = read_into(file, &mut rows, &mut finals, &mut arcs);
-    let map = head.map;
-    let roots = map.roots;
+    let read = read_into(file, &mut rows, &mut finals, &mut arcs);
+    let roots = read.roots;
     sample(&rows, &finals, &arcs, roots, i)
 }
 

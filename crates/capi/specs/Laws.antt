@@ -10,7 +10,7 @@ use native.Mathlib.Omega.{arith}
 use Rattle.numbers.specs.Limits.{mostBytes}
 use Rattle.numbers.specs.Part.{Part, got, refused}
 use Rattle.reading_file.specs.Said.{read, refusal, saidAnswer}
-use Rattle.reading_file.specs.File.{readFile, readReplyOf, tablesOf, Reads}
+use Rattle.reading_file.specs.File.{readFile, readReplyOf, tablesRead, Reads}
 use Rattle.reading_file.specs.Valid.{Valid}
 use Rattle.tables.specs.declared.tables.Tables.{Tables}
 use Rattle.reading_file.specs.declared.reading.Reading.{Reading}
@@ -77,7 +77,7 @@ unread (got T next) space e = absurd (let z : _≡_ {A = ℕ} 0 1 = cc in omega 
 unread (refused k p) space e = refl
 
 -- the tables of a file that is read
-filled : (y : Part Tables) {space space₁ : List ℕ} {z : ℕ} (T : Tables) → Valid T → T ≡ tablesOf y → read ≡ readReplyOf y
+filled : (y : Part Tables) {space space₁ : List ℕ} {z : ℕ} (T : Tables) → Valid T → T ≡ tablesRead y → read ≡ readReplyOf y
     → tablesLeast ≤ length space → Put space 0 tablesLeast (flat T) space₁ z → space₁ ≡ spaceAfter y space
 filled (refused k p) T v same e h w = absurd (let z : _≡_ {A = ℕ} 0 1 = cc in omega arith)
 filled (got own next) {space} T v same e h w = flat-front T v h w ∙ ap (λ (x : Tables). flat x ++ drop tablesLeast space) same

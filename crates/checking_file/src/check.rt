@@ -117,7 +117,7 @@ fn judge_lent(
 // The verdict on tables that were read, over scratch tables that are all 0. The large ones are lent where reading filled them: by
 // value they would be copied.
 fn judge_read(
-    head: HeadRead,
+    read: HeadRead,
     rows: &[u8],
     finals: &[u8],
     arcs: &[u8],
@@ -125,16 +125,15 @@ fn judge_read(
     queue: &mut [u16],
     contents: &mut [u8],
 ) -> Verdict
-    requires { ⌜ Valid (lentReading head (now rows) (now finals) (now arcs) .tables) ⌝ }
+    requires { ⌜ Valid (lentReading read (now rows) (now finals) (now arcs) .tables) ⌝ }
     requires { ⌜ Room mostCodes (now seen) (now queue) (now contents) ⌝ }
-    ensures { λ r. ⌜ Concludes (λ T. T ≡ lentReading head (now (rows .entry)) (now (finals .entry)) (now (arcs .entry)) .tables) (now (seen .entry)) (now (queue .entry)) (now (contents .entry)) r (now (seen .exit)) (now (queue .exit)) (now (contents .exit)) ⌝ }
+    ensures { λ r. ⌜ Concludes (λ T. T ≡ lentReading read (now (rows .entry)) (now (finals .entry)) (now (arcs .entry)) .tables) (now (seen .entry)) (now (queue .entry)) (now (contents .entry)) r (now (seen .exit)) (now (queue .exit)) (now (contents .exit)) ⌝ }
 {
+    let head = read.head;
     let m = head.machines;
     let q = head.queues;
-    let map = head.map;
-    let roots = map.roots;
-    let bad = head.bad;
-    let entries = bad.rows;
+    let roots = read.roots;
+    let entries = read.entries;
     judge_lent(
         m,
         q,
@@ -144,7 +143,7 @@ fn judge_read(
         &roots,
         &entries,
         wide(head.transitions),
-        wide(bad.count),
+        wide(head.bad),
         TABLE_LEAST,
         seen,
         queue,
@@ -175,14 +174,14 @@ pub fn check(file: &[u8], seen: &mut [u16], queue: &mut [u16], contents: &mut [u
     let mut rows = [0u8; ROWS];
     let mut finals = [0u8; DiagramState::LIMIT];
     let mut arcs = [0u8; POOL_ARCS];
-    let head = read_into(file, &mut rows, &mut finals, &mut arcs);
-    let answer = head.answer;
+    let read = read_into(file, &mut rows, &mut finals, &mut arcs);
+    let answer = read.answer;
     match answer {
         Answer::Refused(why) => Verdict::Refused(why),
         Answer::Read => {
             blank(seen);
             blank(queue);
-            judge_read(head, &rows, &finals, &arcs, seen, queue, contents)
+            judge_read(read, &rows, &finals, &arcs, seen, queue, contents)
         }
     }
 }

@@ -6,6 +6,8 @@ use lib.Dec.{eqb}
 use Rattle.tables.specs.declared.tables.Machines.{Machines}
 use Rattle.tables.specs.declared.tables.Queues.{Queues}
 use Rattle.tables.specs.declared.tables.Tables.{Tables}
+use Rattle.tables.specs.declared.head.Head.{Head}
+use Rattle.tables.specs.Head.{headOf}
 
 unfoldable pub same : List ℕ → List ℕ → Bool
 same [] [] = true
@@ -23,10 +25,12 @@ sameQueues q p =
     && (eqb (q .sum) (p .sum)
     && (same (q .messages) (p .messages) && (same (q .lengths) (p .lengths) && same (q .contents) (p .contents))))
 
--- all but the large tables: machines, queues, and how many transitions, pool states and bad entries
-abbrev pub sameHeads : Machines → Queues → ℕ → ℕ → ℕ → Machines → Queues → ℕ → ℕ → ℕ → Bool
-sameHeads m q transitions states bad n p transitions′ states′ bad′ =
-    sameMachines m n && (sameQueues q p && (eqb transitions transitions′ && (eqb states states′ && eqb bad bad′)))
+-- all but the large tables
+abbrev pub sameHeads : Head → Head → Bool
+sameHeads h g =
+    sameMachines (h .machines) (g .machines)
+    && (sameQueues (h .queues) (g .queues)
+    && (eqb (h .transitions) (g .transitions) && (eqb (h .states) (g .states) && eqb (h .bad) (g .bad))))
 
 -- the large tables
 abbrev pub sameLarge : Tables → Tables → Bool
@@ -36,7 +40,4 @@ sameLarge T U =
     && (same (T .pool .arcs) (U .pool .arcs) && (same (T .map .roots) (U .map .roots) && same (T .bad .rows) (U .bad .rows))))
 
 abbrev pub sameTables : Tables → Tables → Bool
-sameTables T U =
-    sameHeads (T .machines) (T .queues) (T .transitions .count) (T .pool .count) (T .bad .count) (U .machines) (U .queues)
-    (U .transitions .count) (U .pool .count) (U .bad .count)
-    && sameLarge T U
+sameTables T U = sameHeads (headOf T) (headOf U) && sameLarge T U

@@ -1,14 +1,10 @@
 // Are two tables the same, entry by entry?
-use reading_file::reading::HeadRead;
 use tables::head::Head;
-use tables::tables::BadList;
 use tables::tables::Machines;
-use tables::tables::Map;
 use tables::tables::Queues;
 ghost use mathlib.Core.Bool.{cond};
 ghost use mathlib.Core.Path.{_≡_};
 ghost use lib.Dec.{eqb};
-ghost use Rattle.reading_file.specs.Lent.{lentReading};
 ghost use Rattle.tables.specs.Head.{tablesOf};
 ghost use Rattle.comparison.specs.Same.{same, sameMachines, sameQueues, sameHeads, sameTables};
 
@@ -82,40 +78,25 @@ fn same_queues(q: Queues, p: Queues) -> bool
 }
 
 // All but the large tables.
-fn same_heads(h: Head, read: HeadRead) -> bool
-    ensures { λ r. ⌜ r ≡ sameHeads (h .machines) (h .queues) (h .transitions) (h .states) (h .bad) (read .machines) (read .queues) (read .transitions) (read .states) (read .bad .count) ⌝ }
+fn same_heads(h: Head, g: Head) -> bool
+    ensures { λ r. ⌜ r ≡ sameHeads h g ⌝ }
 {
-    let bad = read.bad;
-    if !same_machines(h.machines, read.machines) {
+    if !same_machines(h.machines, g.machines) {
         return false;
     }
-    if !same_queues(h.queues, read.queues) {
+    if !same_queues(h.queues, g.queues) {
         return false;
     }
-    if h.transitions != read.transitions {
+    if h.transitions != g.transitions {
         return false;
     }
-    if h.states != read.states {
+    if h.states != g.states {
         return false;
     }
-    h.bad == bad.count
+    h.bad == g.bad
 }
 
-fn same_roots(roots: &[u8], map: Map) -> bool
-    ensures { λ r. ⌜ r ≡ same (now (roots .entry)) (map .roots) ⌝ }
-{
-    let others = map.roots;
-    same(roots, &others)
-}
-
-fn same_entries(entries: &[u8], bad: BadList) -> bool
-    ensures { λ r. ⌜ r ≡ same (now (entries .entry)) (bad .rows) ⌝ }
-{
-    let others = bad.rows;
-    same(entries, &others)
-}
-
-// Tables in parts, and those that were read.
+// Two tables, each in parts.
 pub fn same_tables(
     h: Head,
     rows: &[u8],
@@ -123,27 +104,29 @@ pub fn same_tables(
     arcs: &[u8],
     roots: &[u8],
     entries: &[u8],
-    read: HeadRead,
-    read_rows: &[u8],
-    read_finals: &[u8],
-    read_arcs: &[u8],
+    g: Head,
+    other_rows: &[u8],
+    other_finals: &[u8],
+    other_arcs: &[u8],
+    other_roots: &[u8],
+    other_entries: &[u8],
 ) -> bool
-    ensures { λ r. ⌜ r ≡ sameTables (tablesOf h (now (rows .entry)) (now (finals .entry)) (now (arcs .entry)) (now (roots .entry)) (now (entries .entry))) (lentReading read (now («read_rows» .entry)) (now («read_finals» .entry)) (now («read_arcs» .entry)) .tables) ⌝ }
+    ensures { λ r. ⌜ r ≡ sameTables (tablesOf h (now (rows .entry)) (now (finals .entry)) (now (arcs .entry)) (now (roots .entry)) (now (entries .entry))) (tablesOf g (now («other_rows» .entry)) (now («other_finals» .entry)) (now («other_arcs» .entry)) (now («other_roots» .entry)) (now («other_entries» .entry))) ⌝ }
 {
-    if !same_heads(h, read) {
+    if !same_heads(h, g) {
         return false;
     }
-    if !same(rows, read_rows) {
+    if !same(rows, other_rows) {
         return false;
     }
-    if !same(finals, read_finals) {
+    if !same(finals, other_finals) {
         return false;
     }
-    if !same(arcs, read_arcs) {
+    if !same(arcs, other_arcs) {
         return false;
     }
-    if !same_roots(roots, read.map) {
+    if !same(roots, other_roots) {
         return false;
     }
-    same_entries(entries, read.bad)
+    same(entries, other_entries)
 }

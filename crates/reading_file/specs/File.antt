@@ -61,11 +61,11 @@ readReplyOf (got T next) = read
 readReplyOf (refused k p) = refusal k p
 
 -- the tables handed back: all entries 0 after a refusal
-abbrev pub tablesOf : Part Tables → Tables
-tablesOf (got T next) = T
-tablesOf (refused k p) = empty
+abbrev pub tablesRead : Part Tables → Tables
+tablesRead (got T next) = T
+tablesRead (refused k p) = empty
 
 -- WHAT READING PROMISES of part x of a file: the reply and the whole tables
 pub record Reads (x : Part Tables) (r : Reading) : Type 0 where
   pub reply : saidAnswer (r .answer) ≡ readReplyOf x
-  pub tables : r .tables ≡ tablesOf x
+  pub tables : r .tables ≡ tablesRead x

@@ -6,9 +6,7 @@ use lib.ListN.{replicate}
 use Rattle.tables.specs.Limits.{mostPool}
 use Rattle.tables.specs.Rows.{rowsLength}
 use Rattle.tables.specs.Pool.{poolArcs}
-use Rattle.reading_model.specs.Lent.{lentModel}
-use Rattle.reading_pool.specs.Lent.{lentPool}
-use Rattle.reading_file.specs.File.{joined}
+use Rattle.tables.specs.Head.{tablesOf}
 use Rattle.reading_file.specs.declared.reading.Answer.{Answer}
 use Rattle.reading_file.specs.declared.reading.Answer.the-variants.{Read, Refused}
 use Rattle.reading_file.specs.declared.reading.HeadRead.{HeadRead}
@@ -23,9 +21,7 @@ abbrev pub lentReading : HeadRead → List ℕ → List ℕ → List ℕ → Rea
 lentReading h rows finals arcs =
     record {
       answer = h .answer;
-      tables =
-          joined (lentModel (h .machines) (h .queues) (h .transitions) rows) (lentPool (h .states) finals arcs)
-          (record { map = h .map; bad = h .bad });
+      tables = tablesOf (h .head) rows finals arcs (h .roots) (h .entries);
     }
 
 -- a lent table of n entries once it is cleared after a refusal

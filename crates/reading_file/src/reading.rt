@@ -10,15 +10,14 @@ use reading_order::order::in_queue_order;
 use reading_pool::pool::read_pool;
 use tables::empty::empty_machines;
 use tables::empty::empty_queues;
+use tables::head::Head;
 use tables::kinds::DiagramState;
 use tables::tables::BadList;
 use tables::tables::ENTRIES;
 use tables::tables::MOST_CONTROLS;
-use tables::tables::Machines;
 use tables::tables::Map;
 use tables::tables::POOL_ARCS;
 use tables::tables::Pool;
-use tables::tables::Queues;
 use tables::tables::ROWS;
 use tables::tables::SetTables;
 use tables::tables::Tables;
@@ -46,12 +45,9 @@ pub struct Reading {
 // What reading answers beside the three large tables. Those are lent: handed on by value they would be copied at every return.
 pub struct HeadRead {
     pub answer: Answer,
-    pub machines: Machines,
-    pub queues: Queues,
-    pub transitions: u8,
-    pub states: u8,
-    pub map: Map,
-    pub bad: BadList,
+    pub head: Head,
+    pub roots: [u8; MOST_CONTROLS],
+    pub entries: [u8; ENTRIES],
 }
 
 // All was read: a model, the number of the pool's states, and sets over it.
@@ -62,14 +58,19 @@ fn all_read(model: ModelRead, states: u8, sets: SetTables) -> HeadRead
     let queues = model.queues;
     let map = sets.map;
     let bad = sets.bad;
+    let roots = map.roots;
+    let entries = bad.rows;
     HeadRead {
         answer: Answer::Read,
-        machines,
-        queues,
-        transitions: model.transitions,
-        states,
-        map,
-        bad,
+        head: Head {
+            machines,
+            queues,
+            transitions: model.transitions,
+            states,
+            bad: bad.count,
+        },
+        roots,
+        entries,
     }
 }
 
@@ -80,17 +81,15 @@ fn refused(why: Refusal) -> HeadRead
     let queues = empty_queues();
     HeadRead {
         answer: Answer::Refused(why),
-        machines,
-        queues,
-        transitions: 0,
-        states: 0,
-        map: Map {
-            roots: [0u8; MOST_CONTROLS],
+        head: Head {
+            machines,
+            queues,
+            transitions: 0,
+            states: 0,
+            bad: 0,
         },
-        bad: BadList {
-            count: 0,
-            rows: [0u8; ENTRIES],
-        },
+        roots: [0u8; MOST_CONTROLS],
+        entries: [0u8; ENTRIES],
     }
 }
 
@@ -150,15 +149,15 @@ pub fn read_into(
     requires { ⌜ Blank (now rows) (now finals) (now arcs) ⌝ }
     ensures { λ h. ⌜ Reads (readFile (now (s .entry))) (lentReading h (now (rows .exit)) (now (finals .exit)) (now (arcs .exit))) ⌝ }
 {
-    let head = read_open(s, rows, finals, arcs);
-    let answer = head.answer;
+    let read = read_open(s, rows, finals, arcs);
+    let answer = read.answer;
     match answer {
-        Answer::Read => head,
+        Answer::Read => read,
         Answer::Refused(_) => {
             *rows = [0u8; ROWS];
             *finals = [0u8; DiagramState::LIMIT];
             *arcs = [0u8; POOL_ARCS];
-            head
+            read
         }
     }
 }
@@ -170,12 +169,13 @@ pub fn read(s: &[u8]) -> Reading
     let mut rows = [0u8; ROWS];
     let mut finals = [0u8; DiagramState::LIMIT];
     let mut arcs = [0u8; POOL_ARCS];
-    let head = read_into(s, &mut rows, &mut finals, &mut arcs);
-    let answer = head.answer;
+    let read = read_into(s, &mut rows, &mut finals, &mut arcs);
+    let answer = read.answer;
+    let head = read.head;
     let machines = head.machines;
     let queues = head.queues;
-    let map = head.map;
-    let bad = head.bad;
+    let roots = read.roots;
+    let entries = read.entries;
     Reading {
         answer,
         tables: Tables {
@@ -190,8 +190,11 @@ pub fn read(s: &[u8]) -> Reading
                 finals,
                 arcs,
             },
-            map,
-            bad,
+            map: Map { roots },
+            bad: BadList {
+                count: head.bad,
+                rows: entries,
+            },
         },
     }
 }

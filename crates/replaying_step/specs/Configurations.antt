@@ -13,7 +13,7 @@ use Rattle.controls.specs.Controls.{sizesOf}
 use Rattle.theory_replay.specs.Rules.{room}
 use Rattle.replaying_queues.specs.Ring.{rings}
 use Rattle.replaying_queues.specs.Laid.{memoryAfter}
-use Rattle.replaying_step.specs.declared.frame.Frame.{Frame}
+use Rattle.tables.specs.declared.head.Head.{Head}
 use Rattle.replaying_step.specs.declared.runs.RunRecord.{RunRecord}
 
 -- a record of its parts
@@ -50,11 +50,11 @@ pub record Holds (m : Machines) (q : Queues) (r : RunRecord) (mem : List ℕ) : 
   pub enough : q .count * room ≤ length mem
 
 -- what is asked for the form of the end, and what is found: no heads, each queue's messages at its front, and the rest as it was
-pub record Settleable (f : Frame) (hs ls mem : List ℕ) : Type 0 where
-  pub queues : QueuesValid (f .queues)
-  pub ringed : InRings (f .queues) hs ls
-  pub enough : f .queues .count * room ≤ length mem
+pub record Settleable (h : Head) (hs ls mem : List ℕ) : Type 0 where
+  pub queues : QueuesValid (h .queues)
+  pub ringed : InRings (h .queues) hs ls
+  pub enough : h .queues .count * room ≤ length mem
 
-pub record Settles (f : Frame) (hs ls mem hs′ mem′ : List ℕ) : Type 0 where
+pub record Settles (h : Head) (hs ls mem hs′ mem′ : List ℕ) : Type 0 where
   pub heads : hs′ ≡ replicate mostQueues 0
-  pub memory : mem′ ≡ memoryAfter (rings mem hs ls (f .queues .count)) mem
+  pub memory : mem′ ≡ memoryAfter (rings mem hs ls (h .queues .count)) mem

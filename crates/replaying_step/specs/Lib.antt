@@ -1,4 +1,4 @@
-pub mod Frame
+pub mod Parts
 pub mod After
 pub mod Configurations
 pub mod Inside

@@ -11,26 +11,26 @@ use Rattle.tables.specs.declared.tables.Queues.{Queues}
 use Rattle.theory_model.specs.Model.{Action, send, receive, Configuration, act, take?}
 use Rattle.theory_files.specs.Tables.{actionOf}
 use Rattle.theory_replay.specs.Rules.{room, fits}
-use Rattle.replaying_step.specs.Frame.{transitionsOf, modelIn}
+use Rattle.replaying_step.specs.Parts.{transitionsOf, modelIn}
 use Rattle.replaying_queues.specs.Ring.{rings}
 use Rattle.replaying_step.specs.Configurations.{configOf, InRings, Holds}
-use Rattle.replaying_step.specs.declared.frame.Frame.{Frame}
+use Rattle.tables.specs.declared.head.Head.{Head}
 use Rattle.replaying_step.specs.declared.runs.RunRecord.{RunRecord}
 use Rattle.replaying_step.specs.declared.taking.Took.{Took}
 use Rattle.replaying_step.specs.declared.taking.Took.the-variants.{Yes, NotPossible, NoRoom}
 
 -- WHAT IS ASKED to take transition i: the tables were read, and record and memory hold a configuration
-pub record Takeable (f : Frame) (rows : List ℕ) (r : RunRecord) (mem : List ℕ) (i : ℕ) : Type 0 where
-  pub machines : MachinesValid (f .machines)
-  pub queues : QueuesValid (f .queues)
-  pub transitions : TransitionsValid (f .machines) (f .queues) (transitionsOf f rows)
-  pub number : i < f .transitions
-  pub holds : Holds (f .machines) (f .queues) r mem
+pub record Takeable (h : Head) (rows : List ℕ) (r : RunRecord) (mem : List ℕ) (i : ℕ) : Type 0 where
+  pub machines : MachinesValid (h .machines)
+  pub queues : QueuesValid (h .queues)
+  pub transitions : TransitionsValid (h .machines) (h .queues) (transitionsOf h rows)
+  pub number : i < h .transitions
+  pub holds : Holds (h .machines) (h .queues) r mem
 
 -- whose these are
 pub record TakeAsked (rows : List ℕ) (r : RunRecord) (mem : List ℕ) (i : ℕ) : Type 0 where
-  pub frame : Frame
-  pub takeable : Takeable frame rows r mem i
+  pub head : Head
+  pub takeable : Takeable head rows r mem i
 
 -- WHAT A ROW DOES TO ITS QUEUE
 -- what is asked: the row is of these queues, and heads, lengths and memory have their rings
@@ -80,11 +80,11 @@ Acts rows row hs ls mem t hs′ ls′ mem′ =
 
 -- WHAT IS FOUND OF A TRANSITION
 -- the step is taken, and the memory past the queues stays
-pub record Moves (f : Frame) (rows : List ℕ) (i : ℕ) (r : RunRecord) (mem : List ℕ) (r′ : RunRecord) (mem′ : List ℕ) : Type 0 where
-  pub taken : take? (modelIn f rows) i (configOf (f .machines) (f .queues) r mem) ≡ some (configOf (f .machines) (f .queues) r′ mem′)
-  pub fitting : fits (configOf (f .machines) (f .queues) r′ mem′ .queues) ≡ true
-  pub holds : Holds (f .machines) (f .queues) r′ mem′
-  pub past : drop (f .queues .count * room) mem′ ≡ drop (f .queues .count * room) mem
+pub record Moves (h : Head) (rows : List ℕ) (i : ℕ) (r : RunRecord) (mem : List ℕ) (r′ : RunRecord) (mem′ : List ℕ) : Type 0 where
+  pub taken : take? (modelIn h rows) i (configOf (h .machines) (h .queues) r mem) ≡ some (configOf (h .machines) (h .queues) r′ mem′)
+  pub fitting : fits (configOf (h .machines) (h .queues) r′ mem′ .queues) ≡ true
+  pub holds : Holds (h .machines) (h .queues) r′ mem′
+  pub past : drop (h .queues .count * room) mem′ ≡ drop (h .queues .count * room) mem
   pub long : length mem′ ≡ length mem
 
 -- not possible, or a queue would pass its room: record and memory stay
@@ -92,14 +92,14 @@ pub record Stays (r : RunRecord) (mem : List ℕ) (r′ : RunRecord) (mem′ : L
   pub same : r′ ≡ r
   pub kept : mem′ ≡ mem
 
-abbrev pub Takes : Frame → List ℕ → ℕ → RunRecord → List ℕ → Took → RunRecord → List ℕ → Type 0
-Takes f rows i r mem Yes r′ mem′ = Moves f rows i r mem r′ mem′
-Takes f rows i r mem NotPossible r′ mem′ =
-    (take? (modelIn f rows) i (configOf (f .machines) (f .queues) r mem) ≡ none) × Stays r mem r′ mem′
-Takes f rows i r mem NoRoom r′ mem′ =
-    ((γ : Configuration) × (take? (modelIn f rows) i (configOf (f .machines) (f .queues) r mem) ≡ some γ) × (fits (γ .queues) ≡ false))
+abbrev pub Takes : Head → List ℕ → ℕ → RunRecord → List ℕ → Took → RunRecord → List ℕ → Type 0
+Takes h rows i r mem Yes r′ mem′ = Moves h rows i r mem r′ mem′
+Takes h rows i r mem NotPossible r′ mem′ =
+    (take? (modelIn h rows) i (configOf (h .machines) (h .queues) r mem) ≡ none) × Stays r mem r′ mem′
+Takes h rows i r mem NoRoom r′ mem′ =
+    ((γ : Configuration) × (take? (modelIn h rows) i (configOf (h .machines) (h .queues) r mem) ≡ some γ) × (fits (γ .queues) ≡ false))
     × Stays r mem r′ mem′
 
--- what taking finds, whichever frame the tables are of
+-- what taking finds, whichever head the tables have
 abbrev pub Tries : List ℕ → ℕ → RunRecord → List ℕ → Took → RunRecord → List ℕ → Type 0
-Tries rows i r mem t r′ mem′ = (f : Frame) → Takeable f rows r mem i → Takes f rows i r mem t r′ mem′
+Tries rows i r mem t r′ mem′ = (h : Head) → Takeable h rows r mem i → Takes h rows i r mem t r′ mem′

@@ -1,10 +1,10 @@
 // Whether the configuration of a run's record is inside the map; if not, how far what waits is followed.
-use crate::frame::Frame;
 use controls::numbering::control_of;
 use numbers::number::wide;
 use replaying_queues::follow::Led;
 use replaying_queues::follow::follow_rings;
 use replaying_queues::follow::waiting_in;
+use tables::head::Head;
 use tables::kinds::Reached;
 use tables::lookup::is_final;
 use tables::lookup::root_of;
@@ -23,7 +23,7 @@ pub enum Position {
 // The root of its control state is followed through all that waits, queue by queue. Where that leads to a state that is not final, all messages
 // are followed.
 pub fn locate(
-    f: Frame,
+    h: Head,
     finals: &[u8],
     arcs: &[u8],
     roots: &[u8],
@@ -32,11 +32,11 @@ pub fn locate(
     lengths: &[usize; MOST_QUEUES as usize],
     memory: &[u8],
 ) -> Position
-    requires { ⌜ Mapped f (now finals) (now arcs) (now roots) (runOf (now states) (now heads) (now lengths)) (now memory) ⌝ }
-    ensures { λ p. ⌜ p ≡ positionOf f (now (finals .entry)) (now (arcs .entry)) (now (roots .entry)) (configOf (f .machines) (f .queues) (runOf (now (states .entry)) (now (heads .entry)) (now (lengths .entry))) (now (memory .entry))) ⌝ }
+    requires { ⌜ Mapped h (now finals) (now arcs) (now roots) (runOf (now states) (now heads) (now lengths)) (now memory) ⌝ }
+    ensures { λ p. ⌜ p ≡ positionOf h (now (finals .entry)) (now (arcs .entry)) (now (roots .entry)) (configOf (h .machines) (h .queues) (runOf (now (states .entry)) (now (heads .entry)) (now (lengths .entry))) (now (memory .entry))) ⌝ }
 {
-    let machines = f.machines;
-    let queues = f.queues;
+    let machines = h.machines;
+    let queues = h.queues;
     let root = root_of(roots, control_of(machines, states));
     let count = wide(queues.count);
     match follow_rings(arcs, root, memory, heads, lengths, count) {

@@ -3,7 +3,7 @@
 --     Call         what such a function is called with, less machine values; `called` is the one that its own parameters make
 --     κs, qs, a, vals  the same as the callee's triple has it. The machine value of the memory, which may be known by an equation alone, is given
 --     five         the slices that are only read
---     tables       the tables that these slices and the frame stand for
+--     tables       the tables that these slices and the head stand for
 --     to           what the callee's triple binds outside
 --     goes         the tokens and what the references own, with what is known of the plain arguments, give what the callee asks
 --     told         what the caller has afterwards: the tokens, the result's relation, what the callee says, and the last values of record and memory
@@ -34,13 +34,13 @@ use denote.Triple.Clauses.{Clauses, Lasts, atExit, lasts, closing}
 use denote.Triple.Entry.{Args, Vals}
 use denote.Triple.Spec.{tripleOf}
 use Rattle.tables.specs.declared.tables.Tables.{Tables}
-use Rattle.replaying_step.specs.Frame.{tablesOf}
+use Rattle.replaying_trace.specs.Tables.{replayTables}
 use Rattle.replaying_step.specs.declared.runs.RunRecord.{RunRecord}
-use Rattle.replaying_step.specs.declared.frame.Frame.{Frame}
+use Rattle.tables.specs.declared.head.Head.{Head}
 use Rattle.replaying_trace.specs.declared.progress.Progress.{Progress}
 use Rattle.replaying_step.proofs.runs.RunRecord as R
-use Rattle.replaying_step.proofs.frame.Frame as F
-use Rattle.replaying_step.proofs.frame.Frame.Laws as F′
+use Rattle.tables.proofs.head.Head as F
+use Rattle.tables.proofs.head.Head.Laws as F′
 use Rattle.replaying_trace.proofs.progress.Progress as P
 use Rattle.replaying_trace.proofs.progress.Progress.Laws as P′
 use Rattle.replaying_trace.proofs.Calls.{told as told-of}
@@ -58,7 +58,7 @@ pub record Call : Type 0 where
   pub κr : Lft
   pub qr : Share
   pub lent : RefT RunRecord
-  pub frame : Frame
+  pub head : Head
   pub rows : Read
   pub finals : Read
   pub arcs : Read
@@ -74,7 +74,7 @@ called κs qs a = record {
   κr = κs .0;
   qr = qs .0;
   lent = a .0;
-  frame = a .1 .0;
+  head = a .1 .0;
   rows = passed (κs .1 .0) (qs .1 .0) (a .1 .1 .0);
   finals = passed (κs .1 .1 .0) (qs .1 .1 .0) (a .1 .1 .1 .0);
   arcs = passed (κs .1 .1 .1 .0) (qs .1 .1 .1 .0) (a .1 .1 .1 .1 .0);
@@ -94,16 +94,16 @@ module _ (x : Call) where
   qs = (x .qr, (x .rows .q, (x .finals .q, (x .arcs .q, (x .roots .q, (x .trace .q, (x .qm, tt)))))))
 
   abbrev pub a : Args step′.signature κs
-  a = (x .lent, (x .frame, (x .rows .on, (x .finals .on, (x .arcs .on, (x .roots .on, (x .trace .on, (x .memory, (x .progress, tt)))))))))
+  a = (x .lent, (x .head, (x .rows .on, (x .finals .on, (x .arcs .on, (x .roots .on, (x .trace .on, (x .memory, (x .progress, tt)))))))))
 
   abbrev pub vals : Val → Vals step′.signature κs
-  vals vm = (ptr-vals (x .lent), (F′.lowered (x .frame) ∷ [], (x .rows .val ∷ [], (x .finals .val ∷ [], (x .arcs .val ∷ [], (x .roots .val ∷ [], (x .trace .val ∷ [], (vm ∷ [], (P′.lowered (x .progress) ∷ [], tt)))))))))
+  vals vm = (ptr-vals (x .lent), (F′.lowered (x .head) ∷ [], (x .rows .val ∷ [], (x .finals .val ∷ [], (x .arcs .val ∷ [], (x .roots .val ∷ [], (x .trace .val ∷ [], (vm ∷ [], (P′.lowered (x .progress) ∷ [], tt)))))))))
 
   abbrev pub five : List Read
   five = x .rows ∷ x .finals ∷ x .arcs ∷ x .roots ∷ x .trace ∷ []
 
   abbrev pub tables : Tables
-  tables = tablesOf (x .frame) (x .rows .on .now) (x .finals .on .now) (x .arcs .on .now) (x .roots .on .now)
+  tables = replayTables (x .head) (x .rows .on .now) (x .finals .on .now) (x .arcs .on .now) (x .roots .on .now)
 
   -- the tokens and what the references own, each by kind
   abbrev pub TokenR : Fml
@@ -126,7 +126,7 @@ module _ (x : Call) where
   After vm = fsep (OwnM vm) (fsep (P.the-row .own (x .progress) (P′.lowered (x .progress) ∷ [])) ftrue)
 
   abbrev pub Rest : Val → Fml
-  Rest vm = fsep (F.the-row .own (x .frame) (F′.lowered (x .frame) ∷ [])) (row (map slice five) (After vm))
+  Rest vm = fsep (F.the-row .own (x .head) (F′.lowered (x .head) ∷ [])) (row (map slice five) (After vm))
 
   module _ {M : Type 1} (𝓤 : URA M) (H : Heap 𝓤) (A : Atoms 𝓤) (W : Given 𝓤 H A) (c : Clauses 𝓤 step′.ended) (vm : Val) (g : c κs a .ghost) where
     abbrev pub Callee : Contract 𝓤
@@ -135,12 +135,12 @@ module _ (x : Call) where
     abbrev pub to : Callee .Ghost
     to = ((κs, qs, tt, a, vals vm), g)
 
-    pub goes : ent 𝓤 (emp 𝓤) (c κs a .requires g) → Is F.the-row (x .frame) (F′.lowered (x .frame) ∷ []) → Is P.the-row (x .progress) (P′.lowered (x .progress) ∷ [])
+    pub goes : ent 𝓤 (emp 𝓤) (c κs a .requires g) → Is F.the-row (x .head) (F′.lowered (x .head) ∷ []) → Is P.the-row (x .progress) (P′.lowered (x .progress) ∷ [])
         → ent 𝓤 (⋆ 𝓤 H A (‵ TokenR ∷ ‵ (tokens five) ∷ ‵ TokenM ∷ ‵ OwnR ∷ ‵ (slices five) ∷ ‵ (OwnM vm) ∷ [])) (Callee .pre to)
     goes asked f-is p-is =
         qed W (‵ TokenR ∷ ‵ (tokens five) ∷ ‵ TokenM ∷ ‵ OwnR ∷ ‵ (slices five) ∷ ‵ (OwnM vm) ∷ []) ∵
         nothing ! $ owned ! P.the-row (Is P.the-row) (LL.makes P.the-type P′.the-plain 𝓤 H A) (x .progress) _ p-is $ fjoin ! $ move ! (6 ∷ 0 ∷ []) $ fjoin ! $ move ! (5 ∷ 0 ∷ []) $
-        use2 W (‵ (row (map slice five) (After vm))) (row-joined 𝓤 H A W (map slice five) (After vm)) $ owned ! F.the-row (Is F.the-row) (LL.makes F.the-type F′.the-plain 𝓤 H A) (x .frame) _ f-is $ fjoin ! $ move ! (4 ∷ 0 ∷ []) $ fjoin ! $
+        use2 W (‵ (row (map slice five) (After vm))) (row-joined 𝓤 H A W (map slice five) (After vm)) $ owned ! F.the-row (Is F.the-row) (LL.makes F.the-type F′.the-plain 𝓤 H A) (x .head) _ f-is $ fjoin ! $ move ! (4 ∷ 0 ∷ []) $ fjoin ! $
         -- [what all own; the record's token; those of the slices; the memory's]
         nothing ! $ move ! (4 ∷ 0 ∷ []) $ fjoin ! $ move ! (3 ∷ 0 ∷ []) $ use2 W (‵ Others) (row-joined 𝓤 H A W (map token five) (fsep TokenM ftrue)) $ move ! (2 ∷ 0 ∷ []) $ fjoin ! $
         join ! $ frame ! $ use0 W (raw (c κs a .requires g)) asked $ done !

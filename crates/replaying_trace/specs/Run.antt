@@ -19,13 +19,14 @@ use Rattle.theory_replay.specs.Rules.{room, Why, Ended, ended}
 use Rattle.theory_replay.specs.Replay.{Turn, stops, goes, moved, turn, replayFrom}
 use Rattle.replaying_queues.specs.Laid.{memoryAfter}
 use Rattle.replaying_queues.specs.Laying.{fronts, Lays}
-use Rattle.replaying_step.specs.Frame.{modelIn, tablesOf}
+use Rattle.replaying_step.specs.Parts.{modelIn}
 use Rattle.replaying_step.specs.Configurations.{runOf, configOf, Holds, Settles}
 use Rattle.replaying_step.specs.After.{recordAfter}
 use Rattle.replaying_step.specs.Taking.{Takeable}
 use Rattle.replaying_step.specs.declared.runs.RunRecord.{RunRecord}
-use Rattle.replaying_step.specs.declared.frame.Frame.{Frame}
-use Rattle.replaying_trace.specs.Tables.{frameOf}
+use Rattle.tables.specs.declared.head.Head.{Head}
+use Rattle.tables.specs.Head.{headOf}
+use Rattle.replaying_trace.specs.Tables.{replayTables, headWithoutBad}
 use Rattle.replaying_trace.specs.Reply.{ran, turnedAway, ranTo, saidStop, replayOf}
 use Rattle.replaying_trace.specs.declared.progress.Stop.{Stop}
 use Rattle.replaying_trace.specs.declared.progress.Stop.the-variants.{End, FileRefused, TraceTooLong, MemoryShort}
@@ -47,8 +48,8 @@ abbrev pub parts : List ℕ → List ℕ → List ℕ → List ℕ → Progress 
 parts states heads lengths mem p = state (runOf states heads lengths) mem p
 
 -- the tables and the state that lent arrays hold
-abbrev pub tablesLent : Frame → RefT (List ℕ) → RefT (List ℕ) → RefT (List ℕ) → RefT (List ℕ) → Tables
-tablesLent f rows finals arcs roots = tablesOf f (now rows) (now finals) (now arcs) (now roots)
+abbrev pub tablesLent : Head → RefT (List ℕ) → RefT (List ℕ) → RefT (List ℕ) → RefT (List ℕ) → Tables
+tablesLent h rows finals arcs roots = replayTables h (now rows) (now finals) (now arcs) (now roots)
 
 abbrev pub partsLent : RefT (List ℕ) → RefT (List ℕ) → RefT (List ℕ) → RefT (List ℕ) → Progress → State
 partsLent states heads lengths mem p = parts (now states) (now heads) (now lengths) (now mem) p
@@ -57,8 +58,8 @@ abbrev pub endedOf : Progress → Code.Ended
 endedOf p = record { why = p .why; steps = p .steps }
 
 -- the configuration that record and memory stand for
-abbrev pub stands : Frame → State → Configuration
-stands f x = configOf (f .machines) (f .queues) (x .lent) (x .memory)
+abbrev pub stands : Head → State → Configuration
+stands h x = configOf (h .machines) (h .queues) (x .lent) (x .memory)
 
 -- WHAT A STEP ASKS of tables, trace and state
 pub record Ready (T : Tables) (s : List ℕ) (x : State) : Type 0 where
@@ -69,68 +70,68 @@ pub record Ready (T : Tables) (s : List ℕ) (x : State) : Type 0 where
   pub counted : x .progress .steps ≤ x .progress .at
 
 -- the memory past the queues stays
-pub record Kept (f : Frame) (mem mem′ : List ℕ) : Type 0 where
-  pub past : drop (f .queues .count * room) mem′ ≡ drop (f .queues .count * room) mem
+pub record Kept (h : Head) (mem mem′ : List ℕ) : Type 0 where
+  pub past : drop (h .queues .count * room) mem′ ≡ drop (h .queues .count * room) mem
   pub long : length mem′ ≡ length mem
 
 -- the replay has ended so, in the form of the end
-pub record Final (f : Frame) (e : Ended) (mem : List ℕ) (y : State) : Type 0 where
+pub record Final (h : Head) (e : Ended) (mem : List ℕ) (y : State) : Type 0 where
   pub idle : y .progress .going ≡ false
   pub why : saidStop (y .progress .why) ≡ ran (e .why)
   pub steps : y .progress .steps ≡ e .steps
-  pub lent : y .lent ≡ recordAfter (f .machines) (e .last)
+  pub lent : y .lent ≡ recordAfter (h .machines) (e .last)
   pub memory : y .memory ≡ memoryAfter (e .last .queues) mem
 
 -- ONE STEP: it goes on, or the replay has ended
-pub record Gone (f : Frame) (x y : State) (next : ℕ) : Type 0 where
+pub record Gone (h : Head) (x y : State) (next : ℕ) : Type 0 where
   pub going : y .progress .going ≡ true
   pub at : y .progress .at ≡ next
   pub steps : y .progress .steps ≡ x .progress .steps + 1
-  pub holds : Holds (f .machines) (f .queues) (y .lent) (y .memory)
-  pub kept : Kept f (x .memory) (y .memory)
+  pub holds : Holds (h .machines) (h .queues) (y .lent) (y .memory)
+  pub kept : Kept h (x .memory) (y .memory)
 
-pub data Turned (f : Frame) (t : Turn) (x y : State) : Type 0 where
-  on : (next : ℕ) → t ≡ goes (stands f y) next → Gone f x y next → Turned f t x y
-  off : (w : Why) → t ≡ stops w → Final f (ended w (x .progress .steps) (stands f x)) (x .memory) y → Turned f t x y
+pub data Turned (h : Head) (t : Turn) (x y : State) : Type 0 where
+  on : (next : ℕ) → t ≡ goes (stands h y) next → Gone h x y next → Turned h t x y
+  off : (w : Why) → t ≡ stops w → Final h (ended w (x .progress .steps) (stands h x)) (x .memory) y → Turned h t x y
 
 pub record Stepped (T : Tables) (s : List ℕ) (x y : State) : Type 0 where
-  pub turned : Turned (frameOf T) (turn (sessionOf T) s (x .progress .at) (stands (frameOf T) x)) x y
+  pub turned : Turned (headOf T) (turn (sessionOf T) s (x .progress .at) (stands (headOf T) x)) x y
 
 -- the number of transition i was read, and ends before the place next
-abbrev pub TurnedBy : Frame → List ℕ → ℕ → ℕ → State → State → Type 0
-TurnedBy f rows i next x y = Turned f (moved (x .progress .at) next (take? (modelIn f rows) i (stands f x))) x y
+abbrev pub TurnedBy : Head → List ℕ → ℕ → ℕ → State → State → Type 0
+TurnedBy h rows i next x y = Turned h (moved (x .progress .at) next (take? (modelIn h rows) i (stands h x))) x y
 
 -- the replay ends where it stands, for this reason
-pub record Stopped (f : Frame) (x : State) (why : Stop) (y : State) : Type 0 where
+pub record Stopped (h : Head) (x : State) (why : Stop) (y : State) : Type 0 where
   pub progress : y .progress ≡ record { going = false; why = why; at = x .progress .at; steps = x .progress .steps }
-  pub lent : y .lent ≡ recordAfter (f .machines) (stands f x)
-  pub memory : y .memory ≡ memoryAfter (stands f x .queues) (x .memory)
+  pub lent : y .lent ≡ recordAfter (h .machines) (stands h x)
+  pub memory : y .memory ≡ memoryAfter (stands h x .queues) (x .memory)
 
 -- in the parts of the record: states and lengths stay
-pub record Ends (f : Frame) (hs ls mem : List ℕ) (p : Progress) (why : Stop) (a : Progress) (hs′ mem′ : List ℕ) : Type 0 where
+pub record Ends (h : Head) (hs ls mem : List ℕ) (p : Progress) (why : Stop) (a : Progress) (hs′ mem′ : List ℕ) : Type 0 where
   pub progress : a ≡ record { going = false; why = why; at = p .at; steps = p .steps }
-  pub settled : Settles f hs ls mem hs′ mem′
+  pub settled : Settles h hs ls mem hs′ mem′
 
 -- what is asked to take the number that was read
-pub record TurnAsked (f : Frame) (rows : List ℕ) (x : State) (i : ℕ) : Type 0 where
-  pub takeable : Takeable f rows (x .lent) (x .memory) i
+pub record TurnAsked (h : Head) (rows : List ℕ) (x : State) (i : ℕ) : Type 0 where
+  pub takeable : Takeable h rows (x .lent) (x .memory) i
   pub few : x .progress .steps ≤ mostBytes
 
 -- THE LOOP: all that is left of the trace
 abbrev pub rest : Tables → List ℕ → State → Ended
 rest T s x =
-    replayFrom (sessionOf T) s (length s - x .progress .steps) (x .progress .steps) (x .progress .at) (stands (frameOf T) x)
+    replayFrom (sessionOf T) s (length s - x .progress .steps) (x .progress .steps) (x .progress .at) (stands (headOf T) x)
 
 pub record Ran (T : Tables) (s : List ℕ) (x y : State) : Type 0 where
   pub idle : x .progress .going ≡ false → y ≡ x
-  pub ends : x .progress .going ≡ true → Final (frameOf T) (rest T s x) (x .memory) y
+  pub ends : x .progress .going ≡ true → Final (headOf T) (rest T s x) (x .memory) y
 
 -- and underway from x to y
 pub record Reached (T : Tables) (s : List ℕ) (x y : State) : Type 0 where
   pub idle : x .progress .going ≡ false → y ≡ x
   pub on : x .progress .going ≡ true → y .progress .going ≡ true
-      → (Ready T s x → Ready T s y) × (rest T s y ≡ rest T s x) × Kept (frameOf T) (x .memory) (y .memory)
-  pub off : x .progress .going ≡ true → y .progress .going ≡ false → Final (frameOf T) (rest T s x) (x .memory) y
+      → (Ready T s x → Ready T s y) × (rest T s y ≡ rest T s x) × Kept (headOf T) (x .memory) (y .memory)
+  pub off : x .progress .going ≡ true → y .progress .going ≡ false → Final (headOf T) (rest T s x) (x .memory) y
 
 -- how far a refused replay has come
 abbrev pub refusedBy : Stop → Progress
@@ -159,11 +160,11 @@ pub record LaysFor (q : Queues) (going : Bool) (mem mem′ : List ℕ) : Type 0 
 
 -- what the code makes of the file's tables at the beginning
 abbrev pub begunOf : RunRecord → Tables → Progress → Begun
-begunOf r T p = record { «record» = r; progress = p; frame = frameOf T; roots = T .map .roots }
+begunOf r T p = record { «record» = r; progress = p; head = headWithoutBad T; roots = T .map .roots }
 
 -- the tables that it stands for beside these arrays
 abbrev pub tablesIn : Begun → List ℕ → List ℕ → List ℕ → Tables
-tablesIn b rows finals arcs = tablesOf (b .frame) rows finals arcs (b .roots)
+tablesIn b rows finals arcs = replayTables (b .head) rows finals arcs (b .roots)
 
 -- THE BEGINNING, with memory mem₀ lent and mem₁ left in it: a refusal with record and memory as they were, or the first state, in tables T
 pub data Begins (bytes s mem₀ : List ℕ) (r : RunRecord) (b : Begun) (T : Tables) (mem₁ : List ℕ) : Type 0 where

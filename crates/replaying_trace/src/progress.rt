@@ -1,7 +1,7 @@
 // How far a replay has come, and how it ended.
 use numbers::refusal::Refusal;
-use replaying_step::frame::Frame;
 use replaying_step::runs::RunRecord;
+use tables::head::Head;
 use tables::tables::MOST_CONTROLS;
 
 // Why a replay ended. Places of a step are in the trace.
@@ -47,6 +47,6 @@ pub struct Replayed {
 pub struct Begun {
     pub record: RunRecord,
     pub progress: Progress,
-    pub frame: Frame,
+    pub head: Head,
     pub roots: [u8; MOST_CONTROLS],
 }

@@ -6,21 +6,21 @@ use crate::progress::Replayed;
 use crate::start::start;
 use crate::turn::ended;
 use crate::turn::turn;
-use replaying_step::frame::Frame;
 use replaying_step::runs::RunRecord;
+use tables::head::Head;
 use tables::kinds::DiagramState;
 use tables::tables::POOL_ARCS;
 use tables::tables::ROWS;
 ghost use mathlib.Core.Path.{_≡_};
 ghost use mathlib.Core.Bool.{true};
-ghost use Rattle.replaying_step.specs.Frame.{tablesOf};
+ghost use Rattle.replaying_trace.specs.Tables.{replayTables};
 ghost use Rattle.replaying_trace.specs.Reply.{Replays};
 ghost use Rattle.replaying_trace.specs.Run.{state, tablesLent, Ready, Stepped, Ran};
 
 // One step: the record's three tables are lent on, each by itself, so none is copied.
 pub(crate) fn step(
     r: &mut RunRecord,
-    f: Frame,
+    h: Head,
     rows: &[u8],
     finals: &[u8],
     arcs: &[u8],
@@ -29,14 +29,14 @@ pub(crate) fn step(
     memory: &mut [u8],
     p: Progress,
 ) -> Progress
-    requires { ⌜ Ready (tablesOf f (now rows) (now finals) (now arcs) (now roots)) (now trace) (state (now r) (now memory) p) ⌝ }
-    ensures { λ a. ⌜ Stepped (tablesLent f (rows .entry) (finals .entry) (arcs .entry) (roots .entry)) (now (trace .entry)) (state (now (r .entry)) (now (memory .entry)) p) (state (now (r .exit)) (now (memory .exit)) a) ⌝ }
+    requires { ⌜ Ready (replayTables h (now rows) (now finals) (now arcs) (now roots)) (now trace) (state (now r) (now memory) p) ⌝ }
+    ensures { λ a. ⌜ Stepped (tablesLent h (rows .entry) (finals .entry) (arcs .entry) (roots .entry)) (now (trace .entry)) (state (now (r .entry)) (now (memory .entry)) p) (state (now (r .exit)) (now (memory .exit)) a) ⌝ }
 {
     turn(
         &mut r.states,
         &mut r.heads,
         &mut r.lengths,
-        f,
+        h,
         rows,
         finals,
         arcs,
@@ -50,7 +50,7 @@ pub(crate) fn step(
 // Step after step; the record and the memory are lent on for each.
 pub(crate) fn run(
     r: &mut RunRecord,
-    f: Frame,
+    h: Head,
     rows: &[u8],
     finals: &[u8],
     arcs: &[u8],
@@ -59,12 +59,12 @@ pub(crate) fn run(
     memory: &mut [u8],
     begun: Progress,
 ) -> Progress
-    requires { ⌜ (begun .going ≡ true → Ready (tablesOf f (now rows) (now finals) (now arcs) (now roots)) (now trace) (state (now r) (now memory) begun)) ⌝ }
-    ensures { λ a. ⌜ Ran (tablesLent f (rows .entry) (finals .entry) (arcs .entry) (roots .entry)) (now (trace .entry)) (state (now (r .entry)) (now (memory .entry)) begun) (state (now (r .exit)) (now (memory .exit)) a) ⌝ }
+    requires { ⌜ (begun .going ≡ true → Ready (replayTables h (now rows) (now finals) (now arcs) (now roots)) (now trace) (state (now r) (now memory) begun)) ⌝ }
+    ensures { λ a. ⌜ Ran (tablesLent h (rows .entry) (finals .entry) (arcs .entry) (roots .entry)) (now (trace .entry)) (state (now (r .entry)) (now (memory .entry)) begun) (state (now (r .exit)) (now (memory .exit)) a) ⌝ }
 {
     let mut p = begun;
     while p.going {
-        p = step(r, f, rows, finals, arcs, roots, trace, memory, p);
+        p = step(r, h, rows, finals, arcs, roots, trace, memory, p);
     }
     p
 }
@@ -79,10 +79,10 @@ pub fn replay(r: &mut RunRecord, file: &[u8], trace: &[u8], memory: &mut [u8]) -
     let mut arcs = [0u8; POOL_ARCS];
     let b = start(*r, file, trace, memory, &mut rows, &mut finals, &mut arcs);
     *r = b.record;
-    let f = b.frame;
+    let h = b.head;
     let roots = b.roots;
     let begun = b.progress;
-    let p = run(r, f, &rows, &finals, &arcs, &roots, trace, memory, begun);
+    let p = run(r, h, &rows, &finals, &arcs, &roots, trace, memory, begun);
     ended(p)
 }
 

@@ -9,8 +9,8 @@ use reading_file::reading::read_into;
 use replaying_queues::ROOM;
 use replaying_queues::laying::lay_starting;
 use replaying_queues::laying::starting_lengths;
-use replaying_step::frame::Frame;
 use replaying_step::runs::RunRecord;
+use tables::head::Head;
 use tables::kinds::DiagramState;
 use tables::tables::MOST_QUEUES;
 use tables::tables::Machines;
@@ -97,25 +97,26 @@ pub(crate) fn start(
     requires { ⌜ Blank (now rows) (now finals) (now arcs) ⌝ }
     ensures { λ b. ⌜ Begins (now (file .entry)) (now (trace .entry)) (now (memory .entry)) r b (tablesIn b (now (rows .exit)) (now (finals .exit)) (now (arcs .exit))) (now (memory .exit)) ⌝ }
 {
-    let head = read_into(file, rows, finals, arcs);
-    let answer = head.answer;
+    let read = read_into(file, rows, finals, arcs);
+    let answer = read.answer;
+    let head = read.head;
     let machines = head.machines;
     let queues = head.queues;
-    let map = head.map;
-    let roots = map.roots;
+    let roots = read.roots;
     let progress = opening(answer, queues.count, trace.len(), memory.len());
     let record = record_for(r, machines, queues, progress.going);
     lay_for(memory, queues, progress.going);
-    let frame = Frame {
+    let h = Head {
         machines,
         queues,
         transitions: head.transitions,
-        pool: head.states,
+        states: head.states,
+        bad: 0,
     };
     Begun {
         record,
         progress,
-        frame,
+        head: h,
         roots,
     }
 }

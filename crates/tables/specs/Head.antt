@@ -1,4 +1,4 @@
--- The tables that a head and five lists stand for.
+-- The tables that a head and five lists stand for, and the head of tables.
 use Prim.Native.Nat.{ℕ}
 use mathlib.Core.List.{List}
 use Rattle.tables.specs.declared.tables.Tables.{Tables}
@@ -14,4 +14,15 @@ tablesOf h rows finals arcs roots entries =
       pool = record { count = h .states; finals = finals; arcs = arcs };
       map = record { roots = roots };
       bad = record { count = h .bad; rows = entries };
+    }
+
+-- and the head of tables
+abbrev pub headOf : Tables → Head
+headOf T =
+    record {
+      machines = T .machines;
+      queues = T .queues;
+      transitions = T .transitions .count;
+      states = T .pool .count;
+      bad = T .bad .count;
     }

@@ -45,6 +45,8 @@ fn gives(
     let mut read_arcs = [0u8; POOL_ARCS];
     let read = read_into(s, &mut read_rows, &mut read_finals, &mut read_arcs);
     let answer = read.answer;
+    let read_roots = read.roots;
+    let read_entries = read.entries;
     match answer {
         Answer::Refused(_) => false,
         Answer::Read => same_tables(
@@ -54,10 +56,12 @@ fn gives(
             arcs,
             roots,
             entries,
-            read,
+            read.head,
             &read_rows,
             &read_finals,
             &read_arcs,
+            &read_roots,
+            &read_entries,
         ),
     }
 }

@@ -9,7 +9,7 @@ use borrow.Author.Tests.{lt-ltb, le-ltb}
 use native.Mathlib.Omega.{arith}
 use Rattle.numbers.specs.Part.{Part, got, refused}
 use Rattle.reading_file.specs.Said.{read, refusal as turnedAway}
-use Rattle.reading_file.specs.File.{readFile, readReplyOf, tablesOf}
+use Rattle.reading_file.specs.File.{readFile, readReplyOf, tablesRead}
 use Rattle.reading_file.specs.Valid.{Valid}
 use Rattle.reading_file.specs.Laws.Valid.{valid}
 use Rattle.tables.specs.declared.tables.Tables.{Tables}
@@ -40,12 +40,12 @@ refused-is : (x : Part Tables) {k p : ℕ} → turnedAway k p ≡ readReplyOf x 
 refused-is (got T next) e = let z : _≡_ {A = ℕ} 0 1 = cc in absurd (omega arith)
 refused-is (refused k p) e = cc
 
-got-is : (x : Part Tables) {T : Tables} → read ≡ readReplyOf x → T ≡ tablesOf x → (next : ℕ) × (x ≡ got T next)
+got-is : (x : Part Tables) {T : Tables} → read ≡ readReplyOf x → T ≡ tablesRead x → (next : ℕ) × (x ≡ got T next)
 got-is (got T next) e f = (next, ap (λ t. got t next) (sym f))
 got-is (refused k p) e f = let z : _≡_ {A = ℕ} 0 1 = cc in absurd (omega arith)
 
 module _ (file : List ℕ) where
-  pub read-valid : {T : Tables} → read ≡ readReplyOf (readFile file) → T ≡ tablesOf (readFile file) → Valid T
+  pub read-valid : {T : Tables} → read ≡ readReplyOf (readFile file) → T ≡ tablesRead (readFile file) → Valid T
   read-valid e f = valid file (got-is (readFile file) e f .1)
 
   module _ (c : ℕ) (contents : List ℕ) where
@@ -60,6 +60,6 @@ module _ (file : List ℕ) where
     pub reply-unread : {k p : ℕ} → turnedAway k p ≡ readReplyOf (readFile file) → memberOf file c contents ≡ refusal k p
     reply-unread e = member-unread (refused-is (readFile file) e)
 
-    pub reply-asked : {T : Tables} → read ≡ readReplyOf (readFile file) → T ≡ tablesOf (readFile file)
+    pub reply-asked : {T : Tables} → read ≡ readReplyOf (readFile file) → T ≡ tablesRead (readFile file)
         → memberOf file c contents ≡ ask (sessionOf T) c contents
     reply-asked e f = member-asked (got-is (readFile file) e f .1)

@@ -7,7 +7,7 @@ use lib.Dec.{eqb}
 use native.Mathlib.Omega.{arith}
 use Rattle.numbers.specs.Part.{Part, got, refused}
 use Rattle.reading_file.specs.Said.{ReadReply, read, refusal, saidAnswer}
-use Rattle.reading_file.specs.File.{readFile, empty, readReplyOf, tablesOf, Reads}
+use Rattle.reading_file.specs.File.{readFile, empty, readReplyOf, tablesRead, Reads}
 use Rattle.reading_file.specs.Valid.{Valid}
 use Rattle.reading_file.specs.Laws.Valid.{valid}
 use Rattle.numbers.specs.declared.refusal.Refusal.the-variants.{TooLong, Ends, NotShortest, OutOfRange, PassesLimit, OtherQueue, NotAscending, NotInQueueOrder, Trailing, StartsEmpty}
@@ -74,7 +74,7 @@ module _ (x : Part Tables) (r : Reading) (h : Reads x r) where
   pub answer-read : saidAnswer (r .answer) ≡ read → (next : ℕ) × (x ≡ got (r .tables) next)
   answer-read e = go x (sym (h .reply) ∙ e) (h .tables)
     where
-      go : (y : Part Tables) → readReplyOf y ≡ read → r .tables ≡ tablesOf y → (next : ℕ) × (y ≡ got (r .tables) next)
+      go : (y : Part Tables) → readReplyOf y ≡ read → r .tables ≡ tablesRead y → (next : ℕ) × (y ≡ got (r .tables) next)
       go (got T next) f g = (next, ap (λ t. got t next) (sym g))
       go (refused j q) f g = let z : _≡_ {A = ℕ} 0 1 = cc in absurd (omega arith)
 

@@ -29,11 +29,11 @@ use Rattle.replaying_queues.specs.Led.{Leads, Waits}
 use Rattle.replaying_queues.specs.Laws.Led.{led-to, led-nowhere}
 use Rattle.replaying_queues.specs.declared.follow.Led.{Led}
 use Rattle.replaying_queues.specs.declared.follow.Led.the-variants.{To, Lost}
-use Rattle.replaying_step.specs.Frame.{poolIn}
+use Rattle.replaying_step.specs.Parts.{poolIn}
 use Rattle.replaying_step.specs.Configurations.{configOf}
 use Rattle.replaying_step.specs.Inside.{positionBy, positionOf, Mapped}
 use Rattle.replaying_step.specs.Laws.Shifting.{ringed-rings}
-use Rattle.replaying_step.specs.declared.frame.Frame.{Frame}
+use Rattle.tables.specs.declared.head.Head.{Head}
 use Rattle.replaying_step.specs.declared.inside.Position.{Position}
 use Rattle.replaying_step.specs.declared.inside.Position.the-variants.{Inside, Outside}
 use Rattle.replaying_step.specs.declared.runs.RunRecord.{RunRecord}
@@ -42,7 +42,7 @@ use Rattle.replaying_step.specs.declared.runs.RunRecord.{RunRecord}
 own-small : {ns : List ℕ} {qs : List (List ℕ)} → total ns ≤ mostMessages → Own 0 ns qs → Between 0 mostMessages (word qs)
 own-small {ns} h own = between-wide (omega arith) (omega arith) (word-between own)
 
-module _ {f : Frame} {finals arcs roots : List ℕ} {r : RunRecord} {mem : List ℕ} (A : Mapped f finals arcs roots r mem) where
+module _ {f : Head} {finals arcs roots : List ℕ} {r : RunRecord} {mem : List ℕ} (A : Mapped f finals arcs roots r mem) where
   pub root-small : (c : ℕ) → getD roots c 0 ≤ mostPool
   root-small c = omega (arith, A .map .roots c, A .pool .most)
 

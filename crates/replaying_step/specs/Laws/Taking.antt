@@ -25,12 +25,12 @@ use Rattle.controls.specs.Laws.Parting.{size-at}
 use Rattle.theory_replay.specs.Rules.{room, fits}
 use Rattle.replaying_queues.specs.Ring.{rings}
 use Rattle.replaying_queues.specs.Laws.Rings.{rings-fit}
-use Rattle.replaying_step.specs.Frame.{transitionsOf, modelIn}
+use Rattle.replaying_step.specs.Parts.{transitionsOf, modelIn}
 use Rattle.replaying_step.specs.Configurations.{runOf, configOf, Holds}
 use Rattle.replaying_step.specs.Laws.Shifting.{ringed-rings}
 use Rattle.replaying_step.specs.Taking.{Takeable, Stays, Shiftable, Shifted, Unshifted, Shifts, Takes}
 use Rattle.replaying_step.specs.Laws.Lists.{each-of-set}
-use Rattle.replaying_step.specs.declared.frame.Frame.{Frame}
+use Rattle.tables.specs.declared.head.Head.{Head}
 use Rattle.replaying_step.specs.declared.runs.RunRecord.{RunRecord}
 use Rattle.replaying_step.specs.declared.taking.Took.{Took}
 use Rattle.replaying_step.specs.declared.taking.Took.the-variants.{Yes, NotPossible, NoRoom}
@@ -38,7 +38,7 @@ use Rattle.replaying_step.specs.declared.taking.Took.the-variants.{Yes, 
 one-some : {o : Option Transition} {τ τ′ : Transition} → o ≡ some τ → o ≡ some τ′ → τ ≡ τ′
 one-some e e′ = cc
 
-module _ {f : Frame} {rows : List ℕ} {r : RunRecord} {mem : List ℕ} {i : ℕ} (A : Takeable f rows r mem i) where
+module _ {f : Head} {rows : List ℕ} {r : RunRecord} {mem : List ℕ} {i : ℕ} (A : Takeable f rows r mem i) where
   abbrev row : ℕ
   row = i * rowLength
 

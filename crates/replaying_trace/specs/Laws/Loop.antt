@@ -13,15 +13,15 @@ use Rattle.replaying_queues.specs.Laid.{laidAll, memoryAfter}
 use Rattle.replaying_queues.specs.Laws.Rings.{rings-length}
 use Rattle.tables.specs.declared.tables.Tables.{Tables}
 use Rattle.theory_files.specs.Tables.{sessionOf}
-use Rattle.replaying_step.specs.declared.frame.Frame.{Frame}
-use Rattle.replaying_trace.specs.Tables.{frameOf}
+use Rattle.tables.specs.declared.head.Head.{Head}
+use Rattle.tables.specs.Head.{headOf}
 use Rattle.replaying_trace.specs.Run.{State, stands, Ready, Kept, Final, Gone, Turned, on, off, Stepped, rest, Ran, Reached}
 
-kept-then : {f : Frame} {a b c : List ℕ} → Kept f a b → Kept f b c → Kept f a c
+kept-then : {f : Head} {a b c : List ℕ} → Kept f a b → Kept f b c → Kept f a c
 kept-then k l = record { past = l .past ∙ k .past; long = l .long ∙ k .long }
 
 -- the form of the end asks of the memory only what lies past the queues
-memory-kept : (f : Frame) (x : State) {mem : List ℕ} → Kept f mem (x .memory)
+memory-kept : (f : Head) (x : State) {mem : List ℕ} → Kept f mem (x .memory)
     → memoryAfter (stands f x .queues) (x .memory) ≡ memoryAfter (stands f x .queues) mem
 memory-kept f x {mem} k =
     ap (λ l. laidAll (stands f x .queues) ++ l)
@@ -30,8 +30,8 @@ memory-kept f x {mem} k =
 
 -- A TURN that goes on, and one that ends
 module _ {T : Tables} {s : List ℕ} (x y : State) (S : Stepped T s x y) where
-  abbrev f : Frame
-  f = frameOf T
+  abbrev f : Head
+  f = headOf T
 
   abbrev turning : Turn
   turning = turn (sessionOf T) s (x .progress .at) (stands f x)

@@ -14,11 +14,10 @@ use Rattle.tables.specs.declared.tables.Tables.{Tables}
 use Rattle.theory_files.specs.Tables.{sessionOf}
 use Rattle.theory_replay.specs.Replay.{replayed}
 use Rattle.theory_replay.specs.Laws.Turns.{replayed-without-bad}
-use Rattle.replaying_step.specs.Frame.{noBad}
 use Rattle.replaying_trace.specs.Tables.{withoutBad}
 
 module _ (T : Tables) (v : Valid T) where
-  none-bad : BadValid (T .machines .product) (T .pool .count) noBad
+  none-bad : BadValid (T .machines .product) (T .pool .count) (withoutBad T .bad)
   none-bad =
       record {
         most = omega arith;

@@ -18,7 +18,7 @@ use Rattle.theory_files.specs.Laws.Rows.{transitions-length}
 use Rattle.theory_replay.specs.Rules.{Why, end, outside, refusal}
 use Rattle.theory_replay.specs.Replay.{Turn, stops, kept, moved, turn}
 use Rattle.theory_replay.specs.Laws.Turns.{turn-outside, turn-end, turn-unread}
-use Rattle.replaying_step.specs.Frame.{modelIn}
+use Rattle.replaying_step.specs.Parts.{modelIn}
 use Rattle.tables.specs.Valid.{MachinesValid, QueuesValid}
 use Rattle.tables.specs.declared.tables.Tables.{Tables}
 use Rattle.replaying_step.specs.Configurations.{runOf, configOf, Holds, Settleable}
@@ -28,10 +28,10 @@ use Rattle.replaying_step.specs.Laws.Inside.{found-inside, found-outside}
 use Rattle.replaying_step.specs.declared.inside.Position.{Position}
 use Rattle.replaying_step.specs.declared.inside.Position.the-variants as Found
 use Rattle.replaying_step.specs.Taking.{Takeable, Stays, Takes}
-use Rattle.replaying_step.specs.declared.frame.Frame.{Frame}
+use Rattle.tables.specs.declared.head.Head.{Head}
 use Rattle.replaying_step.specs.declared.runs.RunRecord.{RunRecord}
 use Rattle.replaying_step.specs.declared.taking.Took.the-variants.{Yes, NotPossible, NoRoom}
-use Rattle.replaying_trace.specs.Tables.{frameOf}
+use Rattle.tables.specs.Head.{headOf}
 use Rattle.replaying_trace.specs.Reply.{ran, saidStop}
 use Rattle.replaying_trace.specs.Run.{State, state, stands, Ready, Turned, on, off, Stepped, Stopped, Ends, TurnAsked}
 use Rattle.replaying_trace.specs.declared.progress.Stop.{Stop}
@@ -39,7 +39,7 @@ use Rattle.replaying_trace.specs.declared.progress.Stop.the-variants.{En
 use Rattle.replaying_trace.specs.declared.progress.Progress.{Progress}
 
 -- a turn that stops, as the code has stopped
-pub turned-off : {f : Frame} {t : Turn} {x y : State} {why : Stop} (w : Why) → t ≡ stops w → saidStop why ≡ ran w → Stopped f x why y
+pub turned-off : {f : Head} {t : Turn} {x y : State} {why : Stop} (w : Why) → t ≡ stops w → saidStop why ≡ ran w → Stopped f x why y
     → Turned f t x y
 turned-off w e said S =
     off w e
@@ -51,19 +51,19 @@ turned-off w e said S =
       memory = S .memory;
     })
 
-turned-as : {f : Frame} {t u : Turn} {x y : State} → t ≡ u → Turned f u x y → Turned f t x y
+turned-as : {f : Head} {t u : Turn} {x y : State} → t ≡ u → Turned f u x y → Turned f t x y
 turned-as e (on next g G) = on next (e ∙ g) G
 turned-as e (off w g F) = off w (e ∙ g) F
 
 -- a state whose record and memory are those of another
-same-state : {f : Frame} {x y : State} {why : Stop} {r : RunRecord} {mem : List ℕ} → Stays (x .lent) (x .memory) r mem
+same-state : {f : Head} {x y : State} {why : Stop} {r : RunRecord} {mem : List ℕ} → Stays (x .lent) (x .memory) r mem
     → Stopped f (state r mem (x .progress)) why y → Stopped f x why y
 same-state {f} {x} {y} {why} {r} {mem} s S =
     subst (λ m. Stopped f (state (x .lent) m (x .progress)) why y) (s .kept)
     (subst (λ r. Stopped f (state r mem (x .progress)) why y) (s .same) S)
 
 -- THE NUMBER IS TAKEN, or refused
-module _ (f : Frame) (rows : List ℕ) (i next : ℕ) (x : State) where
+module _ (f : Head) (rows : List ℕ) (i next : ℕ) (x : State) where
   abbrev model-turn : Turn
   model-turn = moved (x .progress .at) next (take? (modelIn f rows) i (stands f x))
 
@@ -95,8 +95,8 @@ module _ (S : Session) (s : List ℕ) (at : ℕ) (γ : Configuration) where
 
 -- WHAT A STEP'S STATE GIVES to its parts
 module _ {T : Tables} {s : List ℕ} {x : State} (R : Ready T s x) where
-  abbrev f : Frame
-  f = frameOf T
+  abbrev f : Head
+  f = headOf T
 
   pub transitions-counted : length (sessionOf T .model .transitions) ≡ T .transitions .count
   transitions-counted = transitions-length (T .transitions .rows) (T .transitions .count) 0
@@ -171,7 +171,7 @@ module _ {T : Tables} {s : List ℕ} {x : State} (R : Ready T s x) where
       }
 
 -- THE FORM OF THE END, in the parts of the record
-module _ {f : Frame} {r : RunRecord} {mem : List ℕ} (M : MachinesValid (f .machines)) (Q : QueuesValid (f .queues))
+module _ {f : Head} {r : RunRecord} {mem : List ℕ} (M : MachinesValid (f .machines)) (Q : QueuesValid (f .queues))
     (H : Holds (f .machines) (f .queues) r mem) where
   pub held-settleable : Settleable f (r .heads) (r .lengths) mem
   held-settleable = record { queues = Q; ringed = H .ringed; enough = H .enough }
@@ -188,7 +188,7 @@ module _ {f : Frame} {r : RunRecord} {mem : List ℕ} (M : MachinesValid (f .mac
       }
 
 -- a refused step leaves what the configuration was
-pub stays-held : {f : Frame} {rows : List ℕ} {r r′ : RunRecord} {mem mem′ : List ℕ} {i : ℕ} → Takeable f rows r mem i
+pub stays-held : {f : Head} {rows : List ℕ} {r r′ : RunRecord} {mem mem′ : List ℕ} {i : ℕ} → Takeable f rows r mem i
     → Stays r mem r′ mem′ → Holds (f .machines) (f .queues) r′ mem′
 stays-held {f} {r′ = r′} {mem = mem} A s =
     subst (λ m. Holds (f .machines) (f .queues) r′ m) (sym (s .kept))

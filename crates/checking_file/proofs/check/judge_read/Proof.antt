@@ -27,7 +27,7 @@ wide-requires-2 c κs = search needs
 
 -- src/check.rt:136:5
 judge-lent-requires : tie.Need-judge-lent-requires
-judge-lent-requires c κs = (record { whole = _; all = own-parts _ (c .before .before .before .before .before .before .before .before .before .before .before .before .before .before .before .before .before .before .before .pre .0) (sym (c .before .before .before .before .wide .ensures .same)) (sym (c .before .before .before .wide2 .ensures .same)) }, c .before .before .before .before .before .before .before .before .before .before .before .before .before .before .before .before .before .before .before .pre .1)
+judge-lent-requires c κs = (record { whole = _; all = own-parts _ (c .before .before .before .before .before .before .before .before .before .before .before .before .before .before .before .before .before .before .pre .0) (sym (c .before .before .before .before .wide .ensures .same)) (sym (c .before .before .before .wide2 .ensures .same)) }, c .before .before .before .before .before .before .before .before .before .before .before .before .before .before .before .before .before .before .pre .1)
 
 -- src/check.rt:117:1
 same-length : tie.Need-same-length
@@ -43,7 +43,7 @@ same-length-3 c = search needs
 
 -- src/check.rt:117:1
 returns : tie.Need-returns
-returns c = whole-concludes _ (own-parts _ (c .before .before .before .before .before .before .before .before .before .before .before .before .before .before .before .before .before .before .before .before .before .before .before .before .before .before .pre .0) (sym (c .before .before .before .before .before .before .before .before .before .before .before .wide .ensures .same)) (sym (c .before .before .before .before .before .before .before .before .before .before .wide2 .ensures .same))) (c .before .before .before .before .before .before .judge-lent .ensures)
+returns c = whole-concludes _ (own-parts _ (c .before .before .before .before .before .before .before .before .before .before .before .before .before .before .before .before .before .before .before .before .before .before .before .before .before .pre .0) (sym (c .before .before .before .before .before .before .before .before .before .before .before .wide .ensures .same)) (sym (c .before .before .before .before .before .before .before .before .before .before .wide2 .ensures .same))) (c .before .before .before .before .before .before .judge-lent .ensures)
 
 pub judge-read-spec : {M : Type 1} → statement M
 judge-read-spec =

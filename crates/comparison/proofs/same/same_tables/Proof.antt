@@ -6,9 +6,7 @@ use Rattle.comparison.proofs.same.same_tables.Lts as lts
 use mathlib.Core.Path.{sym, _∙_}
 use borrow.Author.Tests.{not-true, not-false}
 use Rattle.comparison.proofs.same.same.Reads as same-reads
-use Rattle.comparison.proofs.same.same_entries.Reads as same-entries-reads
 use Rattle.comparison.proofs.same.same_heads.Reads as same-heads-reads
-use Rattle.comparison.proofs.same.same_roots.Reads as same-roots-reads
 
 -- src/same.rt:121:9
 same-heads-requires : tie.Need-same-heads-requires
@@ -43,20 +41,20 @@ returns-4 : tie.Need-returns-4
 returns-4 c = rw (sym (c .before .before .before .before .before .before .before .same-heads .ensures) ∙ not-false _ (c .before .before .before .before .before .before .if1 .left), sym (c .before .before .before .before .before .same .ensures) ∙ not-false _ (c .before .before .before .before .if2 .left), sym (c .before .before .before .same2 .ensures) ∙ not-false _ (c .before .before .if3 .left), sym (c .before .same3 .ensures) ∙ not-true _ (c .if4 .taken))
 
 -- src/same.rt:133:9
-same-roots-requires : tie.Need-same-roots-requires
-same-roots-requires c κs = search needs
+same-requires-4 : tie.Need-same-requires-4
+same-requires-4 c κs = search needs
 
 -- src/same.rt:134:9
 returns-5 : tie.Need-returns-5
-returns-5 c = rw (sym (c .before .before .before .before .before .before .before .before .before .same-heads .ensures) ∙ not-false _ (c .before .before .before .before .before .before .before .before .if1 .left), sym (c .before .before .before .before .before .before .before .same .ensures) ∙ not-false _ (c .before .before .before .before .before .before .if2 .left), sym (c .before .before .before .before .before .same2 .ensures) ∙ not-false _ (c .before .before .before .before .if3 .left), sym (c .before .before .before .same3 .ensures) ∙ not-false _ (c .before .before .if4 .left), sym (c .before .same-roots .ensures) ∙ not-true _ (c .if5 .taken))
+returns-5 c = rw (sym (c .before .before .before .before .before .before .before .before .before .same-heads .ensures) ∙ not-false _ (c .before .before .before .before .before .before .before .before .if1 .left), sym (c .before .before .before .before .before .before .before .same .ensures) ∙ not-false _ (c .before .before .before .before .before .before .if2 .left), sym (c .before .before .before .before .before .same2 .ensures) ∙ not-false _ (c .before .before .before .before .if3 .left), sym (c .before .before .before .same3 .ensures) ∙ not-false _ (c .before .before .if4 .left), sym (c .before .same4 .ensures) ∙ not-true _ (c .if5 .taken))
 
 -- src/same.rt:136:5
-same-entries-requires : tie.Need-same-entries-requires
-same-entries-requires c κs = search needs
+same-requires-5 : tie.Need-same-requires-5
+same-requires-5 c κs = search needs
 
 -- src/same.rt:107:1
 returns-6 : tie.Need-returns-6
-returns-6 c = rw (sym (c .before .before .before .before .before .before .before .before .before .before .same-heads .ensures) ∙ not-false _ (c .before .before .before .before .before .before .before .before .before .if1 .left), sym (c .before .before .before .before .before .before .before .before .same .ensures) ∙ not-false _ (c .before .before .before .before .before .before .before .if2 .left), sym (c .before .before .before .before .before .before .same2 .ensures) ∙ not-false _ (c .before .before .before .before .before .if3 .left), sym (c .before .before .before .before .same3 .ensures) ∙ not-false _ (c .before .before .before .if4 .left), sym (c .before .before .same-roots .ensures) ∙ not-false _ (c .before .if5 .left), sym (c .same-entries .ensures))
+returns-6 c = rw (sym (c .before .before .before .before .before .before .before .before .before .before .same-heads .ensures) ∙ not-false _ (c .before .before .before .before .before .before .before .before .before .if1 .left), sym (c .before .before .before .before .before .before .before .before .same .ensures) ∙ not-false _ (c .before .before .before .before .before .before .before .if2 .left), sym (c .before .before .before .before .before .before .same2 .ensures) ∙ not-false _ (c .before .before .before .before .before .if3 .left), sym (c .before .before .before .before .same3 .ensures) ∙ not-false _ (c .before .before .before .if4 .left), sym (c .before .before .same4 .ensures) ∙ not-false _ (c .before .if5 .left), sym (c .same5 .ensures))
 
 pub same-tables-spec : {M : Type 1} → statement M
 same-tables-spec =
@@ -70,7 +68,7 @@ same-tables-spec =
     returns-3
     same-requires-3
     returns-4
-    same-roots-requires
+    same-requires-4
     returns-5
-    same-entries-requires
+    same-requires-5
     returns-6)

@@ -39,7 +39,7 @@ returns c = λ f A. take-elsewhere A (c .if1 .taken)
 
 -- src/taking.rt:119:9
 shift-requires : tie.Need-shift-requires
-shift-requires c κs = record { queues = c .before .before .before .before .before .before .before .before .before .pre .frame .queues; shiftable = row-shiftable (c .before .before .before .before .before .before .before .before .before .pre .takeable) }
+shift-requires c κs = record { queues = c .before .before .before .before .before .before .before .before .before .pre .head .queues; shiftable = row-shiftable (c .before .before .before .before .before .before .before .before .before .pre .takeable) }
 
 -- src/taking.rt:121:30
 enum-told : tie.Need-enum-told

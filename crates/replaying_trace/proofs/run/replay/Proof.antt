@@ -56,8 +56,8 @@ use Rattle.replaying_trace.specs.declared.progress.Ended.{Ended}
 use Rattle.replaying_trace.specs.declared.progress.Begun.{Begun}
 use Rattle.replaying_step.proofs.runs.RunRecord as R
 use Rattle.replaying_step.proofs.runs.RunRecord.Laws as R′
-use Rattle.replaying_step.proofs.frame.Frame as F
-use Rattle.replaying_step.proofs.frame.Frame.Laws as F′
+use Rattle.tables.proofs.head.Head as F
+use Rattle.tables.proofs.head.Head.Laws as F′
 use Rattle.replaying_trace.proofs.progress.Progress as P
 use Rattle.replaying_trace.proofs.progress.Progress.Laws as P′
 use Rattle.replaying_trace.proofs.progress.Ended as E
@@ -72,17 +72,17 @@ use Rattle.replaying_trace.proofs.Local as Local
 use Rattle.replaying_trace.proofs.Read.{passed, tokens}
 use Rattle.replaying_trace.proofs.start.start as start
 use Rattle.replaying_trace.proofs.start.start.Symbol as start-def
-use Rattle.replaying_trace.proofs.start.start.Symbol.{name as #replay·start·start}
+use Rattle.replaying_trace.proofs.start.start.Symbol.{name as #replaying-trace·start·start}
 use Rattle.replaying_trace.proofs.start.start.Met as start-thm
 use Rattle.replaying_trace.proofs.turn.ended as ended
 use Rattle.replaying_trace.proofs.turn.ended.Symbol as ended-def
-use Rattle.replaying_trace.proofs.turn.ended.Symbol.{name as #replay·turn·ended}
+use Rattle.replaying_trace.proofs.turn.ended.Symbol.{name as #replaying-trace·turn·ended}
 use Rattle.replaying_trace.proofs.turn.ended.Met as ended-thm
 use Rattle.replaying_trace.proofs.run.run as run′
 use Rattle.replaying_trace.proofs.run.run.Symbol as run-def
-use Rattle.replaying_trace.proofs.run.run.Symbol.{name as #replay·run·run}
+use Rattle.replaying_trace.proofs.run.run.Symbol.{name as #replaying-trace·run·run}
 use Rattle.replaying_trace.proofs.run.run.Met as run-thm
-use Rattle.replaying_trace.proofs.run.replay.Key.{name as #replay·run·replay}
+use Rattle.replaying_trace.proofs.run.replay.Key.{name as #replaying-trace·run·replay}
 use Rattle.replaying_trace.proofs.run.replay as replay
 use Rattle.replaying_trace.proofs.run.replay.Statement as stated
 use Rattle.replaying_trace.proofs.run.replay.Code as code
@@ -104,8 +104,8 @@ module _ (b : Begun) (u : Val) (is : Is B.the-row b (u ∷ [])) where
   progress-is : Is P.the-row (b .progress) (P′.lowered (b .progress) ∷ [])
   progress-is = as-lowered P.the-row P′.lowers (b .progress) _ (is .1 .1 .1 .0)
 
-  frame-is : Is F.the-row (b .frame) (F′.lowered (b .frame) ∷ [])
-  frame-is = as-lowered F.the-row F′.lowers (b .frame) _ (is .1 .1 .1 .1 .0)
+  head-is : Is F.the-row (b .head) (F′.lowered (b .head) ∷ [])
+  head-is = as-lowered F.the-row F′.lowers (b .head) _ (is .1 .1 .1 .1 .0)
 
   roots-is : Is (Array u8 mostControls) (b .roots) (arrayVal (map (λ x. vint w8 x) (b .roots)) ∷ [])
   roots-is = Local.of-field mostControls (b .roots) _ (is .1 .1 .1 .1 .1 .0)
@@ -270,7 +270,7 @@ module _ {M : Type 1} (𝓤 : URA M) (H : Heap 𝓤) (A : Atoms 𝓤) (W : Given
       κr = κr;
       qr = qr;
       lent = at-last r (b .record);
-      frame = b .frame;
+      head = b .head;
       rows = Local.read rowsLength lr (x .0) (ys .0);
       finals = Local.read mostPool lf (x .1) (ys .1);
       arcs = Local.read poolArcs la (x .2) (ys .2);
@@ -314,7 +314,7 @@ module _ {M : Type 1} (𝓤 : URA M) (H : Heap 𝓤) (A : Atoms 𝓤) (W : Given
         nothing ! $ move ! (14 ∷ 0 ∷ []) $ fjoin ! $ move ! (2 ∷ 0 ∷ []) $ fjoin ! $ move ! (4 ∷ 0 ∷ []) $ fjoin ! $ move ! (6 ∷ 0 ∷ []) $ fjoin ! $ move ! (8 ∷ 0 ∷ []) $ fjoin ! $
         nothing ! $ move ! (14 ∷ 0 ∷ []) $ fjoin ! $ move ! (2 ∷ 0 ∷ []) $ fjoin ! $ move ! (3 ∷ 0 ∷ []) $ fjoin ! $ move ! (4 ∷ 0 ∷ []) $ fjoin ! $ move ! (5 ∷ 0 ∷ []) $ fjoin ! $
         move ! (7 ∷ 8 ∷ []) $ feqI ! (List Val) (ptr-vals r) (ptr-vals r) refl $ fjoin3 ! $ move ! (8 ∷ 2 ∷ 10 ∷ 0 ∷ 1 ∷ 9 ∷ []) $ group ! 6 $
-        use1 W (raw (Run 𝓤 H A at-mem run .pre (to-run (α, β, ζ, η)))) (Lent.goes (call (α, β, ζ, η)) 𝓤 H A W (run′.clauses 𝓤 H A at-mem run) (span memory) tt (factI 𝓤 _ (emp 𝓤) (begins-ready begins)) (frame-is b v b-is) (progress-is b v b-is)) $
+        use1 W (raw (Run 𝓤 H A at-mem run .pre (to-run (α, β, ζ, η)))) (Lent.goes (call (α, β, ζ, η)) 𝓤 H A W (run′.clauses 𝓤 H A at-mem run) (span memory) tt (factI 𝓤 _ (emp 𝓤) (begins-ready begins)) (head-is b v b-is) (progress-is b v b-is)) $
         move ! (0 ∷ 5 ∷ 4 ∷ 3 ∷ 2 ∷ 1 ∷ []) $ at-once ! $ show ! (λ (x : Four). mean 𝓤 H A (Lent′ x)) (α, β, ζ, η) $ done !))))
 
     abbrev AtRun : Val → Progress → RunRecord → List ℕ → Item 𝓤
@@ -370,7 +370,7 @@ module _ {M : Type 1} (𝓤 : URA M) (H : Heap 𝓤) (A : Atoms 𝓤) (W : Given
       qed W ((‵ (flft κr qr) ⊛ ‵ (flft κf qf) ⊛ ‵ (flft κt qt) ⊛ ‵ (flft κm qm) ⊛ ‵ ftrue) ∷ ‵ (owns (MutRef (named 0) κr R.the-row ∷ ShrSlice (named 1) κf u8 ∷ ShrSlice (named 2) κt u8 ∷ MutSlice (named 3) κm u8 ∷ []) a vals) ∷ []) ∵
       split3 ! $ move ! (2 ∷ []) $ split3 ! $ move ! (5 ∷ []) $ fsplit3 ! $ move ! (2 ∷ []) $ fsplit3 ! $ use1 W (‵ Trace ⊛ ‵ Trace) (shr-slice-copy 𝓤 H A W (named 2) κt u8 .twice trace (slice-vals trace)) $ split ! $ move ! (4 ∷ []) $ fsplit3 ! $ drop ! $ move ! (11 ∷ 7 ∷ []) $ group ! 2 $ keep ! (1 ∷ 2 ∷ 10 ∷ 0 ∷ 7 ∷ 3 ∷ 4 ∷ 5 ∷ 8 ∷ []) $ done !
 
-  module _ (C : Calls 𝓤 H) (Λ : Loops 𝓤 H) (fm : FmC 𝓤 H (W .laws) C) (known-start : Triple 𝓤 (C #replay·start·start) (Start 𝓤 H A at-mem run)) (known-run : Triple 𝓤 (C #replay·run·run) (Run 𝓤 H A at-mem run)) (known-ended : Triple 𝓤 (C #replay·turn·ended) (End 𝓤 H A at-mem run)) where
+  module _ (C : Calls 𝓤 H) (Λ : Loops 𝓤 H) (fm : FmC 𝓤 H (W .laws) C) (known-start : Triple 𝓤 (C #replaying-trace·start·start) (Start 𝓤 H A at-mem run)) (known-run : Triple 𝓤 (C #replaying-trace·run·run) (Run 𝓤 H A at-mem run)) (known-ended : Triple 𝓤 (C #replaying-trace·turn·ended) (End 𝓤 H A at-mem run)) where
     module _ (l₀ l₁ l₂ l₃ l₄ l₅ l₆ l₇ l₈ l₉ l₁₀ l₁₁ l₁₂ l₁₃ l₁₄ l₁₅ l₁₆ l₁₇ l₁₈ l₁₉ l₂₀ l₂₁ l₂₂ l₂₃ l₂₄ l₂₅ l₂₆ l₂₇ l₂₈ l₂₉ : ℕ) where
       abbrev En : Env 𝓤 H
       En = envAt 𝓤 H body.locals (l₀ ∷ l₁ ∷ l₂ ∷ l₃ ∷ l₄ ∷ l₅ ∷ l₆ ∷ l₇ ∷ l₈ ∷ l₉ ∷ l₁₀ ∷ l₁₁ ∷ l₁₂ ∷ l₁₃ ∷ l₁₄ ∷ l₁₅ ∷ l₁₆ ∷ l₁₇ ∷ l₁₈ ∷ l₁₉ ∷ l₂₀ ∷ l₂₁ ∷ l₂₂ ∷ l₂₃ ∷ l₂₄ ∷ l₂₅ ∷ l₂₆ ∷ l₂₇ ∷ l₂₈ ∷ l₂₉ ∷ [])
@@ -419,7 +419,7 @@ module _ {M : Type 1} (𝓤 : URA M) (H : Heap 𝓤) (A : Atoms 𝓤) (W : Given
         -- [the memory, tokens and the arrays; the record's cell; the open borrow; obs; auth; _29; …; _0; …; the trace]
         land ! (from ! (stop !)) (init ! 47 refl (LL.lawful B.the-type B′.the-laws 𝓤 H A W .typed b _ (e .0) .0)) $ rewrite ! 47 (λ (w : Val). ‵ (fat fullShare B′.mir l₈ 0 w)) (ap only (B′.lowers .val-is b _ (e .0))) refl $
         assigns ! (of-opd ! (part-of ! 47 Fields 0 R′.mir 0 refl refl refl)) (from ! (hop ! (look ! 58 refl) (stop !))) (store-raw ! 1 refl (LL.lawful R.the-type R′.the-laws 𝓤 H A W .typed (b .record) _ (record-is b v (e .0)) .0)) $
-        assigns ! (of-opd ! (part-of ! 47 Fields 2 F′.mir 120 refl refl refl)) (from ! (stop !)) (init ! 45 refl (LL.lawful F.the-type F′.the-laws 𝓤 H A W .typed (b .frame) _ (frame-is b v (e .0)) .0)) $
+        assigns ! (of-opd ! (part-of ! 47 Fields 2 F′.mir 120 refl refl refl)) (from ! (stop !)) (init ! 45 refl (LL.lawful F.the-type F′.the-laws 𝓤 H A W .typed (b .head) _ (head-is b v (e .0)) .0)) $
         assigns ! (of-opd ! (part-of ! 47 Fields 3 (tyArray (tyInt w8) mostControls) 192 refl refl refl)) (from ! (stop !)) (init ! 43 refl (array-lawful 𝓤 H A W u8 (uint-lawful 𝓤 H A W w8) mostControls .typed (b .roots) _ (roots-is b v (e .0)) .0)) $
         assigns ! (of-opd ! (part-of ! 47 Fields 1 P′.mir 72 refl refl refl)) (from ! (stop !)) (init ! 41 refl (LL.lawful P.the-type P′.the-laws 𝓤 H A W .typed (b .progress) _ (progress-is b v (e .0)) .0)) $
         owned ! R.the-row (Is R.the-row) (LL.makes R.the-type R′.the-plain 𝓤 H A) (b .record) _ (record-is b v (e .0)) $ move ! (2 ∷ 0 ∷ 3 ∷ 4 ∷ 5 ∷ []) $ closes ! tt R.the-row (b .record) (R′.lowered (b .record) ∷ []) (r .ptr .0) (r .ptr .1) $
@@ -439,7 +439,7 @@ module _ {M : Type 1} (𝓤 : URA M) (H : Heap 𝓤) (A : Atoms 𝓤) (W : Given
         leaves l₀ l₁ l₂ l₃ l₄ l₅ l₆ l₇ l₈ l₉ l₁₀ l₁₁ l₁₂ l₁₃ l₁₄ l₁₅ l₁₆ l₁₇ l₁₈ l₁₉ l₂₀ l₂₁ l₂₂ l₂₃ l₂₄ l₂₅ l₂₆ l₂₇ l₂₈ l₂₉ q h zs u (ran .0) (replays (e .1) (ran .1)) (ran .2 ∙ e .2)))))))))))))))))))))))))))))))))))))))))))))))))))
 
 module _ {M : Type 1} (𝓤 : URA M) (H : Heap 𝓤) (A : Atoms 𝓤) (W : Given 𝓤 H A) (at-mem : Memory → SProp 𝓤) (run : Routine → Fun 𝓤) (𝓣 : Tables 𝓤 H)
-    (known-start : Triple 𝓤 (𝓣 .C #replay·start·start) (Start 𝓤 H A at-mem run)) (known-run : Triple 𝓤 (𝓣 .C #replay·run·run) (Run 𝓤 H A at-mem run)) (known-ended : Triple 𝓤 (𝓣 .C #replay·turn·ended) (End 𝓤 H A at-mem run)) where
+    (known-start : Triple 𝓤 (𝓣 .C #replaying-trace·start·start) (Start 𝓤 H A at-mem run)) (known-run : Triple 𝓤 (𝓣 .C #replaying-trace·run·run) (Run 𝓤 H A at-mem run)) (known-ended : Triple 𝓤 (𝓣 .C #replaying-trace·turn·ended) (End 𝓤 H A at-mem run)) where
   replay-walks : Walks 𝓤 H A replay.ended stayed (WpFn 𝓤 H (𝓣 .C) (𝓣 .Λ) code.function) (replay.clauses 𝓤 H A at-mem run)
   replay-walks = walked 𝓤 H A replay.ended stayed (replay.clauses 𝓤 H A at-mem run) (WpFn 𝓤 H (𝓣 .C) (𝓣 .Λ) code.function)
       (λ κs. (ptr-vals, (slice-vals, (slice-vals, (slice-vals, tt)))))
@@ -457,8 +457,8 @@ pub replay-spec : {M : Type 1} → stated.statement M
 unfolding code.routine tablesOf
 replay-spec 𝓤 H 𝓜 𝓖 𝓡 =
     entered 𝓤 H (tripleOf 𝓤 H (𝓖 .A) replay.signature (replay.spec 𝓤 H (𝓖 .A) (𝓜 .mem) (𝓡 .run)))
-    (tables 𝓤 H 𝓜 𝓡 code.env .C) (tables 𝓤 H 𝓜 𝓡 code.env .Λ) #replay·run·replay code.function (code.unfolded 𝓤 H 𝓜 𝓡)
+    (tables 𝓤 H 𝓜 𝓡 code.env .C) (tables 𝓤 H 𝓜 𝓡 code.env .Λ) #replaying-trace·run·replay code.function (code.unfolded 𝓤 H 𝓜 𝓡)
     (replay-meets 𝓤 H (𝓖 .A) (givenOf 𝓤 H 𝓜 𝓖) (𝓜 .mem) (𝓡 .run) (tablesOf 𝓤 H 𝓜 (tables 𝓤 H 𝓜 𝓡 code.env))
-    (cited 𝓤 H (Start 𝓤 H (𝓖 .A) (𝓜 .mem) (𝓡 .run)) 𝓜 𝓡 code.env #replay·start·start start-def.routine code.calls-replay·start·start (start-thm.met 𝓤 H 𝓜 𝓖 𝓡))
-    (cited 𝓤 H (Run 𝓤 H (𝓖 .A) (𝓜 .mem) (𝓡 .run)) 𝓜 𝓡 code.env #replay·run·run run-def.routine code.calls-replay·run·run (run-thm.met 𝓤 H 𝓜 𝓖 𝓡))
-    (cited 𝓤 H (End 𝓤 H (𝓖 .A) (𝓜 .mem) (𝓡 .run)) 𝓜 𝓡 code.env #replay·turn·ended ended-def.routine code.calls-replay·turn·ended (ended-thm.met 𝓤 H 𝓜 𝓖 𝓡)))
+    (cited 𝓤 H (Start 𝓤 H (𝓖 .A) (𝓜 .mem) (𝓡 .run)) 𝓜 𝓡 code.env #replaying-trace·start·start start-def.routine code.calls-replaying-trace·start·start (start-thm.met 𝓤 H 𝓜 𝓖 𝓡))
+    (cited 𝓤 H (Run 𝓤 H (𝓖 .A) (𝓜 .mem) (𝓡 .run)) 𝓜 𝓡 code.env #replaying-trace·run·run run-def.routine code.calls-replaying-trace·run·run (run-thm.met 𝓤 H 𝓜 𝓖 𝓡))
+    (cited 𝓤 H (End 𝓤 H (𝓖 .A) (𝓜 .mem) (𝓡 .run)) 𝓜 𝓡 code.env #replaying-trace·turn·ended ended-def.routine code.calls-replaying-trace·turn·ended (ended-thm.met 𝓤 H 𝓜 𝓖 𝓡)))

@@ -55,9 +55,9 @@ use Rattle.replaying_trace.proofs.progress.Replayed.Laws as D′
 use Rattle.replaying_trace.proofs.Calls.{span, holds, told, freed}
 use Rattle.replaying_trace.proofs.run.replay as replay
 use Rattle.replaying_trace.proofs.run.replay.Symbol as replay-def
-use Rattle.replaying_trace.proofs.run.replay.Symbol.{name as #replay·run·replay}
+use Rattle.replaying_trace.proofs.run.replay.Symbol.{name as #replaying-trace·run·replay}
 use Rattle.replaying_trace.proofs.run.replay.Met as replay-thm
-use Rattle.replaying_trace.proofs.run.replay_from.Key.{name as #replay·run·replay-from}
+use Rattle.replaying_trace.proofs.run.replay_from.Key.{name as #replaying-trace·run·replay-from}
 use Rattle.replaying_trace.proofs.run.replay_from as replay-from
 use Rattle.replaying_trace.proofs.run.replay_from.Statement as stated
 use Rattle.replaying_trace.proofs.run.replay_from.Code as code
@@ -162,7 +162,7 @@ module _ {M : Type 1} (𝓤 : URA M) (H : Heap 𝓤) (A : Atoms 𝓤) (W : Given
       suffices ! _ (ends-at 𝓤 H A replay-from.ended stayed (replay-from.clauses 𝓤 H A at-mem run) W bound w (answer h e) (tt, (tt, (tt, (zs, tt)))) (tt, (tt, (tt, (l, tt))))) $ says ! x $ frame ! $
       nothing ! $ move ! (1 ∷ 0 ∷ []) $ fjoin ! $ nothing ! $ fjoin ! $ nothing ! $ fjoin ! $ nothing ! $ fjoin ! $ frame ! $ owned ! D.the-row (Is D.the-row) (LL.makes D.the-type D′.the-plain 𝓤 H A) (answer h e) _ is $ done !
 
-  module _ (C : Calls 𝓤 H) (Λ : Loops 𝓤 H) (fm : FmC 𝓤 H (W .laws) C) (known : Triple 𝓤 (C #replay·run·replay) (Replay 𝓤 H A at-mem run)) where
+  module _ (C : Calls 𝓤 H) (Λ : Loops 𝓤 H) (fm : FmC 𝓤 H (W .laws) C) (known : Triple 𝓤 (C #replaying-trace·run·replay) (Replay 𝓤 H A at-mem run)) where
     walk : Are (typesAt (replay-from.signature .params) κs) (Ises (typesAt (replay-from.signature .params) κs)) a vals → ent 𝓤 (onEntry 𝓤 H A replay-from.signature κs qs a vals) (WpFn 𝓤 H C Λ code.function (R′.lowered before ∷ span file ∷ span trace ∷ span memory ∷ []) Post)
     walk are =
         let m-is = are .1 .1 .1 .0 in
@@ -183,7 +183,7 @@ module _ {M : Type 1} (𝓤 : URA M) (H : Heap 𝓤) (A : Atoms 𝓤) (W : Given
         assigns ! (agg ! (and-then ! (holds ! 2 refl) (and-then ! (holds ! 10 refl) (no-more !)))) (from ! (stop !)) (init ! 21 refl (LL.lawful D.the-type D′.the-laws 𝓤 H A W .typed (answer h e) _ (answer-is h e u (is .1) (is .0)) .0)) $
         returns ! (look ! 21 refl) $ move ! (21 ∷ 22 ∷ []) $ freed ! $ move ! (19 ∷ 20 ∷ []) $ freed ! $ move ! (17 ∷ 18 ∷ []) $ freed ! $ move ! (15 ∷ 16 ∷ []) $ freed ! $ move ! (13 ∷ 14 ∷ []) $ freed ! $ move ! (1 ∷ 12 ∷ []) $ freed ! $ move ! (9 ∷ 10 ∷ []) $ freed ! $ move ! (7 ∷ 8 ∷ []) $ freed ! $ move ! (5 ∷ 6 ∷ []) $ freed ! $ move ! (3 ∷ 4 ∷ []) $ freed ! $ move ! (1 ∷ 2 ∷ []) $ freed ! $ free0 ! $ by ! (exits h e zs (spelled h u) (is .2) (is .3) (answer-is h e u (is .1) (is .0))))))))))))))))))))
 
-module _ {M : Type 1} (𝓤 : URA M) (H : Heap 𝓤) (A : Atoms 𝓤) (W : Given 𝓤 H A) (at-mem : Memory → SProp 𝓤) (run : Routine → Fun 𝓤) (𝓣 : Tables 𝓤 H) (known : Triple 𝓤 (𝓣 .C #replay·run·replay) (Replay 𝓤 H A at-mem run)) where
+module _ {M : Type 1} (𝓤 : URA M) (H : Heap 𝓤) (A : Atoms 𝓤) (W : Given 𝓤 H A) (at-mem : Memory → SProp 𝓤) (run : Routine → Fun 𝓤) (𝓣 : Tables 𝓤 H) (known : Triple 𝓤 (𝓣 .C #replaying-trace·run·replay) (Replay 𝓤 H A at-mem run)) where
   replay-from-walks : Walks 𝓤 H A replay-from.ended stayed (WpFn 𝓤 H (𝓣 .C) (𝓣 .Λ) code.function) (replay-from.clauses 𝓤 H A at-mem run)
   replay-from-walks = walked 𝓤 H A replay-from.ended stayed (replay-from.clauses 𝓤 H A at-mem run) (WpFn 𝓤 H (𝓣 .C) (𝓣 .Λ) code.function)
       (λ κs. ((λ h. R′.lowered h ∷ []), (slice-vals, (slice-vals, (slice-vals, tt)))))
@@ -201,6 +201,6 @@ pub replay-from-spec : {M : Type 1} → stated.statement M
 unfolding code.routine tablesOf
 replay-from-spec 𝓤 H 𝓜 𝓖 𝓡 =
     entered 𝓤 H (tripleOf 𝓤 H (𝓖 .A) replay-from.signature (replay-from.spec 𝓤 H (𝓖 .A) (𝓜 .mem) (𝓡 .run)))
-    (tables 𝓤 H 𝓜 𝓡 code.env .C) (tables 𝓤 H 𝓜 𝓡 code.env .Λ) #replay·run·replay-from code.function (code.unfolded 𝓤 H 𝓜 𝓡)
+    (tables 𝓤 H 𝓜 𝓡 code.env .C) (tables 𝓤 H 𝓜 𝓡 code.env .Λ) #replaying-trace·run·replay-from code.function (code.unfolded 𝓤 H 𝓜 𝓡)
     (replay-from-meets 𝓤 H (𝓖 .A) (givenOf 𝓤 H 𝓜 𝓖) (𝓜 .mem) (𝓡 .run) (tablesOf 𝓤 H 𝓜 (tables 𝓤 H 𝓜 𝓡 code.env))
-    (cited 𝓤 H (Replay 𝓤 H (𝓖 .A) (𝓜 .mem) (𝓡 .run)) 𝓜 𝓡 code.env #replay·run·replay replay-def.routine code.calls-replay·run·replay (replay-thm.met 𝓤 H 𝓜 𝓖 𝓡)))
+    (cited 𝓤 H (Replay 𝓤 H (𝓖 .A) (𝓜 .mem) (𝓡 .run)) 𝓜 𝓡 code.env #replaying-trace·run·replay replay-def.routine code.calls-replaying-trace·run·replay (replay-thm.met 𝓤 H 𝓜 𝓖 𝓡)))

@@ -51,8 +51,8 @@ use Rattle.replaying_trace.specs.Laws.Loop.{reached-begin, reached-ready
 use Rattle.replaying_step.specs.declared.runs.RunRecord.{RunRecord}
 use Rattle.replaying_trace.specs.declared.progress.Progress.{Progress}
 use Rattle.replaying_step.proofs.runs.RunRecord as R
-use Rattle.replaying_step.proofs.frame.Frame as F
-use Rattle.replaying_step.proofs.frame.Frame.Laws as F′
+use Rattle.tables.proofs.head.Head as F
+use Rattle.tables.proofs.head.Head.Laws as F′
 use Rattle.replaying_trace.proofs.progress.Progress as P
 use Rattle.replaying_trace.proofs.progress.Progress.Laws as P′
 use Rattle.replaying_trace.proofs.Again as Again
@@ -62,9 +62,9 @@ use Rattle.replaying_trace.proofs.Lent.{Call, called}
 use Rattle.replaying_trace.proofs.Read.{token, tokens, slice, slices, row-apart, row-joined, slices-twice, read-typed}
 use Rattle.replaying_trace.proofs.run.step as step′
 use Rattle.replaying_trace.proofs.run.step.Symbol as step-def
-use Rattle.replaying_trace.proofs.run.step.Symbol.{name as #replay·run·step}
+use Rattle.replaying_trace.proofs.run.step.Symbol.{name as #replaying-trace·run·step}
 use Rattle.replaying_trace.proofs.run.step.Met as step-thm
-use Rattle.replaying_trace.proofs.run.run.Key.{name as #replay·run·run}
+use Rattle.replaying_trace.proofs.run.run.Key.{name as #replaying-trace·run·run}
 use Rattle.replaying_trace.proofs.run.run as run′
 use Rattle.replaying_trace.proofs.run.run.Statement as stated
 use Rattle.replaying_trace.proofs.run.run.Code as code
@@ -181,7 +181,7 @@ module _ {M : Type 1} (𝓤 : URA M) (H : Heap 𝓤) (A : Atoms 𝓤) (W : Given
   m-at x y = at-name memory (x .1 .1) (y .memory)
 
   abbrev call : Loans → State → Call
-  call x y = record { κr = x .0 .0 ∷ []; qr = fullShare; lent = r-at x y; frame = d .frame; rows = d .rows; finals = d .finals; arcs = d .arcs; roots = d .roots; trace = d .trace; κm = x .1 .0 ∷ []; qm = fullShare; memory = m-at x y; progress = y .progress }
+  call x y = record { κr = x .0 .0 ∷ []; qr = fullShare; lent = r-at x y; head = d .head; rows = d .rows; finals = d .finals; arcs = d .arcs; roots = d .roots; trace = d .trace; κm = x .1 .0 ∷ []; qm = fullShare; memory = m-at x y; progress = y .progress }
 
   abbrev to-step : Loans → State → Step 𝓤 H A at-mem run .Ghost
   to-step x y = Lent.to (call x y) 𝓤 H A W (step′.clauses 𝓤 H A at-mem run) (span memory) tt
@@ -205,7 +205,7 @@ module _ {M : Type 1} (𝓤 : URA M) (H : Heap 𝓤) (A : Atoms 𝓤) (W : Given
   abbrev Next : State → Val → State → Item 𝓤
   Next y u z = given (Is P.the-row (z .progress) (u ∷ []) × Stepped T₀ s₀ y z × (length (z .memory) ≡ length (y .memory))) (Held z)
 
-  module _ (f-is : Is F.the-row (d .frame) (F′.lowered (d .frame) ∷ [])) (m-is : Is (MutSlice (named 6) (d .κm) u8) memory (span memory ∷ [])) (y : Upto) where
+  module _ (f-is : Is F.the-row (d .head) (F′.lowered (d .head) ∷ [])) (m-is : Is (MutSlice (named 6) (d .κm) u8) memory (span memory ∷ [])) (y : Upto) where
     memory-is : Is (MutSlice (named 6) (d .κm) u8) (at-last memory (y .at .memory)) (span memory ∷ [])
     memory-is = ((ap (λ (n : ℕ). sliceVal (memory .ptr) n ∷ []) (sym (y .long)), subst (Room u8) (sym (y .long)) (m-is .0 .1)), m-is .1)
 
@@ -243,8 +243,8 @@ module _ {M : Type 1} (𝓤 : URA M) (H : Heap 𝓤) (A : Atoms 𝓤) (W : Given
 
   -- ---- the loop
   module _ (ready : Asked) (are : Are (typesAt (run′.signature .params) κs) (Ises (typesAt (run′.signature .params) κs)) a vals)
-      (𝓣 : Tables 𝓤 H) (known : Triple 𝓤 (𝓣 .C #replay·run·step) (Step 𝓤 H A at-mem run)) where
-    f-is : Is F.the-row (d .frame) (F′.lowered (d .frame) ∷ [])
+      (𝓣 : Tables 𝓤 H) (known : Triple 𝓤 (𝓣 .C #replaying-trace·run·step) (Step 𝓤 H A at-mem run)) where
+    f-is : Is F.the-row (d .head) (F′.lowered (d .head) ∷ [])
     f-is = are .1 .0
 
     m-is : Is (MutSlice (named 6) (d .κm) u8) memory (span memory ∷ [])
@@ -277,7 +277,7 @@ module _ {M : Type 1} (𝓤 : URA M) (H : Heap 𝓤) (A : Atoms 𝓤) (W : Given
 
       -- what the loop has: what is held; then _14 to _0, each with what frees it. Of the locals that a turn writes, only p lives on
       abbrev At : Upto → List (Item 𝓤)
-      At y = Held (y .at) ∷ ‵ (froom (ty 14) l₁₄ 0) ∷ ‵ (fdies (ty 14) l₁₄) ∷ ‵ (froom (ty 13) l₁₃ 0) ∷ ‵ (fdies (ty 13) l₁₃) ∷ ‵ (froom (ty 12) l₁₂ 0) ∷ ‵ (fdies (ty 12) l₁₂) ∷ ‵ (froom (ty 11) l₁₁ 0) ∷ ‵ (fdies (ty 11) l₁₁) ∷ ‵ (fat fullShare (ty 10) l₁₀ 0 (P′.lowered (y .at .progress))) ∷ ‵ (fdies (ty 10) l₁₀) ∷ ‵ (fat fullShare (ty 9) l₉ 0 (P′.lowered (d .progress))) ∷ ‵ (fdies (ty 9) l₉) ∷ ‵ (fat fullShare (ty 8) l₈ 0 (span memory)) ∷ ‵ (fdies (ty 8) l₈) ∷ ‵ (fat fullShare (ty 7) l₇ 0 (d .trace .val)) ∷ ‵ (fdies (ty 7) l₇) ∷ ‵ (fat fullShare (ty 6) l₆ 0 (d .roots .val)) ∷ ‵ (fdies (ty 6) l₆) ∷ ‵ (fat fullShare (ty 5) l₅ 0 (d .arcs .val)) ∷ ‵ (fdies (ty 5) l₅) ∷ ‵ (fat fullShare (ty 4) l₄ 0 (d .finals .val)) ∷ ‵ (fdies (ty 4) l₄) ∷ ‵ (fat fullShare (ty 3) l₃ 0 (d .rows .val)) ∷ ‵ (fdies (ty 3) l₃) ∷ ‵ (fat fullShare (ty 2) l₂ 0 (F′.lowered (d .frame))) ∷ ‵ (fdies (ty 2) l₂) ∷ ‵ (fat fullShare (ty 1) l₁ 0 (vptr (r .ptr .0) (r .ptr .1))) ∷ ‵ (fdies (ty 1) l₁) ∷ ‵ (froom (ty 0) l₀ 0) ∷ ‵ (fdies (ty 0) l₀) ∷ []
+      At y = Held (y .at) ∷ ‵ (froom (ty 14) l₁₄ 0) ∷ ‵ (fdies (ty 14) l₁₄) ∷ ‵ (froom (ty 13) l₁₃ 0) ∷ ‵ (fdies (ty 13) l₁₃) ∷ ‵ (froom (ty 12) l₁₂ 0) ∷ ‵ (fdies (ty 12) l₁₂) ∷ ‵ (froom (ty 11) l₁₁ 0) ∷ ‵ (fdies (ty 11) l₁₁) ∷ ‵ (fat fullShare (ty 10) l₁₀ 0 (P′.lowered (y .at .progress))) ∷ ‵ (fdies (ty 10) l₁₀) ∷ ‵ (fat fullShare (ty 9) l₉ 0 (P′.lowered (d .progress))) ∷ ‵ (fdies (ty 9) l₉) ∷ ‵ (fat fullShare (ty 8) l₈ 0 (span memory)) ∷ ‵ (fdies (ty 8) l₈) ∷ ‵ (fat fullShare (ty 7) l₇ 0 (d .trace .val)) ∷ ‵ (fdies (ty 7) l₇) ∷ ‵ (fat fullShare (ty 6) l₆ 0 (d .roots .val)) ∷ ‵ (fdies (ty 6) l₆) ∷ ‵ (fat fullShare (ty 5) l₅ 0 (d .arcs .val)) ∷ ‵ (fdies (ty 5) l₅) ∷ ‵ (fat fullShare (ty 4) l₄ 0 (d .finals .val)) ∷ ‵ (fdies (ty 4) l₄) ∷ ‵ (fat fullShare (ty 3) l₃ 0 (d .rows .val)) ∷ ‵ (fdies (ty 3) l₃) ∷ ‵ (fat fullShare (ty 2) l₂ 0 (F′.lowered (d .head))) ∷ ‵ (fdies (ty 2) l₂) ∷ ‵ (fat fullShare (ty 1) l₁ 0 (vptr (r .ptr .0) (r .ptr .1))) ∷ ‵ (fdies (ty 1) l₁) ∷ ‵ (froom (ty 0) l₀ 0) ∷ ‵ (fdies (ty 0) l₀) ∷ []
 
       abbrev Turned : Upto → Out → SProp 𝓤
       Turned y = afterTurn 𝓤 H (Below 𝓤 H A Nearer At y) (afterBlock 𝓤 H (afterSeq 𝓤 H (Wp 𝓤 H C Λ En body.t-3 (atReturn 𝓤 H En Post)) (atReturn 𝓤 H En Post)))
@@ -309,16 +309,16 @@ module _ {M : Type 1} (𝓤 : URA M) (H : Heap 𝓤) (A : Atoms 𝓤) (W : Given
         move ! (4 ∷ []) $ fsplit ! $ move ! (1 ∷ []) $ fsplit ! $ drop ! $ use1 W (‵ Slices ⊛ ‵ (Lent.After d (span memory))) (row-apart 𝓤 H A W (map slice (Lent.five d)) (Lent.After d (span memory))) $ split ! $ move ! (1 ∷ []) $ fsplit ! $
         keep ! (3 ∷ 7 ∷ 0 ∷ 4 ∷ 6 ∷ 2 ∷ []) $ done !
 
-    walk : ent 𝓤 (onEntry 𝓤 H A run′.signature κs qs a vals) (WpFn 𝓤 H (𝓣 .C) (𝓣 .Λ) code.function (vptr (r .ptr .0) (r .ptr .1) ∷ F′.lowered (d .frame) ∷ d .rows .val ∷ d .finals .val ∷ d .arcs .val ∷ d .roots .val ∷ d .trace .val ∷ span memory ∷ P′.lowered (d .progress) ∷ []) Post)
+    walk : ent 𝓤 (onEntry 𝓤 H A run′.signature κs qs a vals) (WpFn 𝓤 H (𝓣 .C) (𝓣 .Λ) code.function (vptr (r .ptr .0) (r .ptr .1) ∷ F′.lowered (d .head) ∷ d .rows .val ∷ d .finals .val ∷ d .arcs .val ∷ d .roots .val ∷ d .trace .val ∷ span memory ∷ P′.lowered (d .progress) ∷ []) Post)
     walk =
-        qed W (raw (onEntry 𝓤 H A run′.signature κs qs a vals) ∷ []) ∵ use1 W (Held x₀) begins $ enter ! (𝓣 .C) (𝓣 .Λ) code.function (vptr (r .ptr .0) (r .ptr .1) ∷ F′.lowered (d .frame) ∷ d .rows .val ∷ d .finals .val ∷ d .arcs .val ∷ d .roots .val ∷ d .trace .val ∷ span memory ∷ P′.lowered (d .progress) ∷ []) _ $
+        qed W (raw (onEntry 𝓤 H A run′.signature κs qs a vals) ∷ []) ∵ use1 W (Held x₀) begins $ enter ! (𝓣 .C) (𝓣 .Λ) code.function (vptr (r .ptr .0) (r .ptr .1) ∷ F′.lowered (d .head) ∷ d .rows .val ∷ d .finals .val ∷ d .arcs .val ∷ d .roots .val ∷ d .trace .val ∷ span memory ∷ P′.lowered (d .progress) ∷ []) _ $
         alloc1 ! (λ l₀. alloc1 ! (λ l₁. alloc1 ! (λ l₂. alloc1 ! (λ l₃. alloc1 ! (λ l₄. alloc1 ! (λ l₅. alloc1 ! (λ l₆. alloc1 ! (λ l₇. alloc1 ! (λ l₈. alloc1 ! (λ l₉. alloc1 ! (λ l₁₀. alloc1 ! (λ l₁₁. alloc1 ! (λ l₁₂. alloc1 ! (λ l₁₃. alloc1 ! (λ l₁₄. alloc0 ! $ params1 ! $
-        pass1 ! (init ! 26 refl (tt, tt)) $ pass1 ! (init ! 24 refl (LL.lawful F.the-type F′.the-laws 𝓤 H A W .typed (d .frame) _ f-is .0)) $ pass1 ! (init ! 22 refl (read-typed 𝓤 H A W (named 1) (d .rows) (are .1 .1 .0))) $
+        pass1 ! (init ! 26 refl (tt, tt)) $ pass1 ! (init ! 24 refl (LL.lawful F.the-type F′.the-laws 𝓤 H A W .typed (d .head) _ f-is .0)) $ pass1 ! (init ! 22 refl (read-typed 𝓤 H A W (named 1) (d .rows) (are .1 .1 .0))) $
         pass1 ! (init ! 20 refl (read-typed 𝓤 H A W (named 2) (d .finals) (are .1 .1 .1 .0))) $ pass1 ! (init ! 18 refl (read-typed 𝓤 H A W (named 3) (d .arcs) (are .1 .1 .1 .1 .0))) $ pass1 ! (init ! 16 refl (read-typed 𝓤 H A W (named 4) (d .roots) (are .1 .1 .1 .1 .1 .0))) $ pass1 ! (init ! 14 refl (read-typed 𝓤 H A W (named 5) (d .trace) (are .1 .1 .1 .1 .1 .1 .0))) $
         pass1 ! (init ! 12 refl (mut-slice-lawful 𝓤 H A W (named 6) (d .κm) u8 .typed memory _ m-is .0)) $ pass1 ! (init ! 10 refl (p-typed (d .progress) _ (are .1 .1 .1 .1 .1 .1 .1 .1 .0))) $ pass0 ! $
         assigns ! (of-opd ! (holds ! 10 refl)) (from ! (stop !)) (init ! 8 refl (p-typed (d .progress) _ (are .1 .1 .1 .1 .1 .1 .1 .1 .0))) $ move ! (30 ∷ []) $ looping l₀ l₁ l₂ l₃ l₄ l₅ l₆ l₇ l₈ l₉ l₁₀ l₁₁ l₁₂ l₁₃ l₁₄)))))))))))))))
 
-module _ {M : Type 1} (𝓤 : URA M) (H : Heap 𝓤) (A : Atoms 𝓤) (W : Given 𝓤 H A) (at-mem : Memory → SProp 𝓤) (run : Routine → Fun 𝓤) (𝓣 : Tables 𝓤 H) (known : Triple 𝓤 (𝓣 .C #replay·run·step) (Step 𝓤 H A at-mem run)) where
+module _ {M : Type 1} (𝓤 : URA M) (H : Heap 𝓤) (A : Atoms 𝓤) (W : Given 𝓤 H A) (at-mem : Memory → SProp 𝓤) (run : Routine → Fun 𝓤) (𝓣 : Tables 𝓤 H) (known : Triple 𝓤 (𝓣 .C #replaying-trace·run·step) (Step 𝓤 H A at-mem run)) where
   run-walks : Walks 𝓤 H A run′.ended stayed (WpFn 𝓤 H (𝓣 .C) (𝓣 .Λ) code.function) (run′.clauses 𝓤 H A at-mem run)
   run-walks = walked 𝓤 H A run′.ended stayed (run′.clauses 𝓤 H A at-mem run) (WpFn 𝓤 H (𝓣 .C) (𝓣 .Λ) code.function) Lent.spells Lent.tells
       (λ κs qs bounds a g are. needs 𝓤 (Asked 𝓤 H A W at-mem run (called κs qs a)) _ (λ ready. walk 𝓤 H A W at-mem run (called κs qs a) ready are 𝓣 known))
@@ -333,6 +333,6 @@ pub run-spec : {M : Type 1} → stated.statement M
 unfolding code.routine tablesOf
 run-spec 𝓤 H 𝓜 𝓖 𝓡 =
     entered 𝓤 H (tripleOf 𝓤 H (𝓖 .A) run′.signature (run′.spec 𝓤 H (𝓖 .A) (𝓜 .mem) (𝓡 .run)))
-    (tables 𝓤 H 𝓜 𝓡 code.env .C) (tables 𝓤 H 𝓜 𝓡 code.env .Λ) #replay·run·run code.function (code.unfolded 𝓤 H 𝓜 𝓡)
+    (tables 𝓤 H 𝓜 𝓡 code.env .C) (tables 𝓤 H 𝓜 𝓡 code.env .Λ) #replaying-trace·run·run code.function (code.unfolded 𝓤 H 𝓜 𝓡)
     (run-meets 𝓤 H (𝓖 .A) (givenOf 𝓤 H 𝓜 𝓖) (𝓜 .mem) (𝓡 .run) (tablesOf 𝓤 H 𝓜 (tables 𝓤 H 𝓜 𝓡 code.env))
-    (cited 𝓤 H (Step 𝓤 H (𝓖 .A) (𝓜 .mem) (𝓡 .run)) 𝓜 𝓡 code.env #replay·run·step step-def.routine code.calls-replay·run·step (step-thm.met 𝓤 H 𝓜 𝓖 𝓡)))
+    (cited 𝓤 H (Step 𝓤 H (𝓖 .A) (𝓜 .mem) (𝓡 .run)) 𝓜 𝓡 code.env #replaying-trace·run·step step-def.routine code.calls-replaying-trace·run·step (step-thm.met 𝓤 H 𝓜 𝓖 𝓡)))

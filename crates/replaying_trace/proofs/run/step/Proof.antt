@@ -43,8 +43,8 @@ use Rattle.replaying_step.specs.declared.runs.RunRecord.{RunRecord}
 use Rattle.replaying_trace.specs.declared.progress.Progress.{Progress}
 use Rattle.replaying_step.proofs.runs.RunRecord as R
 use Rattle.replaying_step.proofs.runs.RunRecord.Laws as R′
-use Rattle.replaying_step.proofs.frame.Frame as F
-use Rattle.replaying_step.proofs.frame.Frame.Laws as F′
+use Rattle.tables.proofs.head.Head as F
+use Rattle.tables.proofs.head.Head.Laws as F′
 use Rattle.replaying_trace.proofs.progress.Progress as P
 use Rattle.replaying_trace.proofs.progress.Progress.Laws as P′
 use Rattle.replaying_trace.proofs.Calls.{span, holds, as-lowered, told, freed}
@@ -54,9 +54,9 @@ use Rattle.replaying_trace.proofs.Lent.{Call, called}
 use Rattle.replaying_trace.proofs.Read.{read-typed}
 use Rattle.replaying_trace.proofs.turn.turn as turn
 use Rattle.replaying_trace.proofs.turn.turn.Symbol as turn-def
-use Rattle.replaying_trace.proofs.turn.turn.Symbol.{name as #replay·turn·turn}
+use Rattle.replaying_trace.proofs.turn.turn.Symbol.{name as #replaying-trace·turn·turn}
 use Rattle.replaying_trace.proofs.turn.turn.Met as turn-thm
-use Rattle.replaying_trace.proofs.run.step.Key.{name as #replay·run·step}
+use Rattle.replaying_trace.proofs.run.step.Key.{name as #replaying-trace·run·step}
 use Rattle.replaying_trace.proofs.run.step as step′
 use Rattle.replaying_trace.proofs.run.step.Statement as stated
 use Rattle.replaying_trace.proofs.run.step.Code as code
@@ -241,16 +241,16 @@ module _ {M : Type 1} (𝓤 : URA M) (H : Heap 𝓤) (A : Atoms 𝓤) (W : Given
       nothing ! $ nothing ! $ fjoin ! $ move ! (2 ∷ 0 ∷ []) $ fjoin ! $ nothing ! $ fjoin ! $ nothing ! $ fjoin ! $ nothing ! $ fjoin ! $ nothing ! $ fjoin ! $ nothing ! $ fjoin ! $ nothing ! $ fjoin ! $ move ! (1 ∷ 0 ∷ []) $ fjoin ! $ frame ! $
       owned ! P.the-row (Is P.the-row) (LL.makes P.the-type P′.the-plain 𝓤 H A) q _ is $ done !
 
-  module _ (C : Calls 𝓤 H) (Λ : Loops 𝓤 H) (fm : FmC 𝓤 H (W .laws) C) (known : Triple 𝓤 (C #replay·turn·turn) (Turn 𝓤 H A at-mem run)) where
+  module _ (C : Calls 𝓤 H) (Λ : Loops 𝓤 H) (fm : FmC 𝓤 H (W .laws) C) (known : Triple 𝓤 (C #replaying-trace·turn·turn) (Turn 𝓤 H A at-mem run)) where
     walk : Asked → Are (typesAt (step′.signature .params) κs) (Ises (typesAt (step′.signature .params) κs)) a vals
-        → ent 𝓤 (onEntry 𝓤 H A step′.signature κs qs a vals) (WpFn 𝓤 H C Λ code.function (vptr b o ∷ F′.lowered (d .frame) ∷ d .rows .val ∷ d .finals .val ∷ d .arcs .val ∷ d .roots .val ∷ d .trace .val ∷ span memory ∷ P′.lowered (d .progress) ∷ []) Post)
+        → ent 𝓤 (onEntry 𝓤 H A step′.signature κs qs a vals) (WpFn 𝓤 H C Λ code.function (vptr b o ∷ F′.lowered (d .head) ∷ d .rows .val ∷ d .finals .val ∷ d .arcs .val ∷ d .roots .val ∷ d .trace .val ∷ span memory ∷ P′.lowered (d .progress) ∷ []) Post)
     walk ready are =
         let m-is = are .1 .1 .1 .1 .1 .1 .1 .0 in
         let m-fits = m-is .0 .1 .0 in
         qed W ((‵ (flft (d .κr) (d .qr)) ⊛ Tokens) ∷ ‵ (fsep (OwnR (r .now)) Rest) ∷ []) ∵
-        split ! $ move ! (2 ∷ []) $ fsplit ! $ enter ! C Λ code.function (vptr b o ∷ F′.lowered (d .frame) ∷ d .rows .val ∷ d .finals .val ∷ d .arcs .val ∷ d .roots .val ∷ d .trace .val ∷ span memory ∷ P′.lowered (d .progress) ∷ []) _ $
+        split ! $ move ! (2 ∷ []) $ fsplit ! $ enter ! C Λ code.function (vptr b o ∷ F′.lowered (d .head) ∷ d .rows .val ∷ d .finals .val ∷ d .arcs .val ∷ d .roots .val ∷ d .trace .val ∷ span memory ∷ P′.lowered (d .progress) ∷ []) _ $
         alloc1 ! (λ l₀. alloc1 ! (λ l₁. alloc1 ! (λ l₂. alloc1 ! (λ l₃. alloc1 ! (λ l₄. alloc1 ! (λ l₅. alloc1 ! (λ l₆. alloc1 ! (λ l₇. alloc1 ! (λ l₈. alloc1 ! (λ l₉. alloc1 ! (λ l₁₀. alloc1 ! (λ l₁₁. alloc1 ! (λ l₁₂. alloc1 ! (λ l₁₃. alloc1 ! (λ l₁₄. alloc0 ! $ params1 ! $
-        pass1 ! (init ! 26 refl (tt, tt)) $ pass1 ! (init ! 24 refl (LL.lawful F.the-type F′.the-laws 𝓤 H A W .typed (d .frame) _ (are .1 .0) .0)) $ pass1 ! (init ! 22 refl (read-typed 𝓤 H A W (named 1) (d .rows) (are .1 .1 .0))) $
+        pass1 ! (init ! 26 refl (tt, tt)) $ pass1 ! (init ! 24 refl (LL.lawful F.the-type F′.the-laws 𝓤 H A W .typed (d .head) _ (are .1 .0) .0)) $ pass1 ! (init ! 22 refl (read-typed 𝓤 H A W (named 1) (d .rows) (are .1 .1 .0))) $
         pass1 ! (init ! 20 refl (read-typed 𝓤 H A W (named 2) (d .finals) (are .1 .1 .1 .0))) $ pass1 ! (init ! 18 refl (read-typed 𝓤 H A W (named 3) (d .arcs) (are .1 .1 .1 .1 .0))) $ pass1 ! (init ! 16 refl (read-typed 𝓤 H A W (named 4) (d .roots) (are .1 .1 .1 .1 .1 .0))) $ pass1 ! (init ! 14 refl (read-typed 𝓤 H A W (named 5) (d .trace) (are .1 .1 .1 .1 .1 .1 .0))) $
         pass1 ! (init ! 12 refl (mut-slice-lawful 𝓤 H A W (named 6) (d .κm) u8 .typed memory _ m-is .0)) $ pass1 ! (init ! 10 refl (LL.lawful P.the-type P′.the-laws 𝓤 H A W .typed (d .progress) _ (are .1 .1 .1 .1 .1 .1 .1 .1 .0) .0)) $ pass0 ! $
         -- [_14; …; _0; …; the record; what the rest own; the record's token; the other tokens]
@@ -268,7 +268,7 @@ module _ {M : Type 1} (𝓤 : URA M) (H : Heap 𝓤) (A : Atoms 𝓤) (W : Given
         returns ! (look ! 29 refl) $ move ! (29 ∷ 30 ∷ 27 ∷ 28 ∷ 25 ∷ 26 ∷ 23 ∷ 24 ∷ 21 ∷ 22 ∷ 19 ∷ 20 ∷ 17 ∷ 18 ∷ 15 ∷ 16 ∷ 13 ∷ 14 ∷ 11 ∷ 12 ∷ 9 ∷ 10 ∷ 7 ∷ 8 ∷ 5 ∷ 6 ∷ 3 ∷ 4 ∷ 1 ∷ 2 ∷ []) $ freed ! $ freed ! $ freed ! $ freed ! $ freed ! $ freed ! $ freed ! $ freed ! $ freed ! $ freed ! $ freed ! $ freed ! $ freed ! $ freed ! $ freed ! $ free0 ! $
         by ! (exits q h zs (e .1) (e .2) (as-lowered P.the-row P′.lowers q _ (e .0))))))))))))))))))))))))
 
-module _ {M : Type 1} (𝓤 : URA M) (H : Heap 𝓤) (A : Atoms 𝓤) (W : Given 𝓤 H A) (at-mem : Memory → SProp 𝓤) (run : Routine → Fun 𝓤) (𝓣 : Tables 𝓤 H) (known : Triple 𝓤 (𝓣 .C #replay·turn·turn) (Turn 𝓤 H A at-mem run)) where
+module _ {M : Type 1} (𝓤 : URA M) (H : Heap 𝓤) (A : Atoms 𝓤) (W : Given 𝓤 H A) (at-mem : Memory → SProp 𝓤) (run : Routine → Fun 𝓤) (𝓣 : Tables 𝓤 H) (known : Triple 𝓤 (𝓣 .C #replaying-trace·turn·turn) (Turn 𝓤 H A at-mem run)) where
   step-walks : Walks 𝓤 H A step′.ended stayed (WpFn 𝓤 H (𝓣 .C) (𝓣 .Λ) code.function) (step′.clauses 𝓤 H A at-mem run)
   step-walks = walked 𝓤 H A step′.ended stayed (step′.clauses 𝓤 H A at-mem run) (WpFn 𝓤 H (𝓣 .C) (𝓣 .Λ) code.function) Lent.spells Lent.tells
       (λ κs qs bounds a g are. needs 𝓤 (Asked 𝓤 H A W at-mem run (called κs qs a)) _ (λ ready. walk 𝓤 H A W at-mem run (called κs qs a) (𝓣 .C) (𝓣 .Λ) (fmOf 𝓤 H (W .laws) 𝓣) known ready are))
@@ -283,6 +283,6 @@ pub step-spec : {M : Type 1} → stated.statement M
 unfolding code.routine tablesOf
 step-spec 𝓤 H 𝓜 𝓖 𝓡 =
     entered 𝓤 H (tripleOf 𝓤 H (𝓖 .A) step′.signature (step′.spec 𝓤 H (𝓖 .A) (𝓜 .mem) (𝓡 .run)))
-    (tables 𝓤 H 𝓜 𝓡 code.env .C) (tables 𝓤 H 𝓜 𝓡 code.env .Λ) #replay·run·step code.function (code.unfolded 𝓤 H 𝓜 𝓡)
+    (tables 𝓤 H 𝓜 𝓡 code.env .C) (tables 𝓤 H 𝓜 𝓡 code.env .Λ) #replaying-trace·run·step code.function (code.unfolded 𝓤 H 𝓜 𝓡)
     (step-meets 𝓤 H (𝓖 .A) (givenOf 𝓤 H 𝓜 𝓖) (𝓜 .mem) (𝓡 .run) (tablesOf 𝓤 H 𝓜 (tables 𝓤 H 𝓜 𝓡 code.env))
-    (cited 𝓤 H (Turn 𝓤 H (𝓖 .A) (𝓜 .mem) (𝓡 .run)) 𝓜 𝓡 code.env #replay·turn·turn turn-def.routine code.calls-replay·turn·turn (turn-thm.met 𝓤 H 𝓜 𝓖 𝓡)))
+    (cited 𝓤 H (Turn 𝓤 H (𝓖 .A) (𝓜 .mem) (𝓡 .run)) 𝓜 𝓡 code.env #replaying-trace·turn·turn turn-def.routine code.calls-replaying-trace·turn·turn (turn-thm.met 𝓤 H 𝓜 𝓖 𝓡)))

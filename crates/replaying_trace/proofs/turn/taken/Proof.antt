@@ -18,7 +18,7 @@ enum-told c = search needs
 
 -- src/turn.rt:58:30
 stopped-requires : tie.Need-stopped-requires
-stopped-requires c κs = let A = c .before .before .before .before .before .before .before .before .before .before .before .before .before .before .pre .takeable in let T = rw (c .before .before .before .enum-told .given .1) at (c .before .before .before .before .before .before .before .take .ensures (c .before .before .before .before .before .before .before .before .before .before .before .before .before .before .args .f) A) in held-settleable (A .machines) (A .queues) (stays-held A (T .1))
+stopped-requires c κs = let A = c .before .before .before .before .before .before .before .before .before .before .before .before .before .before .pre .takeable in let T = rw (c .before .before .before .enum-told .given .1) at (c .before .before .before .before .before .before .before .take .ensures (c .before .before .before .before .before .before .before .before .before .before .before .before .before .before .args .h) A) in held-settleable (A .machines) (A .queues) (stays-held A (T .1))
 
 -- src/turn.rt:59:33
 enum-told-2 : tie.Need-enum-told-2
@@ -26,7 +26,7 @@ enum-told-2 c = search needs
 
 -- src/turn.rt:59:25
 stopped-requires-2 : tie.Need-stopped-requires-2
-stopped-requires-2 c κs = let A = c .before .before .before .before .before .before .before .before .before .before .before .before .before .before .pre .takeable in let T = rw (c .before .before .before .enum-told2 .given .1) at (c .before .before .before .before .before .before .before .take .ensures (c .before .before .before .before .before .before .before .before .before .before .before .before .before .before .args .f) A) in held-settleable (A .machines) (A .queues) (stays-held A (T .1))
+stopped-requires-2 c κs = let A = c .before .before .before .before .before .before .before .before .before .before .before .before .before .before .pre .takeable in let T = rw (c .before .before .before .enum-told2 .given .1) at (c .before .before .before .before .before .before .before .take .ensures (c .before .before .before .before .before .before .before .before .before .before .before .before .before .before .args .h) A) in held-settleable (A .machines) (A .queues) (stays-held A (T .1))
 
 -- src/turn.rt:62:18
 enum-told-3 : tie.Need-enum-told-3
@@ -42,7 +42,7 @@ same-length c = search needs
 
 -- src/turn.rt:42:1
 returns : tie.Need-returns
-returns c = let A = c .before .before .before .before .before .before .before .before .before .before .before .before .before .before .before .before .before .pre .takeable in let T = rw (c .before .before .before .before .before .before .enum-told .given .1) at (c .before .before .before .before .before .before .before .before .before .before .take .ensures (c .before .before .before .before .before .before .before .before .before .before .before .before .before .before .before .before .before .args .f) A) in
+returns c = let A = c .before .before .before .before .before .before .before .before .before .before .before .before .before .before .before .before .before .pre .takeable in let T = rw (c .before .before .before .before .before .before .enum-told .given .1) at (c .before .before .before .before .before .before .before .before .before .before .take .ensures (c .before .before .before .before .before .before .before .before .before .before .before .before .before .before .before .before .before .args .h) A) in
     turned-untaken _ _ _ _ _ T refl (held-stopped (A .machines) (A .queues) (stays-held A (T .1)) (c .before .before .stopped .ensures))
 
 -- src/turn.rt:42:1
@@ -51,7 +51,7 @@ same-length-2 c = search needs
 
 -- src/turn.rt:42:1
 returns-2 : tie.Need-returns-2
-returns-2 c = let A = c .before .before .before .before .before .before .before .before .before .before .before .before .before .before .before .before .before .pre .takeable in let T = rw (c .before .before .before .before .before .before .enum-told2 .given .1) at (c .before .before .before .before .before .before .before .before .before .before .take .ensures (c .before .before .before .before .before .before .before .before .before .before .before .before .before .before .before .before .before .args .f) A) in
+returns-2 c = let A = c .before .before .before .before .before .before .before .before .before .before .before .before .before .before .before .before .before .pre .takeable in let T = rw (c .before .before .before .before .before .before .enum-told2 .given .1) at (c .before .before .before .before .before .before .before .before .before .before .take .ensures (c .before .before .before .before .before .before .before .before .before .before .before .before .before .before .before .before .before .args .h) A) in
     turned-full _ _ _ _ _ T refl (held-stopped (A .machines) (A .queues) (stays-held A (T .1)) (c .before .before .stopped2 .ensures))
 
 -- src/turn.rt:42:1
@@ -60,7 +60,7 @@ same-length-3 c = search needs
 
 -- src/turn.rt:42:1
 returns-3 : tie.Need-returns-3
-returns-3 c = turned-on _ _ _ _ _ (rw (c .before .enum-told3 .given .1) at (c .before .before .before .before .before .take .ensures (c .before .before .before .before .before .before .before .before .before .before .before .before .args .f) (c .before .before .before .before .before .before .before .before .before .before .before .before .pre .takeable))) refl refl refl
+returns-3 c = turned-on _ _ _ _ _ (rw (c .before .enum-told3 .given .1) at (c .before .before .before .before .before .take .ensures (c .before .before .before .before .before .before .before .before .before .before .before .before .args .h) (c .before .before .before .before .before .before .before .before .before .before .before .before .pre .takeable))) refl refl refl
 
 pub taken-spec : {M : Type 1} → statement M
 taken-spec =
