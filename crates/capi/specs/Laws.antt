@@ -17,8 +17,8 @@ use Rattle.reading_file.specs.declared.reading.Reading.{Reading}
 use Rattle.theory_model.specs.Laws.Basics.{is-and}
 use Rattle.theory_files.specs.Reply.{shownOf}
 use Rattle.theory_files.specs.Checking.{Checked, checkOf, Checks}
-use Rattle.checking_file.specs.Check.{saidVerdict}
-use Rattle.checking_file.specs.declared.check.Verdict.{Verdict}
+use Rattle.verdicts.specs.Said.{saidVerdict}
+use Rattle.verdicts.specs.declared.verdict.Verdict.{Verdict}
 use Rattle.membership.specs.Member.{memberOf}
 use Rattle.membership.specs.Said.{saidMember}
 use Rattle.membership.specs.Laws.Asking.{read-valid}

@@ -12,10 +12,10 @@ use Rattle.theory_files.specs.Laws.Checking.{long-enough, lent-enough, lent-sou
 use Rattle.theory_files.specs.Laws.Shown.{shown-fits}
 use Rattle.checking_line.specs.Said.{said, shownBy, holds, given, Writes}
 use Rattle.checking_line.specs.declared.verdict.Verdict.{Verdict as Line}
-use Rattle.checking_file.specs.Check.{saidVerdict, shownIn}
+use Rattle.verdicts.specs.Said.{saidVerdict, shownIn}
 use Rattle.checking_file.specs.Laws.Shows.{checks-shows}
-use Rattle.checking_file.specs.declared.check.Verdict.{Verdict}
-use Rattle.checking_file.specs.declared.check.Verdict.the-variants as Verdict
+use Rattle.verdicts.specs.declared.verdict.Verdict.{Verdict}
+use Rattle.verdicts.specs.declared.verdict.Verdict.the-variants as Verdict
 use Rattle.checking_answer.specs.Printed.{printedOf}
 use Rattle.checking_answer.specs.Answer.{lineIn, Answers, Lines, mostLine, WholeLine}
 

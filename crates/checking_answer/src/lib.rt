@@ -2,13 +2,13 @@
 use checking_file::check::CONTENTS_LEAST;
 use checking_file::check::MOST_SHOWN;
 use checking_file::check::TABLE_LEAST;
-use checking_file::check::Verdict;
 use checking_file::check::check;
 use checking_line::verdict::Verdict as Printed;
 use checking_line::verdict::write_line;
 use numbers::number::wide;
 use numbers::refusal::number;
 use numbers::refusal::place;
+use verdicts::verdict::Verdict;
 ghost use mathlib.Core.Path.{_≡_};
 ghost use Rattle.checking_answer.specs.Printed.{printedOf};
 ghost use Rattle.checking_answer.specs.Answer.{Answers, Lines, WholeLine};
