@@ -8,9 +8,9 @@ use lib.Dec.{ltb}
 use Rattle.tables.specs.Limits.{mostPool}
 use Rattle.tables.specs.declared.tables.Tables.{Tables}
 use Rattle.theory_files.specs.Checking.{Checks}
-use Rattle.checking_file.specs.Check.{saidVerdict}
-use Rattle.checking_file.specs.declared.check.Verdict.{Verdict}
-use Rattle.checking_file.specs.declared.check.Verdict.the-variants.{Closed, Outside, Leaves, Bad, Refused, ShortMemory}
+use Rattle.verdicts.specs.Said.{saidVerdict}
+use Rattle.verdicts.specs.declared.verdict.Verdict.{Verdict}
+use Rattle.verdicts.specs.declared.verdict.Verdict.the-variants.{Closed, Outside, Leaves, Bad, Refused, ShortMemory}
 
 abbrev pub together : List ℕ → List ℕ → List ℕ → List ℕ → ℕ → ℕ
 together rows finals arcs roots i = cond (ltb i mostPool) (getD rows i 0 + getD finals i 0 + getD arcs i 0 + getD roots i 0) 0

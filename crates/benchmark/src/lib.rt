@@ -1,5 +1,4 @@
 // What the benchmark calls: the services as C functions.
-use checking_file::check::Verdict;
 use checking_file::check::check;
 use numbers::number::wide;
 use reading_file::reading::read_into;
@@ -7,6 +6,7 @@ use tables::kinds::DiagramState;
 use tables::tables::MOST_CONTROLS;
 use tables::tables::POOL_ARCS;
 use tables::tables::ROWS;
+use verdicts::verdict::Verdict;
 ghost use mathlib.Core.Path.{_≡_};
 ghost use Rattle.reading_file.specs.File.{readFile, tablesRead};
 ghost use Rattle.benchmark.specs.Measured.{together, sampled, toldOf, Told};

@@ -1,5 +1,4 @@
 -- What the proofs of checking rest on.
-pub mod Begin
 pub mod Check
 pub mod Shows
 pub mod Reply

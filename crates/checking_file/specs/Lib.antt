@@ -1,3 +1,2 @@
-pub mod Begin
 pub mod Check
 pub mod Laws

@@ -1,3 +1,3 @@
-// Checking: the items of a session in order, each judged by a walk, and the reply. Other crates call `check`.
-mod begin;
+// The verdict on a session file, and on tables that were read, over memory that the caller lends.
 pub mod check;
+pub mod judging;

@@ -1,10 +1,7 @@
--- Laws of items: what each is, what its walk finds, and how one follows another.
-pub mod Start
-pub mod Turns
-pub mod Judged
-pub mod Sequence
-pub mod Entries
+-- Laws of one item: what it is, and what its walk finds.
+pub mod Begin
+pub mod Cut
+pub mod Judge
 pub mod Item
-pub mod Far
 pub mod Walked
-pub mod Whole
+pub mod Far

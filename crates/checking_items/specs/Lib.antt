@@ -1,5 +1,6 @@
-pub mod Start
+pub mod Cut
 pub mod Judging
+pub mod Begin
 pub mod Far
 pub mod Promises
 pub mod Laws

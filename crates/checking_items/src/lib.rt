@@ -1,8 +1,5 @@
-// The items of a session after the start, in their order: each is judged by a walk, and the first that fails decides.
-mod entries;
-mod far;
-mod item;
-pub mod items;
-pub mod judged;
-mod start;
-mod steps;
+// One item of a session, judged by itself: the start, a step, a bad entry.
+pub mod begin;
+mod cut;
+pub mod far;
+pub mod item;

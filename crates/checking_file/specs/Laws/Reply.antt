@@ -1,6 +1,6 @@
 -- Checking's promises, from what its parts say.
 use Prim.Native.Nat.{ℕ, _≤_, _<_}
-use mathlib.Core.Path.{_≡_, refl, sym, ap, _∙_}
+use mathlib.Core.Path.{_≡_, refl, sym, ap, subst, _∙_}
 use mathlib.Core.Bool.{false}
 use mathlib.Core.List.{List, _++_}
 use native.Mathlib.Omega.{arith}
@@ -18,16 +18,17 @@ use Rattle.reading_file.specs.declared.reading.Answer.the-variants.{Read, Refus
 use Rattle.numbers.specs.declared.refusal.Refusal.{Refusal}
 use Rattle.numbers.specs.declared.refusal.Refusal.the-variants.{TooLong}
 use Rattle.theory_model.specs.Judge as Model
-use Rattle.theory_files.specs.Tables.{sessionOf}
-use Rattle.theory_files.specs.Reply.{verdict, replyTo, shownOf}
+use Rattle.theory_files.specs.Reply.{replyTo}
 use Rattle.theory_files.specs.Checking.{enough, readLent, tableAfter, contentsAfter, Checks, CheckMeans, CheckTwoRuns, contentsLeast}
 use Rattle.theory_files.specs.Laws.Checking.{lent-long, lent-little, lent-enough, long-enough, checks-made, checks-refused, check-means, check-two-runs}
 use Rattle.checking_items.specs.Judging.{Kept}
-use Rattle.verdicts.specs.Said.{saidVerdict, shownIn, Shows}
+use Rattle.checking_items.specs.Promises.{Memory}
 use Rattle.checking_file.specs.Check.{Room, Concludes}
+use Rattle.verdicts.specs.Said.{saidVerdict, shownIn, Shows}
+use Rattle.verdicts.specs.Laws.Shown.{shown-front}
 use Rattle.checking_file.specs.Laws.Shows.{checks-shows}
 use Rattle.verdicts.specs.declared.verdict.Verdict.{Verdict}
-use Rattle.verdicts.specs.declared.verdict.Verdict.the-variants.{Closed, Outside, Leaves, Bad, Refused, ShortMemory}
+use Rattle.verdicts.specs.declared.verdict.Verdict.the-variants.{Refused, ShortMemory}
 
 -- all four promises come from the first
 abbrev pub Promised : List ℕ → List ℕ → List ℕ → List ℕ → Verdict → List ℕ → List ℕ → List ℕ → Type 0
@@ -41,15 +42,7 @@ pub promised : (file seen queue contents : List ℕ) (v : Verdict) {seen₁ queu
 promised file seen queue contents v k =
     (k, (check-two-runs file seen queue contents k, (check-means file seen queue contents k, checks-shows v k)))
 
--- the contents shown are the front of the buffer, and the rest is kept
-shown-front : (r : Verdict) (contents₁ : List ℕ) → shownOf (saidVerdict r contents₁) ≡ take (shownIn r) contents₁
-shown-front (Closed n) l = refl
-shown-front Outside l = refl
-shown-front (Leaves c t n f) l = refl
-shown-front (Bad b n) l = refl
-shown-front (Refused why) l = refl
-shown-front ShortMemory l = refl
-
+-- the contents shown fill the front of the buffer, and the rest is kept
 contents-after : (r : Verdict) (contents contents₁ : List ℕ) → Kept (shownIn r) contents contents₁
     → contents₁ ≡ contentsAfter (saidVerdict r contents₁) contents
 contents-after r contents contents₁ k =
@@ -81,20 +74,16 @@ module _ (file seen queue contents : List ℕ) where
         (checks-refused file seen queue contents (numberOf why) (placeOf why)
         (given ∙ answer-refused (readFile file) reading read (numberOf why) (placeOf why) (ap saidAnswer e)) refl)
 
-    pub judged : reading .answer ≡ Read → (r : Verdict) (seen′ queue′ seen₁ queue₁ contents₁ : List ℕ)
-        → seen′ ≡ replicate (length seen) 0 → queue′ ≡ replicate (length queue) 0
-        → Concludes (λ T. T ≡ reading .tables) seen′ queue′ contents r seen₁ queue₁ contents₁
-        → Promised file seen queue contents r seen₁ queue₁ contents₁
-    judged e r seen′ queue′ seen₁ queue₁ contents₁ es eq k =
+    pub judged : reading .answer ≡ Read → (r : Verdict) (M₀ M₁ : Memory)
+        → M₀ .seen ≡ replicate (length seen) 0 → M₀ .queue ≡ replicate (length queue) 0 → M₀ .contents ≡ contents
+        → Concludes (reading .tables) M₀ r M₁ → Promised file seen queue contents r (M₁ .seen) (M₁ .queue) (M₁ .contents)
+    judged e r M₀ M₁ es eq ec k =
         promised file seen queue contents r
         (checks-made file seen queue contents
-        (is ∙ sym (ap replyTo (given ∙ answer-read (readFile file) reading read (ap saidAnswer e) .1)))
-        (k .seen ∙ es ∙ sym (ap (λ x. tableAfter x seen) is))
-        (k .queue ∙ eq ∙ sym (ap (λ x. tableAfter x queue) is))
-        (contents-after r contents contents₁ (k .kept)))
-      where
-        is : saidVerdict r contents₁ ≡ verdict (Model.verdict (sessionOf (reading .tables)))
-        is = k .is (reading .tables) refl
+        (k .is ∙ sym (ap replyTo (given ∙ answer-read (readFile file) reading read (ap saidAnswer e) .1)))
+        (k .seen ∙ es ∙ sym (ap (λ x. tableAfter x seen) (k .is)))
+        (k .queue ∙ eq ∙ sym (ap (λ x. tableAfter x queue) (k .is)))
+        (contents-after r contents (M₁ .contents) (subst (λ l. Kept (shownIn r) l (M₁ .contents)) ec (k .kept))))
 
 -- tables that were set to 0 are room enough
 pub blank-room : (seen queue : List ℕ) {contents seen′ queue′ : List ℕ} {n : ℕ} → n ≡ mostCodes → mostCodes ≤ length seen → mostCodes ≤ length queue → contentsLeast ≤ length contents

@@ -10,8 +10,6 @@ use Rattle.tables.specs.Limits.{mostMessages}
 use Rattle.tables.specs.Kinds.{reachedOf}
 use Rattle.tables.specs.Lookup.{rootOf, RootAt}
 use Rattle.tables.specs.Rows.{wordEntry}
-use Rattle.tables.specs.declared.tables.Machines.{Machines}
-use Rattle.tables.specs.declared.tables.Queues.{Queues}
 use Rattle.tables.specs.declared.tables.Tables.{Tables}
 use Rattle.reading_file.specs.Valid.{Valid}
 use Rattle.theory_tables.specs.Pool.{arcOf}
@@ -36,13 +34,13 @@ use Rattle.following.specs.Laws.Far.{far-is-arcs}
 use Rattle.following.specs.After.{ContentsAt}
 use Rattle.following.specs.Laws.Front.{front-taken, front-dropped}
 use Rattle.checking_pairs.specs.Pairs.{mostCodes}
-use Rattle.checking_items.specs.Start.{actionAt, Cuts}
+use Rattle.checking_items.specs.Cut.{actionAt, Cuts}
 use Rattle.checking_items.specs.Judging.{StepAsked}
 use Rattle.checking_items.specs.Far.{FarFound}
-use Rattle.checking_items.specs.Laws.Turns.{judged-item}
+use Rattle.checking_items.specs.Laws.Judge.{judged-item}
 use Rattle.checking_items.specs.Laws.Item.{cut-is}
-use Rattle.checking_items.specs.Laws.Walked.{over-parts, asked-word}
-use Rattle.checking_items.specs.declared.start.Cut.{Cut}
+use Rattle.checking_items.specs.Laws.Walked.{asked-word}
+use Rattle.checking_items.specs.declared.cut.Cut.{Cut}
 
 -- messages stay small where contents are parted and exchanged
 front-between : {top : ℕ} (cut : ℕ) (u : List ℕ) → Between 0 top u → Between 0 top (frontOf cut u)
@@ -112,18 +110,13 @@ module _ (T : Tables) (v : Valid T) where
       subst (Between 0 mostMessages) (F .contents)
       (between-wide (omega arith) (omega (arith, messages-are (v .queues), v .queues .sumMost)) (word-between (F .against .contents)))
 
--- over what is lent
-module _ {m : Machines} {q : Queues} {rows arcs finals roots : List ℕ} {c row : ℕ} (a : StepAsked m q rows arcs finals roots c row) where
-  pub step-far : {to target shown far : ℕ} {k : Cut} {contents : List ℕ} → Moved m rows row c to → RootAt roots to target → Cuts q rows row k → ContentsAt contents shown
-      → far ≡ farArcs arcs (reachedOf target) (exchanged (k .cut) (k .out) (wordOver rows (wordEntry row) (k .into)) (take shown contents))
-      → FarFound m q rows arcs roots c row contents shown far
-  step-far {to} {target} {shown} {far} {k} {contents} goes there cuts A e =
-      record {
-        is = λ T marks count p.
-            e ∙ over-parts
-            (λ m q rows arcs finals roots. Moved m rows row c to → RootAt roots to target → Cuts q rows row k → WordWithin rows (wordEntry row) (k .out) → WordWithin rows (wordEntry row) (k .into)
-            → farArcs arcs (reachedOf target) (exchanged (k .cut) (k .out) (wordOver rows (wordEntry row) (k .into)) (take shown contents))
-            ≡ farAfter (sessionOf T) c (transitionAt rows row) (take shown contents))
-            p (λ g t s o i. far-found T (p .valid) c row target to k g t s o i (take shown contents) (A .messages))
-            goes there cuts (asked-word a (cuts .small .1)) (asked-word a (cuts .small .2));
-      }
+-- of a step that is an item
+pub step-far : {T : Tables} {c row : ℕ} → StepAsked T c row → {to target shown far : ℕ} {k : Cut} {contents : List ℕ} → Moved (T .machines) (T .transitions .rows) row c to
+    → RootAt (T .map .roots) to target → Cuts (T .queues) (T .transitions .rows) row k → ContentsAt contents shown
+    → far ≡ farArcs (T .pool .arcs) (reachedOf target) (exchanged (k .cut) (k .out) (wordOver (T .transitions .rows) (wordEntry row) (k .into)) (take shown contents))
+    → FarFound T c row contents shown far
+step-far {T} {c} {row} a {to} {target} {shown} {far} {k} {contents} goes there cuts A e =
+    record {
+      is =
+          e ∙ far-found T (a .valid) c row target to k goes there cuts (asked-word a (cuts .small .1)) (asked-word a (cuts .small .2)) (take shown contents) (A .messages);
+    }

@@ -1,20 +1,20 @@
 -- The walk of an item is the model's, so judging it judges the item.
-use Prim.Native.Nat.{ℕ, zero, suc, _+_, _*_, _≤_, _<_}
-use mathlib.Core.Path.{_≡_, refl, sym, ap, ap₂, subst, _∙_}
+use Prim.Native.Nat.{ℕ, _≤_, _<_}
+use mathlib.Core.Path.{_≡_, refl, sym, ap, ap₂, _∙_}
 use mathlib.Core.Bool.{Bool, true, false}
-use mathlib.Core.Option.{Option, none, some, Option·map}
-use mathlib.Core.List.{List, [], _∷_, _++_}
+use mathlib.Core.Option.{some, Option·map}
+use mathlib.Core.List.{List}
 use native.Mathlib.Omega.{arith}
-use lib.ListN.{length, getD, take, drop, length-take}
+use lib.ListN.{length, drop, length-take}
 use Rattle.reading_file.specs.Valid.{Valid}
 use Rattle.tables.specs.declared.tables.Tables.{Tables}
 use Rattle.theory_model.specs.Model.{Action, local, send, receive, messages, moved}
 use Rattle.theory_model.specs.Session.{Session}
 use Rattle.theory_model.specs.Verdict as Model
-use Rattle.theory_model.specs.Verdict.{Item, step, entry, Pair}
+use Rattle.theory_model.specs.Verdict.{step, entry}
 use Rattle.theory_model.specs.Judge as Judge
 use Rattle.theory_model.specs.Judge.{cut, stepWalk, entryWalk, beginStep, beginEntry, rootPair, passes, walkOf}
-use Rattle.theory_model.specs.Searched.{searched, searchWalk, judgeBySearch}
+use Rattle.theory_model.specs.Searched.{searchWalk, judgeBySearch}
 use Rattle.theory_model.specs.Laws.Items.{IsItem}
 use Rattle.theory_files.specs.Tables.{sessionOf, transitionAt}
 use Rattle.tables.specs.Limits.{mostPool, mostWord}
@@ -26,16 +26,16 @@ use Rattle.tables.specs.declared.kinds.Reached.{Reached}
 use Rattle.theory_files.specs.Laws.Sessions.{well-formed}
 use Rattle.theory_tables.specs.Laws.Queues.{messages-are}
 use Rattle.checking_pairs.specs.Pairs.{mostCodes, afterSide, pairOf}
-use Rattle.checking_pairs.specs.Over.{Over, walkOver}
+use Rattle.checking_pairs.specs.Over.{walkOver}
 use Rattle.checking_walk.specs.Judged.{judgedOver, ShownFits}
 use Rattle.checking_walk.specs.Laws.Judged.{judged-is}
 use Rattle.checking_walk.specs.Laws.Items.{item-fits}
 use Rattle.checking_walk.specs.Laws.Valid.{over-session}
 use Rattle.checking_pairs.specs.declared.pairs.Walk.{Walk}
 use Rattle.checking_pairs.specs.declared.pairs.Node.{Node}
-use Rattle.checking_items.specs.Start.{actionAt, cutOf, Cuts}
+use Rattle.checking_items.specs.Cut.{actionAt, cutOf, Cuts}
 use Rattle.controls.specs.Controls.{Moved}
-use Rattle.checking_items.specs.declared.start.Cut.{Cut}
+use Rattle.checking_items.specs.declared.cut.Cut.{Cut}
 use Rattle.tables.specs.Rows.{wordEntry, lengthAt}
 
 pub cut-is : (S : Session) (a : Action) → cutOf (S .model .queues) a ≡ cut S a

@@ -1,0 +1,3 @@
+pub mod Judges
+pub mod Promises
+pub mod Laws

@@ -1,0 +1,2 @@
+-- Laws of what a verdict says.
+pub mod Shown
