@@ -1,29 +1,12 @@
 -- The table of arcs by rows: where the arcs of a state begin, which is its number times the messages.
-use Prim.Native.Nat.{ℕ, _+_, _-_, _*_, _/_, _<_}
+use Prim.Native.Nat.{ℕ, _*_, _/_, _<_}
 use mathlib.Core.Path.{_≡_}
-use mathlib.Core.Bool.{cond}
-use mathlib.Core.Option.{Option, none, some}
+use mathlib.Core.Option.{some}
 use mathlib.Core.List.{List}
-use lib.Dec.{eqb}
-use lib.ListN.{getD}
 use Rattle.tables.specs.Limits.{mostMessages, mostPool}
 use Rattle.following.specs.Follow.{FollowsTo, farArcs}
-use Rattle.following.specs.declared.rows.Row.{Row}
-use Rattle.following.specs.declared.rows.Row.the-variants.{At, Nowhere}
 use Rattle.following.specs.declared.messages.Followed.{Followed}
 use Rattle.following.specs.declared.messages.Followed.the-variants as Answer
-
--- an entry of the table is 0 for none, or 1 plus the target
-abbrev pub rowOf : ℕ → Option ℕ
-rowOf e = cond (eqb e 0) none (some ((e - 1) * mostMessages))
-
-abbrev pub saidRow : Row → Option ℕ
-saidRow (At row) = some row
-saidRow Nowhere = none
-
--- what a row's entry for a message says
-pub record RowTo (arcs : List ℕ) (row m : ℕ) (r : Row) : Type 0 where
-  pub is : saidRow r ≡ rowOf (getD arcs (row + m) 0)
 
 -- the state of a row, and that a row is of a state of the pool
 abbrev pub stateAt : ℕ → ℕ

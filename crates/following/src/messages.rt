@@ -1,11 +1,12 @@
 // Where messages lead that stand one after the other in a ring of bytes: those that wait in a queue, and those of a word in the table of
 // transitions, whose bytes are a ring that is not gone round. None is copied: each is read when its turn comes.
-use crate::rows::Row;
 use crate::rows::row_after;
 use crate::rows::row_of;
 use crate::rows::state_of;
 use tables::kinds::Message;
 use tables::kinds::Reached;
+use tables::lookup::Arc;
+use tables::lookup::arc_from;
 use tables::tables::MOST_WORD;
 ghost use Prim.Native.Nat.{_≤_};
 ghost use Rattle.theory_model.specs.Model.{Between};
@@ -42,10 +43,10 @@ pub fn follow(
     let mut i = head;
     let mut left = count;
     while 0 < left {
-        let Row::At(next) = row_after(arcs, row, Message(table[base + i])) else {
+        let Arc::Target(next) = arc_from(arcs, row, Message(table[base + i])) else {
             return Followed::Lost(count - left);
         };
-        row = next;
+        row = row_after(next);
         i = (i + 1) % size;
         left -= 1;
     }

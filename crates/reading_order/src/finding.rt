@@ -3,30 +3,27 @@
 use numbers::number::entry;
 use numbers::number::wide;
 use tables::kinds::DiagramState;
+use tables::kinds::Message;
+use tables::lookup::Arc;
+use tables::lookup::arc_from;
 use tables::tables::ARCS;
 use tables::tables::ENTRY;
 use tables::tables::MOST_QUEUES;
 ghost use mathlib.Core.Path.{_≡_};
 ghost use mathlib.Core.List.{[], _∷_};
-ghost use Prim.Native.Nat.{_-_, _≤_, _<_};
+ghost use Prim.Native.Nat.{_+_, _-_, _≤_, _<_};
 ghost use Rattle.tables.specs.Limits.{mostPool, mostQueues, mostMessages};
 ghost use Rattle.tables.specs.Queues.{firstMessage};
 ghost use Rattle.tables.specs.Pool.{poolArcs};
 ghost use Rattle.tables.specs.Lookup.{ArcsSmall};
 ghost use Rattle.reading_order.specs.Nodes.{ranks, mostNodes, rankAfter, arcNodes, nextNodes, rootNodes, badNodes};
-ghost use Rattle.reading_order.specs.Found.{Found, Grows, StepBelow, StepTo, stepNodes, RootsSmall, BadSmall};
+ghost use Rattle.reading_order.specs.Found.{Found, Grows, arcNode, stepNodes, RootsSmall, BadSmall};
 
 pub const WRONG: usize = MOST_QUEUES as usize;
 
 pub const RANKS: usize = WRONG + 1;
 
 pub const NODES: usize = DiagramState::LIMIT * RANKS;
-
-// Where an arc leads.
-pub enum Step {
-    To(usize),
-    Nowhere,
-}
 
 // A node goes to the end of those found, unless it is there. Returns how many are found now.
 fn find(seen: &mut [u8; NODES], nodes: &mut [u16; NODES], count: usize, node: usize) -> usize
@@ -42,31 +39,27 @@ fn find(seen: &mut [u8; NODES], nodes: &mut [u16; NODES], count: usize, node: us
     count + 1
 }
 
-// The arc at this entry of the table, with the rank after its message. Found by its place and with no number made a byte again: the
-// search takes every arc that is reached, up to five times.
-fn step_at(arcs: &[u8], at: usize, rank: usize) -> Step
+// The node that an arc of this row leads to, with the rank after its message, if there is one. Its number is made from the arc's entry in the table,
+// 1 plus the state: the compiler takes the entry as it was read.
+fn find_arc(
+    arcs: &[u8],
+    row: usize,
+    m: Message,
+    rank: usize,
+    seen: &mut [u8; NODES],
+    nodes: &mut [u16; NODES],
+    count: usize,
+) -> usize
     requires { ⌜ ArcsSmall (now arcs) ⌝ }
-    requires { ⌜ at < poolArcs ⌝ }
+    requires { ⌜ row + m .0 < poolArcs ⌝ }
     requires { ⌜ rank < ranks ⌝ }
-    ensures { λ r. ⌜ StepTo (now (arcs .entry)) at rank r ⌝ }
-{
-    let target = wide(arcs[at]);
-    if target == 0 {
-        return Step::Nowhere;
-    }
-    Step::To(target * RANKS + rank - RANKS)
-}
-
-// The node that an arc leads to, if there is one.
-fn find_step(step: Step, seen: &mut [u8; NODES], nodes: &mut [u16; NODES], count: usize) -> usize
-    requires { ⌜ StepBelow step ⌝ }
     requires { ⌜ Found (now seen) (now nodes) count ⌝ }
-    ensures { λ r. ⌜ Grows (now (seen .entry)) (now (nodes .entry)) count (stepNodes step) (now (seen .exit)) (now (nodes .exit)) r ⌝ }
+    ensures { λ r. ⌜ Grows (now (seen .entry)) (now (nodes .entry)) count (stepNodes (arcNode (now (arcs .entry)) row rank (m .0))) (now (seen .exit)) (now (nodes .exit)) r ⌝ }
 {
-    let Step::To(node) = step else {
+    let Arc::Target(s) = arc_from(arcs, row, m) else {
         return count;
     };
-    find(seen, nodes, count, node)
+    find(seen, nodes, count, wide(s.0 + 1) * RANKS + rank - RANKS)
 }
 
 // Where the arcs of a state lead, for the messages from first on and below end.
@@ -74,8 +67,8 @@ fn find_arcs(
     arcs: &[u8],
     s: DiagramState,
     rank: usize,
-    first: usize,
-    end: usize,
+    first: u8,
+    end: u8,
     seen: &mut [u8; NODES],
     nodes: &mut [u16; NODES],
     count: usize,
@@ -92,8 +85,7 @@ fn find_arcs(
     let mut found = count;
     let mut m = first;
     while m < end {
-        let step = step_at(arcs, row + m, rank);
-        found = find_step(step, seen, nodes, found);
+        found = find_arc(arcs, row, Message(m), rank, seen, nodes, found);
         m += 1;
     }
     found
@@ -126,10 +118,10 @@ pub(crate) fn find_next(
     let s = DiagramState((node / RANKS) as u8);
     let rank = node % RANKS;
     let mut found = count;
-    let mut first: usize = 0;
+    let mut first: u8 = 0;
     let mut queue: usize = 0;
     while queue < (queues as usize) {
-        let end = first + wide(messages[queue]);
+        let end = first + messages[queue];
         let after = rank_after(rank, queue);
         found = find_arcs(arcs, s, after, first, end, seen, nodes, found);
         first = end;

@@ -11,7 +11,10 @@ use Rattle.tables.specs.Limits.{mostPool, mostMessages}
 abbrev pub poolArcs : ℕ
 poolArcs = mostPool * mostMessages
 
--- where the arc of state s for message m leads; a missing arc has nowhere to go
+-- what the entry for message m says, of the state whose arcs begin at this row: where the arc leads; a missing arc has nowhere to go
+abbrev pub arcFrom : List ℕ → ℕ → ℕ → Option ℕ
+arcFrom arcs row m = cond (eqb (getD arcs (row + m) 0) 0) none (some (getD arcs (row + m) 0 - 1))
+
+-- where the arc of state s for message m leads
 abbrev pub arcAt : List ℕ → ℕ → ℕ → Option ℕ
-arcAt arcs s m =
-    cond (eqb (getD arcs (s * mostMessages + m) 0) 0) none (some (getD arcs (s * mostMessages + m) 0 - 1))
+arcAt arcs s m = arcFrom arcs (s * mostMessages) m

@@ -11,7 +11,7 @@ ghost use Prim.Native.Nat.{_+_, _*_, _≤_, _<_};
 ghost use lib.ListN.{length, getD};
 ghost use Rattle.tables.specs.Limits.{mostPool, mostMessages};
 ghost use Rattle.tables.specs.Kinds.{reachedOf};
-ghost use Rattle.tables.specs.Pool.{arcAt};
+ghost use Rattle.tables.specs.Pool.{arcFrom, arcAt};
 ghost use Rattle.tables.specs.Said.{saidArc};
 ghost use Rattle.tables.specs.Lookup.{finalAt, ArcsSmall, RootAt, AlongTo};
 
@@ -33,16 +33,26 @@ pub fn root_of(roots: &[u8], c: ControlState) -> Reached
     Reached::at(DiagramState(root - 1))
 }
 
-// The arc of a state for a message. The entry is in the table, so a walk makes no test for its end.
-pub fn arc_at(arcs: &[u8], s: DiagramState, m: Message) -> Arc
-    requires { ⌜ s .0 * mostMessages + m .0 < length (now arcs) ⌝ }
-    ensures { λ r. ⌜ saidArc r ≡ arcAt (now (arcs .entry)) (s .0) (m .0) ⌝ }
+// The arc for a message of the state whose arcs begin at this row. The entry is in the table, so a walk makes no test for its end; it is looked up
+// in the table's part from the message on: the message is there before the row is, so nothing is added to a row that had to be waited for.
+pub fn arc_from(arcs: &[u8], row: usize, m: Message) -> Arc
+    requires { ⌜ row + m .0 < length (now arcs) ⌝ }
+    ensures { λ r. ⌜ saidArc r ≡ arcFrom (now (arcs .entry)) row (m .0) ⌝ }
 {
-    let target = arcs[s.0 as usize * ARCS + m.0 as usize];
+    let line = &arcs[m.0 as usize..];
+    let target = line[row];
     if target == 0 {
         return Arc::Nowhere;
     }
     Arc::Target(DiagramState(target - 1))
+}
+
+// The arc of a state for a message.
+pub fn arc_at(arcs: &[u8], s: DiagramState, m: Message) -> Arc
+    requires { ⌜ s .0 * mostMessages + m .0 < length (now arcs) ⌝ }
+    ensures { λ r. ⌜ saidArc r ≡ arcAt (now (arcs .entry)) (s .0) (m .0) ⌝ }
+{
+    arc_from(arcs, wide(s.0) * ARCS, m)
 }
 
 // One message more. A missing arc has nowhere to go, and nowhere stays nowhere.

@@ -1,7 +1,7 @@
 -- The tables as nodes are found: one more node, the steps of a loop over nodes still to be found, and the nodes queue by queue.
 use Prim.Native.Nat.{ℕ, zero, suc, _+_, _-_, _*_, _≤_, _<_}
-use mathlib.Core.Path.{_≡_, refl, sym, ap, _∙_}
-use mathlib.Core.Bool.{false, not, cond}
+use mathlib.Core.Path.{_≡_, refl, sym, ap, subst, _∙_}
+use mathlib.Core.Bool.{false, not}
 use mathlib.Core.Option.{Option, none, some, Option·map}
 use mathlib.Core.List.{List, [], _∷_, _++_}
 use lib.ListN.{length, getD, set, take, replicate, length-set, length-replicate}
@@ -11,15 +11,13 @@ use native.Mathlib.Omega.{arith}
 use native.Mathlib.Nat.{sub-eq-zero-of-le, add-sub-cancel-left}
 use Rattle.numbers.specs.Laws.Parts.{one-more}
 use Rattle.numbers.specs.Laws.Written.{at-or-other, zeros-hold}
-use Rattle.tables.specs.Limits.{mostPool}
+use Rattle.tables.specs.Pool.{arcFrom}
 use Rattle.theory_exploration.specs.Marks.{mem, count}
 use Rattle.theory_exploration.specs.Laws.Marks.{count-most, count-room, count-set, one-more-taken, one-more-known}
 use Rattle.theory_exploration.specs.Growing.{gather}
 use Rattle.reading_order.specs.Nodes.{wrong, ranks, mostNodes, nodeOf, rankAfter, arcNodes, queueNodes}
 use Rattle.theory_exploration.specs.Growing.{grown}
-use Rattle.reading_order.specs.Found.{Found, Grows, saidStep, stepNodes, entryNode, StepTo}
-use Rattle.reading_order.specs.declared.finding.Step.{Step}
-use Rattle.reading_order.specs.declared.finding.Step.the-variants.{To, Nowhere}
+use Rattle.reading_order.specs.Found.{Found, Grows, arcNode, stepNodes}
 use Rattle.theory_exploration.specs.Laws.Grown.{grown-none, grown-old, grown-new, grown-append}
 use Rattle.theory_exploration.specs.Laws.Gather.{gather-skip, gather-on}
 use Rattle.reading_order.specs.Laws.Reached.{after-below}
@@ -69,28 +67,30 @@ module _ {seen nodes : List ℕ} {n : ℕ} (F : Found seen nodes n) where
           is = one-more-taken seen nodes n c 0 in-nodes in-seen ∙ sym (grown-new (take n nodes) c [] absent ∙ grown-none (take n nodes ++ (c ∷ [])));
         }
 
--- where an entry leads, and where it leads nowhere
-pub step-none : (arcs : List ℕ) (at r : ℕ) {e : ℕ} → e ≡ getD arcs at 0 → e ≡ 0 → StepTo arcs at r Nowhere
-step-none arcs at r f z = record { is = sym (ap (λ x. entryNode x r) (sym f ∙ z)); below = tt }
+-- what an arc adds, by where it leads
+module _ (arcs : List ℕ) (row r m : ℕ) where
+  pub adds-node : {t k : ℕ} → arcFrom arcs row m ≡ some t → k ≡ nodeOf t r → k ∷ [] ≡ stepNodes (arcNode arcs row r m)
+  adds-node e n = ap (λ k. k ∷ []) n ∙ sym (ap (λ x. stepNodes (Option·map (λ t. nodeOf t r) x)) e)
 
-pub step-to : (arcs : List ℕ) (at r : ℕ) {e k : ℕ} → e ≡ getD arcs at 0 → (e ≡ 0 → ⊥) → e ≤ mostPool → r < ranks → k ≡ e * ranks + r - ranks
-    → StepTo arcs at r (To k)
-step-to arcs at r {e} {k} f z h l n =
-    let node : k ≡ nodeOf (e - 1) r = omega arith in
-    record {
-      is = ap some node ∙ sym (ap (λ b. Option·map (λ t. nodeOf t r) (cond b none (some (e - 1)))) (ne-eqb e 0 z)) ∙ ap (λ x. entryNode x r) f;
-      below = omega arith;
-    }
+  pub adds-none : arcFrom arcs row m ≡ none → [] ≡ stepNodes (arcNode arcs row r m)
+  adds-none e = sym (ap (λ x. stepNodes (Option·map (λ t. nodeOf t r) x)) e)
+
+-- the same nodes by another name
+pub grows-as : {seen nodes new new′ seen′ nodes′ : List ℕ} {n n′ : ℕ} → new ≡ new′
+    → Grows seen nodes n new seen′ nodes′ n′ → Grows seen nodes n new′ seen′ nodes′ n′
+grows-as {seen} {nodes} {seen′ = seen′} {nodes′} {n} {n′} e g = subst (λ l. Grows seen nodes n l seen′ nodes′ n′) e g
 
 -- nothing is found
 pub grows-none : {seen nodes : List ℕ} {n : ℕ} → Found seen nodes n → Grows seen nodes n [] seen nodes n
 grows-none {seen} {nodes} {n} F = record { holds = F; is = sym (grown-none (take n nodes)) }
 
--- what is gathered, by the step of its first number
-pub gather-step : (f : ℕ → Option ℕ) {end i : ℕ} (x : Step) → i < end → saidStep x ≡ f i
-    → gather f (end - i) i ≡ stepNodes x ++ gather f (end - (i + 1)) (i + 1)
-gather-step f (To k) h e = gather-on f h (sym e)
-gather-step f Nowhere h e = gather-skip f h (sym e)
+-- what is gathered, by what its first number adds
+pub gather-step : (f : ℕ → Option ℕ) {end i : ℕ} → i < end → gather f (end - i) i ≡ stepNodes (f i) ++ gather f (end - (i + 1)) (i + 1)
+gather-step f {end} {i} h = byNode (f i) refl
+  where
+    byNode : (x : Option ℕ) → f i ≡ x → gather f (end - i) i ≡ stepNodes x ++ gather f (end - (i + 1)) (i + 1)
+    byNode (some k) e = gather-on f h e
+    byNode none e = gather-skip f h e
 
 -- NO NODE: tables of zeros
 count-zeros : (n : ℕ) → count (replicate n 0) ≡ 0

@@ -47,7 +47,7 @@ arc-nodes-below : {arcs : List ℕ} → ArcsSmall arcs → (s r left m : ℕ) �
 arc-nodes-below {arcs} small s r left m h k i =
     let (n, l, u, e) = gather-is _ left m k i in
     let (t, a, x) = map-eq-some-iff (λ t. nodeOf t r) (arcAt arcs s n) .0 e in
-    omega (arith, arc-small s n small a)
+    omega (arith, arc-small _ n small a)
 
 queue-nodes-below : {arcs : List ℕ} → ArcsSmall arcs → (s r : ℕ) (counts : List ℕ) (left q first : ℕ) → q + left ≤ mostQueues
     → All Below (queueNodes arcs s r counts left q first)

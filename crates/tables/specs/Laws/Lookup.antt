@@ -6,12 +6,13 @@ use mathlib.Core.Option.{Option, none, some}
 use mathlib.Core.List.{List}
 use native.Mathlib.Omega.{arith}
 use native.Mathlib.Decide.{decLt}
-use lib.ListN.{length, getD}
+use lib.ListN.{length, getD, take, drop}
+use lib.Seq.{getD-take, getD-drop}
 use lib.Dec.{eqb}
 use borrow.Author.Tests.{eq-eqb, ne-eqb, eqb-true, eqb-false}
 use Rattle.tables.specs.Limits.{mostPool, mostMessages}
 use Rattle.tables.specs.Kinds.{reachedOf}
-use Rattle.tables.specs.Pool.{arcAt}
+use Rattle.tables.specs.Pool.{arcFrom, arcAt}
 use Rattle.tables.specs.Lookup.{rootOf, alongArc, finalAt, ArcsSmall, RootAt, AlongTo}
 use Rattle.tables.specs.Valid.{PoolValid}
 use Rattle.tables.specs.Laws.Pool.{arc-entry}
@@ -61,13 +62,29 @@ root-entry roots c {s} e = byEntry (eqb (getD roots c 0) 0) refl e
     byEntry false f e′ = let x : getD roots c 0 - 1 ≡ s = cc in omega (arith, eqb-false (getD roots c 0) 0 f)
 
 -- AN ARC
+-- an entry, read in the table's part from its message on
+entry-in-part : (arcs : List ℕ) (row m : ℕ) → row + m < length arcs → getD (take (length arcs - m) (drop m arcs)) row 0 ≡ getD arcs (row + m) 0
+entry-in-part arcs row m h =
+    getD-take (length arcs - m) (drop m arcs) row 0 (omega arith) ∙ getD-drop m arcs row 0
+    ∙ ap (λ i. getD arcs i 0) (let z : m + row ≡ row + m = omega arith in z)
+
+module _ (arcs : List ℕ) (row m : ℕ) (h : row + m < length arcs) where
+  pub part-none : getD (take (length arcs - m) (drop m arcs)) row 0 ≡ 0 → none ≡ arcFrom arcs row m
+  part-none z = sym (rw (eq-eqb (getD arcs (row + m) 0) 0 (sym (entry-in-part arcs row m h) ∙ z), arcFrom))
+
+  pub part-some : (getD (take (length arcs - m) (drop m arcs)) row 0 ≡ 0 → ⊥)
+      → some (getD (take (length arcs - m) (drop m arcs)) row 0 - 1) ≡ arcFrom arcs row m
+  part-some n =
+      ap (λ (x : ℕ). some (x - 1)) (entry-in-part arcs row m h)
+      ∙ sym (rw (ne-eqb (getD arcs (row + m) 0) 0 (λ z. n (entry-in-part arcs row m h ∙ z)), arcFrom))
+
 -- every state has an entry for every message
 pub entry-within : {arcs : List ℕ} {s m : ℕ} → ArcsSmall arcs → s < mostPool → m < mostMessages → s * mostMessages + m < length arcs
 entry-within a h k = omega (arith, a .long)
 
 -- an arc leads to a state
-pub arc-small : {arcs : List ℕ} (s m : ℕ) {t : ℕ} → ArcsSmall arcs → arcAt arcs s m ≡ some t → t < mostPool
-arc-small {arcs} s m h e = omega (arith, arc-entry arcs s m e, h .each (s * mostMessages + m))
+pub arc-small : {arcs : List ℕ} (row m : ℕ) {t : ℕ} → ArcsSmall arcs → arcFrom arcs row m ≡ some t → t < mostPool
+arc-small {arcs} row m h e = omega (arith, arc-entry arcs row m e, h .each (row + m))
 
 -- the table of arcs of a pool that was read
 pub arcs-small : {sum : ℕ} {P : Pool} → PoolValid sum P → ArcsSmall (P .arcs)
@@ -97,7 +114,7 @@ module _ {arcs : List ℕ} {t m : ℕ} where
 
     pub along-arc : ArcsSmall arcs → {next r : ℕ} → arcAt arcs s m ≡ some next → r ≡ next → AlongTo arcs t m r
     along-arc small e h =
-        let below = arc-small s m small e in
+        let below = arc-small (s * mostMessages) m small e in
         record {
           is =
               reached-small (omega arith)

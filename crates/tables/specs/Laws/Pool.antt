@@ -9,20 +9,19 @@ use lib.Dec.{eqb, ltb}
 use borrow.Author.Tests.{eqb-false, ne-eqb, ltb-true, ltb-false}
 use native.Mathlib.Omega.{arith}
 use Rattle.tables.specs.Limits.{mostMessages}
-use Rattle.tables.specs.Pool.{arcAt}
+use Rattle.tables.specs.Pool.{arcFrom, arcAt}
 use Rattle.tables.specs.Valid.{PoolValid}
 use Rattle.tables.specs.declared.tables.Pool.{Pool}
 
 -- an arc of the table is an entry that is not 0
-pub arc-entry : (arcs : List ℕ) (i m : ℕ) {t : ℕ} → arcAt arcs i m ≡ some t → getD arcs (i * mostMessages + m) 0 ≡ suc t
-arc-entry arcs i m {t} e = go (eqb (getD arcs (i * mostMessages + m) 0) 0) refl e
+pub arc-entry : (arcs : List ℕ) (row m : ℕ) {t : ℕ} → arcFrom arcs row m ≡ some t → getD arcs (row + m) 0 ≡ suc t
+arc-entry arcs row m {t} e = go (eqb (getD arcs (row + m) 0) 0) refl e
   where
-    go : (b : Bool) → eqb (getD arcs (i * mostMessages + m) 0) 0 ≡ b
-        → cond b none (some (getD arcs (i * mostMessages + m) 0 - 1)) ≡ some t → getD arcs (i * mostMessages + m) 0 ≡ suc t
+    go : (b : Bool) → eqb (getD arcs (row + m) 0) 0 ≡ b → cond b none (some (getD arcs (row + m) 0 - 1)) ≡ some t → getD arcs (row + m) 0 ≡ suc t
     go true f e′ = let z : _≡_ {A = ℕ} 0 1 = cc in omega arith
     go false f e′ =
-        let n : getD arcs (i * mostMessages + m) 0 - 1 ≡ t = cc in
-        let p = eqb-false (getD arcs (i * mostMessages + m) 0) 0 f in
+        let n : getD arcs (row + m) 0 - 1 ≡ t = cc in
+        let p = eqb-false (getD arcs (row + m) 0) 0 f in
         omega arith
 
 pub entry-arc : (arcs : List ℕ) (i m : ℕ) {t : ℕ} → getD arcs (i * mostMessages + m) 0 ≡ suc t → arcAt arcs i m ≡ some t
@@ -42,7 +41,7 @@ pub arc-valid : {sum : ℕ} {P : Pool} (i m : ℕ) {t : ℕ} → PoolValid sum P
 arc-valid {sum} {P} i m {t} z h e = go (ltb i (P .count)) refl (ltb m sum) refl
   where
     entry : getD (P .arcs) (i * mostMessages + m) 0 ≡ suc t
-    entry = arc-entry (P .arcs) i m e
+    entry = arc-entry (P .arcs) (i * mostMessages) m e
 
     go : (b : Bool) → ltb i (P .count) ≡ b → (c : Bool) → ltb m sum ≡ c → ArcValid sum (P .count) i m t
     go false f c g =

@@ -1,51 +1,31 @@
-use borrow.Author.Tests.{eq-eqb, ne-eqb}
+use mathlib.Core.Path.{ap, _∙_}
+use Prim.Native.Nat.{_*_}
+use denote.Ref.{now}
+use Rattle.tables.specs.Limits.{mostMessages}
+use Rattle.tables.specs.Pool.{arcFrom}
 use borrow.Author.Needs.{needs}
 use Rattle.tables.proofs.lookup.arc_at.Statement.{statement}
 use Rattle.tables.proofs.lookup.arc_at.Tie as tie
 use Rattle.tables.proofs.lookup.arc_at.Reads as reads
 use Rattle.tables.proofs.lookup.arc_at.Lts as lts
+use Rattle.numbers.proofs.number.wide.Reads as wide-reads
+use Rattle.tables.proofs.lookup.arc_from.Reads as arc-from-reads
 
--- src/lookup.rt:41:23
-cast-target : tie.Need-cast-target
-cast-target c = search needs
+-- src/lookup.rt:55:20
+wide-requires : tie.Need-wide-requires
+wide-requires c κs = search needs
 
--- src/lookup.rt:41:23
-mul-target : tie.Need-mul-target
-mul-target c = search needs
+-- src/lookup.rt:55:20
+mul-arc-from : tie.Need-mul-arc-from
+mul-arc-from c = search needs
 
--- src/lookup.rt:41:45
-cast-target-2 : tie.Need-cast-target-2
-cast-target-2 c = search needs
+-- src/lookup.rt:55:5
+arc-from-requires : tie.Need-arc-from-requires
+arc-from-requires c κs = search needs
 
--- src/lookup.rt:41:23
-add-target : tie.Need-add-target
-add-target c = search needs
-
--- src/lookup.rt:41:18
-shared-slice-read-target : tie.Need-shared-slice-read-target
-shared-slice-read-target c = search needs
-
--- src/lookup.rt:43:9
+-- src/lookup.rt:51:1
 returns : tie.Need-returns
-returns c = rw (eq-eqb _ _ (c .if1 .taken))
-
--- src/lookup.rt:45:30
-sub-t10 : tie.Need-sub-t10
-sub-t10 c = search needs
-
--- src/lookup.rt:37:1
-returns-2 : tie.Need-returns-2
-returns-2 c = rw (ne-eqb _ _ (c .if1 .left))
+returns c = let a = c .before .before .before .args in c .arc-from .ensures ∙ ap (λ k. arcFrom (now (a .arcs)) (k * mostMessages) (a .m .0)) (c .before .wide .ensures .same)
 
 pub arc-at-spec : {M : Type 1} → statement M
-arc-at-spec =
-    tie.close
-    (tie.spec
-    cast-target
-    mul-target
-    cast-target-2
-    add-target
-    shared-slice-read-target
-    returns
-    sub-t10
-    returns-2)
+arc-at-spec = tie.close (tie.spec wide-requires mul-arc-from arc-from-requires returns)
