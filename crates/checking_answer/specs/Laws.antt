@@ -7,7 +7,8 @@ use lib.Dec.{leb}
 use borrow.Author.Tests.{le-leb}
 use native.Mathlib.Omega.{arith}
 use Rattle.theory_files.specs.Reply.{shownOf, lineOf, replyOf, replyTo}
-use Rattle.theory_files.specs.Checking.{checkOf, readLent, Checks, tableLeast, contentsLeast, mostShown}
+use Rattle.theory_files.specs.Checking.{checkOf, readLent, Checks, tableLeast, mostShown}
+use Rattle.tables.specs.Limits.{contentsLeast}
 use Rattle.theory_files.specs.Laws.Checking.{long-enough, lent-enough, lent-sound}
 use Rattle.theory_files.specs.Laws.Shown.{shown-fits}
 use Rattle.checking_line.specs.Said.{holds, given, Writes}

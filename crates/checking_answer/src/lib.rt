@@ -1,9 +1,9 @@
 // The answer to a file: the verdict on it, as the line that the program prints.
-use checking_file::check::CONTENTS_LEAST;
 use checking_file::check::MOST_SHOWN;
 use checking_file::check::TABLE_LEAST;
 use checking_file::check::check;
 use checking_line::verdict::write_line;
+use tables::tables::CONTENTS_LEAST;
 ghost use Rattle.checking_answer.specs.Answer.{Answers, Lines, WholeLine};
 
 // Bytes that hold any line: for each message a space and at most three digits, and 52 for the rest.

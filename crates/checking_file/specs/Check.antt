@@ -7,7 +7,7 @@ use Rattle.tables.specs.declared.tables.Tables.{Tables}
 use Rattle.theory_model.specs.Judge as Model
 use Rattle.theory_files.specs.Tables.{sessionOf}
 use Rattle.theory_files.specs.Reply.{verdict}
-use Rattle.theory_files.specs.Checking.{contentsLeast}
+use Rattle.tables.specs.Limits.{contentsLeast}
 use Rattle.checking_pairs.specs.Pairs.{mostCodes}
 use Rattle.checking_items.specs.Judging.{Kept}
 use Rattle.checking_items.specs.Promises.{Memory}

@@ -7,6 +7,7 @@ use numbers::refusal::Refusal;
 use reading_file::reading::Answer;
 use reading_file::reading::read_into;
 use tables::kinds::DiagramState;
+use tables::tables::CONTENTS_LEAST;
 use tables::tables::MOST_WORD;
 use tables::tables::POOL_ARCS;
 use tables::tables::ROWS;
@@ -16,10 +17,8 @@ ghost use Prim.Native.Nat.{ℕ};
 ghost use Rattle.theory_files.specs.Checking.{Checks, CheckMeans, CheckTwoRuns};
 ghost use Rattle.verdicts.specs.Said.{saidVerdict, Shows};
 
-// Entries that a scratch table needs, and bytes that a contents buffer needs.
+// Entries that a scratch table needs.
 pub const TABLE_LEAST: usize = CODES;
-
-pub const CONTENTS_LEAST: usize = 32768;
 
 // The most messages that are shown.
 pub const MOST_SHOWN: usize = TABLE_LEAST + MOST_WORD as usize;

@@ -10,7 +10,7 @@ use Rattle.theory_model.specs.Verdict.{step, entry}
 use Rattle.theory_model.specs.Judge as Model
 use Rattle.theory_model.specs.Laws.Items.{IsItem}
 use Rattle.theory_files.specs.Tables.{sessionOf, transitionAt}
-use Rattle.theory_files.specs.Checking.{contentsLeast}
+use Rattle.tables.specs.Limits.{contentsLeast}
 use Rattle.checking_pairs.specs.Pairs.{mostCodes}
 use Rattle.checking_pairs.specs.Marks.{Blank}
 use Rattle.checking_walk.specs.Judged.{saidJudged, shownBy}

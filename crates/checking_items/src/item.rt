@@ -14,7 +14,7 @@ use tables::lookup::root_of;
 use tables::tables::WORD;
 ghost use Prim.Native.Nat.{_≤_};
 ghost use lib.ListN.{length};
-ghost use Rattle.theory_files.specs.Checking.{contentsLeast};
+ghost use Rattle.tables.specs.Limits.{contentsLeast};
 ghost use Rattle.checking_items.specs.Judging.{Scratch, StepAsked, EntryAsked};
 ghost use Rattle.checking_items.specs.Promises.{tablesIn, memory, EntryJudged, StepJudged};
 

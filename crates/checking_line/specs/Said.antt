@@ -8,10 +8,11 @@ use lib.Dec.{leb}
 use Rattle.theory_files.specs.Reply.{lineOf}
 use Rattle.verdicts.specs.Said.{saidVerdict, shownIn}
 use Rattle.verdicts.specs.declared.verdict.Verdict.{Verdict}
+use Rattle.tables.specs.Limits.{contentsLeast}
 
 -- the contents hold the messages shown, and the buffer holds any line that shows so many
 abbrev pub holds : ℕ → ℕ → ℕ → Bool
-holds room contents shown = leb shown contents && (leb shown 32768 && leb (4 * shown + 52) room)
+holds room contents shown = leb shown contents && (leb shown contentsLeast && leb (4 * shown + 52) room)
 
 pub record LineRoom (room contents shown : ℕ) (r : Bool) : Type 0 where
   pub is : r ≡ holds room contents shown

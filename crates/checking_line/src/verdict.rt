@@ -7,6 +7,7 @@ use numbers::put::put_word;
 use numbers::refusal::SHORT_MEMORY;
 use numbers::refusal::number;
 use numbers::refusal::place;
+use tables::tables::CONTENTS_LEAST;
 use verdicts::verdict::Verdict;
 ghost use mathlib.Core.List.{[]};
 ghost use lib.ListN.{take};
@@ -21,7 +22,7 @@ fn has_room(room: usize, contents: usize, shown: usize) -> bool
     if contents < shown {
         return false;
     }
-    if 32768 < shown {
+    if CONTENTS_LEAST < shown {
         return false;
     }
     if room < 4 * shown + 52 {

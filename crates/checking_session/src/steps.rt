@@ -10,7 +10,7 @@ use tables::tables::ROW;
 use verdicts::verdict::Verdict;
 ghost use Prim.Native.Nat.{_≤_};
 ghost use lib.ListN.{length};
-ghost use Rattle.theory_files.specs.Checking.{contentsLeast};
+ghost use Rattle.tables.specs.Limits.{contentsLeast};
 ghost use Rattle.checking_items.specs.Judging.{Scratch};
 ghost use Rattle.checking_items.specs.Promises.{tablesIn, memory};
 ghost use Rattle.checking_session.specs.Judges.{amplePairs, pairsBefore, TurnAsked, StepsAsked};

@@ -6,7 +6,7 @@ use lib.ListN.{length, take, drop}
 use mathlib.Core.Option.{some}
 use Rattle.theory_exploration.specs.Search.{Outcome, found, finished, trace}
 use Rattle.theory_exploration.specs.Size.{Size}
-use Rattle.tables.specs.Limits.{mostPool}
+use Rattle.tables.specs.Limits.{mostPool, contentsLeast}
 use Rattle.theory_model.specs.Session.{Session, WellFormed}
 use Rattle.theory_model.specs.Verdict.{Item, Pair, Visited}
 use Rattle.theory_model.specs.Judge as Judge
@@ -18,7 +18,6 @@ use Rattle.checking_walk.specs.declared.judge.Judged.the-variants.{Passe
 use Rattle.checking_pairs.specs.Marks.{Blank}
 use Rattle.checking_pairs.specs.Over.{goOver, searchOver, walkOver, Over}
 use Rattle.checking_walk.specs.Shown.{partOver}
-use Rattle.theory_files.specs.Checking.{contentsLeast}
 
 -- the contents that a word of letters stands for
 abbrev pub contentsOver : List ℕ → Walk → List ℕ → List ℕ

@@ -8,7 +8,7 @@ ghost use lib.ListN.{length, take, drop};
 ghost use Rattle.following.specs.Standing.{wordOver, WordWithin};
 ghost use Rattle.checking_pairs.specs.Over.{Lent};
 ghost use Rattle.checking_walk.specs.Shown.{partOver, shownOver, Placed, Laid, Shown};
-ghost use Rattle.theory_files.specs.Checking.{contentsLeast};
+ghost use Rattle.tables.specs.Limits.{contentsLeast};
 
 // A word of the table of transitions, laid from its end on. Returns the next place.
 fn lay_word(rows: &[u8], word: usize, out: usize, contents: &mut [u8], start: usize) -> usize

@@ -8,12 +8,11 @@ use checking_pairs::pairs::Walk;
 ghost use mathlib.Core.Path.{_≡_};
 ghost use Prim.Native.Nat.{_≤_};
 ghost use lib.ListN.{length};
-ghost use Rattle.tables.specs.Limits.{mostPool};
+ghost use Rattle.tables.specs.Limits.{mostPool, contentsLeast};
 ghost use Rattle.checking_pairs.specs.Pairs.{mostCodes, pairOf, NodeFits};
 ghost use Rattle.checking_pairs.specs.Marks.{Blank};
 ghost use Rattle.checking_pairs.specs.Over.{Lent};
 ghost use Rattle.checking_walk.specs.Judged.{ShownFits, WalkJudged, Counts};
-ghost use Rattle.theory_files.specs.Checking.{contentsLeast};
 
 // No pair fails, and so many there are; or so many messages are shown.
 pub enum Judged {

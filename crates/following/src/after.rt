@@ -2,6 +2,7 @@
 // it takes out the rest of those before it.
 use crate::part::follow_part;
 use tables::kinds::Reached;
+use tables::tables::CONTENTS_LEAST;
 use tables::tables::MOST_WORD;
 ghost use mathlib.Core.Path.{_≡_};
 ghost use Prim.Native.Nat.{_≤_};
@@ -13,9 +14,6 @@ ghost use Rattle.theory_model.specs.Judge.{exchanged};
 ghost use Rattle.following.specs.Follow.{farArcs};
 ghost use Rattle.following.specs.Standing.{wordOver, WordWithin};
 ghost use Rattle.following.specs.After.{ContentsAt, FrontEnds};
-
-// Contents lie in so many bytes of their buffer, a ring that is not gone round.
-pub const ROOM: usize = 32768;
 
 // What a step makes of contents: behind the messages below the cut so many are taken out, and the first ones of the word at this entry of the
 // table are put in.
@@ -57,13 +55,21 @@ pub fn far_after(
     ensures { λ r. ⌜ r ≡ farArcs (now (arcs .entry)) (reachedOf (target .0)) (exchanged (x .cut) (x .out) (wordOver (now (rows .entry)) (x .word) (x .into)) (take shown (now (contents .entry)))) ⌝ }
 {
     let kept = front_of(contents, shown, x.cut);
-    let front = follow_part(arcs, target, contents, 0, ROOM, 0, kept);
+    let front = follow_part(arcs, target, contents, 0, CONTENTS_LEAST, 0, kept);
     let word = follow_part(arcs, front.to, rows, x.word, MOST_WORD as usize, 0, x.into);
     let out = x.out;
     if shown - kept <= out {
         return front.far + word.far;
     }
     let behind = kept + out;
-    let rest = follow_part(arcs, word.to, contents, 0, ROOM, behind, shown - behind);
+    let rest = follow_part(
+        arcs,
+        word.to,
+        contents,
+        0,
+        CONTENTS_LEAST,
+        behind,
+        shown - behind,
+    );
     front.far + word.far + rest.far
 }

@@ -36,3 +36,7 @@ mostPool = 127
 
 abbrev pub mostBad : ℕ
 mostBad = 64
+
+-- bytes of a contents buffer, below which checking is refused
+abbrev pub contentsLeast : ℕ
+contentsLeast = 32768

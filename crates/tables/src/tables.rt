@@ -24,6 +24,9 @@ pub const MOST_POOL: u8 = DiagramState::LIMIT as u8;
 
 pub const MOST_BAD: u8 = 64;
 
+// Bytes of a contents buffer. Contents in them are a ring that is not gone round.
+pub const CONTENTS_LEAST: usize = 32768;
+
 // A transition's row: the machine stands in its first entry, the others at these, and the word's messages from WORD on.
 pub const FROM: usize = 1;
 

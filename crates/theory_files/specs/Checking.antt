@@ -8,19 +8,16 @@ use lib.ListN.{length, drop, replicate}
 use lib.Dec.{leb}
 use Rattle.numbers.specs.Limits.{mostBytes}
 use Rattle.numbers.specs.Part.{Part, provided}
-use Rattle.tables.specs.Limits.{mostWord}
+use Rattle.tables.specs.Limits.{mostWord, contentsLeast}
 use Rattle.reading_file.specs.File.{readFile}
 use Rattle.tables.specs.declared.tables.Tables.{Tables}
 use Rattle.theory_files.specs.Reply.{FileReply, refused, verdict, replyTo, shownOf}
 use Rattle.theory_files.specs.Claims.{Meant, TwoRunsTo}
 use Rattle.numbers.specs.Refusals.{tooLong, shortMemory}
 
--- a scratch table needs so many entries, the contents buffer so many bytes
+-- a scratch table needs so many entries
 abbrev pub tableLeast : ℕ
 tableLeast = 32512
-
-abbrev pub contentsLeast : ℕ
-contentsLeast = 32768
 
 -- the most messages that are shown: the shortest way to a pair that fails passes each pair of its step once, and a received word is
 -- shown too

@@ -1,5 +1,6 @@
 use borrow.Author.Needs.{needs}
-use Rattle.theory_files.specs.Checking.{tableLeast, contentsLeast}
+use Rattle.theory_files.specs.Checking.{tableLeast}
+use Rattle.tables.specs.Limits.{contentsLeast}
 use Rattle.checking_answer.specs.Laws.{lines, new-long}
 use Rattle.checking_answer.proofs.line_of.Statement.{statement}
 use Rattle.checking_answer.proofs.line_of.Tie as tie

@@ -19,7 +19,8 @@ use Rattle.numbers.specs.declared.refusal.Refusal.{Refusal}
 use Rattle.numbers.specs.declared.refusal.Refusal.the-variants.{TooLong}
 use Rattle.theory_model.specs.Judge as Model
 use Rattle.theory_files.specs.Reply.{replyTo}
-use Rattle.theory_files.specs.Checking.{enough, readLent, tableAfter, contentsAfter, Checks, CheckMeans, CheckTwoRuns, contentsLeast}
+use Rattle.theory_files.specs.Checking.{enough, readLent, tableAfter, contentsAfter, Checks, CheckMeans, CheckTwoRuns}
+use Rattle.tables.specs.Limits.{contentsLeast}
 use Rattle.theory_files.specs.Laws.Checking.{lent-long, lent-little, lent-enough, long-enough, checks-made, checks-refused, check-means, check-two-runs}
 use Rattle.checking_items.specs.Judging.{Kept}
 use Rattle.checking_items.specs.Promises.{Memory}

@@ -19,14 +19,13 @@ use Rattle.theory_model.specs.Searched.{judgeBySearch}
 use Rattle.theory_model.specs.Laws.Items.{IsItem, is-item, at-place}
 use Rattle.theory_model.specs.Laws.Deciding.{judge-bound}
 use Rattle.theory_files.specs.Tables.{sessionOf, transitionAt}
-use Rattle.theory_files.specs.Checking.{contentsLeast}
+use Rattle.tables.specs.Limits.{contentsLeast, mostPool}
 use Rattle.theory_files.specs.Laws.Sessions.{well-formed}
 use Rattle.checking_pairs.specs.Pairs.{mostCodes, pairOf, NodeFits, afterSide}
 use Rattle.following.specs.Standing.{WordWithin}
 use Rattle.checking_pairs.specs.Over.{Lent}
 use Rattle.checking_walk.specs.Laws.Valid.{word-empty}
 use Rattle.checking_walk.specs.Judged.{judgedOver, ShownFits, WalkJudged, shownOf, saidJudged, shownBy}
-use Rattle.tables.specs.Limits.{mostPool}
 use Rattle.tables.specs.Lookup.{RootAt}
 use Rattle.tables.specs.Laws.Lookup.{arcs-small, state-below}
 use Rattle.tables.specs.declared.kinds.DiagramState.{DiagramState}

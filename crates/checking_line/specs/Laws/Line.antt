@@ -22,12 +22,13 @@ use Rattle.verdicts.specs.Said.{saidVerdict, shownIn}
 use Rattle.verdicts.specs.declared.verdict.Verdict.{Verdict}
 use Rattle.verdicts.specs.declared.verdict.Verdict.the-variants.{Closed, Outside, Leaves, Bad, Refused, ShortMemory}
 use Rattle.checking_line.specs.Said.{holds, LineRoom, given, Lined, Writes}
+use Rattle.tables.specs.Limits.{contentsLeast}
 
 -- ROOM
 pub room-is : (room contents shown : ℕ) → holds room contents shown ≡ true → (shown ≤ contents) × (4 * shown + 52 ≤ room)
 room-is room contents shown e =
-    let (a, d) = and-is (leb shown contents) (leb shown 32768 && leb (4 * shown + 52) room) e in
-    let (b, c) = and-is (leb shown 32768) (leb (4 * shown + 52) room) d in
+    let (a, d) = and-is (leb shown contents) (leb shown contentsLeast && leb (4 * shown + 52) room) e in
+    let (b, c) = and-is (leb shown contentsLeast) (leb (4 * shown + 52) room) d in
     (leb-true shown contents a, leb-true (4 * shown + 52) room c)
 
 -- what the test says where it holds, and where it does not
@@ -43,7 +44,7 @@ module _ {room contents shown : ℕ} {r : Bool} (found : LineRoom room contents 
 
 -- of no message the contents need not hold any
 pub room-none : (room contents : ℕ) → holds room contents 0 ≡ holds room 0 0
-room-none room contents = ap (λ b. b && (leb 0 32768 && leb (4 * 0 + 52) room)) (le-leb 0 contents (omega arith))
+room-none room contents = ap (λ b. b && (leb 0 contentsLeast && leb (4 * 0 + 52) room)) (le-leb 0 contents (omega arith))
 
 module _ (contents : List ℕ) (shown : ℕ) {entry text : List ℕ} where
   pub lined : {exit : List ℕ} {r : ℕ} (most : ℕ) → holds (length entry) (length contents) shown ≡ true → Put entry 0 most text exit r
@@ -151,8 +152,8 @@ module _ {entry contents exit : List ℕ} {v : Verdict} {r : ℕ} where
   writes-short e l = writes ShortMemory e (bare contents l)
 
 -- WHAT A CALLER HAS where there is room: the front of the buffer is the line
-pub room-for : (room contents shown : ℕ) → shown ≤ contents → shown ≤ 32768 → 4 * shown + 52 ≤ room → holds room contents shown ≡ true
-room-for room contents shown a b c = rw (le-leb shown contents a, le-leb shown 32768 b, le-leb (4 * shown + 52) room c)
+pub room-for : (room contents shown : ℕ) → shown ≤ contents → shown ≤ contentsLeast → 4 * shown + 52 ≤ room → holds room contents shown ≡ true
+room-for room contents shown a b c = rw (le-leb shown contents a, le-leb shown contentsLeast b, le-leb (4 * shown + 52) room c)
 
 pub written : {entry contents exit : List ℕ} {v : Verdict} {r : ℕ} → Writes entry v contents exit r
     → holds (length entry) (length contents) (shownIn v) ≡ true

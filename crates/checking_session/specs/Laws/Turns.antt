@@ -19,7 +19,7 @@ use Rattle.theory_model.specs.Laws.Items.{IsItem, step-here, step-not-here}
 use Rattle.theory_model.specs.Laws.Deciding.{decide-passes, decide-fails}
 use Rattle.theory_files.specs.Reply.{verdict}
 use Rattle.theory_files.specs.Tables.{sessionOf, transitionAt}
-use Rattle.theory_files.specs.Checking.{contentsLeast}
+use Rattle.tables.specs.Limits.{contentsLeast}
 use Rattle.controls.specs.Controls.{IsAt}
 use Rattle.following.specs.After.{ContentsAt}
 use Rattle.checking_pairs.specs.Pairs.{mostCodes}

@@ -6,7 +6,7 @@ use Prim.Native.Nat.{ℕ, _+_, _-_, _*_, _≤_}
 use native.Mathlib.Omega.{arith}
 use native.Mathlib.Nat.{mul-le-mul}
 use lib.ListN.{length}
-use Rattle.tables.specs.Limits.{mostPool}
+use Rattle.tables.specs.Limits.{mostPool, contentsLeast}
 use Rattle.theory_model.specs.Session.{Session, WellFormed}
 use Rattle.theory_model.specs.Verdict as Verdict
 use Rattle.theory_model.specs.Verdict.{Item, start, step, entry, Pair}
@@ -23,7 +23,6 @@ use Rattle.checking_pairs.specs.Pairs.{stride, mostCodes}
 use Rattle.checking_pairs.specs.Over.{walkOver, Over}
 use Rattle.checking_walk.specs.Judged.{judgedOver, ShownFits, saidJudged, WalkJudged, Counts}
 use Rattle.checking_walk.specs.Laws.Judged.{judged-is}
-use Rattle.theory_files.specs.Checking.{contentsLeast}
 
 -- so many states have no more pairs than there are numbers
 pairs-fit : (n : ℕ) → n ≤ mostPool → Verdict.mostPairs n ≤ mostCodes

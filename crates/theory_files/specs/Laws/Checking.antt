@@ -20,7 +20,8 @@ use Rattle.reading_file.specs.Laws.Valid.{valid}
 use Rattle.tables.specs.declared.tables.Tables.{Tables}
 use Rattle.theory_model.specs.Laws.Basics.{byTest, and-is}
 use Rattle.theory_files.specs.Reply.{FileReply, refused, replyTo, replyOf}
-use Rattle.theory_files.specs.Checking.{tableLeast, contentsLeast, enough, readLent, tableAfter, contentsAfter, checkOf, Checks, CheckMeans, CheckTwoRuns}
+use Rattle.theory_files.specs.Checking.{tableLeast, enough, readLent, tableAfter, contentsAfter, checkOf, Checks, CheckMeans, CheckTwoRuns}
+use Rattle.tables.specs.Limits.{contentsLeast}
 use Rattle.theory_files.specs.Laws.Claims.{Sound, meant-one, reply-meant, two-runs-to}
 
 -- a reply that refuses was given to a refusal

@@ -5,7 +5,7 @@ use native.Mathlib.Omega.{arith}
 use lib.ListN.{length}
 use Rattle.theory_model.specs.Judge.{decide}
 use Rattle.theory_files.specs.Tables.{sessionOf}
-use Rattle.theory_files.specs.Checking.{contentsLeast}
+use Rattle.tables.specs.Limits.{contentsLeast}
 use Rattle.checking_cursor.specs.Left.{fromEntry}
 use Rattle.checking_items.specs.Promises.{tablesIn}
 use Rattle.checking_session.specs.Laws.Links.{steps-link}

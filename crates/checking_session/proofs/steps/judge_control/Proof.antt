@@ -6,7 +6,7 @@ use lib.ListN.{length}
 use Rattle.tables.specs.Head.{tablesOf}
 use Rattle.theory_model.specs.Judge.{decide}
 use Rattle.theory_files.specs.Tables.{sessionOf}
-use Rattle.theory_files.specs.Checking.{contentsLeast}
+use Rattle.tables.specs.Limits.{contentsLeast}
 use Rattle.checking_items.specs.Promises.{tablesIn}
 use Rattle.checking_session.specs.Laws.Sequence.{Going, begins, goes-within, goes-on, ends}
 use Rattle.checking_session.proofs.Stops.{stops}

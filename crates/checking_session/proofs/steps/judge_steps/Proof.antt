@@ -6,13 +6,12 @@ use lib.ListN.{length}
 use Rattle.tables.specs.Head.{tablesOf}
 use Rattle.theory_model.specs.Judge.{decide}
 use Rattle.theory_files.specs.Tables.{sessionOf}
-use Rattle.theory_files.specs.Checking.{contentsLeast}
+use Rattle.tables.specs.Limits.{contentsLeast, mostTransitions}
 use Rattle.checking_items.specs.Promises.{tablesIn}
 use Rattle.checking_session.specs.Laws.Sequence.{Going, begins, goes-on, ends}
 use Rattle.checking_session.proofs.Stops.{stops}
 use Rattle.theory_model.specs.Model.{controls}
 use Rattle.tables.specs.Laws.Kinds.{control-made}
-use Rattle.tables.specs.Limits.{mostTransitions}
 use Rattle.checking_cursor.specs.Left.{stepsLeft, mostSteps}
 use Rattle.checking_session.specs.Judges.{pairsBefore}
 use Rattle.checking_session.specs.Laws.Links.{control-link, control-end}
