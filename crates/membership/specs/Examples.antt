@@ -17,7 +17,8 @@ use Rattle.reading_file.specs.Map.{readRoots, readMap}
 use Rattle.reading_file.specs.Bad.{readEntries, readBad}
 use Rattle.reading_model.specs.Model.{readModel}
 use Rattle.reading_file.specs.Sets.{readSets}
-use Rattle.reading_file.specs.File.{readFile}
+use Rattle.reading_file.specs.Ends.{readEnds}
+use Rattle.reading_file.specs.File.{readWith, readFile}
 use Rattle.theory_files.specs.Cases.{hex}
 use Rattle.membership.specs.Member.{yes, no, refusal, judge, ask, memberOf}
 
@@ -44,7 +45,7 @@ pub replies :
     × (memberOf Rootless 0 (0 ∷ []) ≡ no 0)
     × (memberOf Rootless 0 (1 ∷ 0 ∷ []) ≡ refusal 13 1)
 unfolding
-    memberOf ask judge readFile readModel readSets
+    memberOf ask judge readFile readWith readModel readEnds readSets
     readNumber readWithin readBelow readTwo
     readFactor readSizes readStarts countedMachines readMachines
     readTerm readCounts countedQueues readQueues firstMessage

@@ -5,6 +5,7 @@ use mathlib.Core.List.{List}
 use lib.ListN.{length, replicate}
 use lib.Dec.{leb}
 use Rattle.numbers.specs.Limits.{mostBytes}
+use Rattle.numbers.specs.Refusals.{tooLong}
 use Rattle.tables.specs.Limits.{mostControls, mostPool, mostBad}
 use Rattle.numbers.specs.Part.{Part, got, refused, provided, andThen}
 use Rattle.reading_file.specs.Said.{ReadReply, saidAnswer, read, refusal}
@@ -12,8 +13,7 @@ use Rattle.reading_model.specs.Model.{readModel}
 use Rattle.tables.specs.Pool.{poolArcs}
 use Rattle.tables.specs.Empty.{emptyModel}
 use Rattle.reading_pool.specs.Pool.{readPool}
-use Rattle.reading_order.specs.Search.{inQueueOrder}
-use Rattle.reading_file.specs.Sets.{readSets}
+use Rattle.reading_file.specs.Ends.{readEnds}
 use Rattle.tables.specs.declared.tables.ModelTables.{ModelTables}
 use Rattle.tables.specs.declared.tables.Pool.{Pool}
 use Rattle.tables.specs.declared.tables.SetTables.{SetTables}
@@ -39,15 +39,18 @@ modelTables T = record { machines = T .machines; queues = T .queues; transitions
 abbrev pub setTables : Tables → SetTables
 setTables T = record { map = T .map; bad = T .bad }
 
--- READING: the tables, or the refusal. Fields 1 to 3; field 4; fields 5 and 6; then queue order, and nothing after the last field
-unfoldable pub readFile : List ℕ → Part Tables
-readFile s =
-    provided (leb (length s) mostBytes) 1 mostBytes
+-- READING, where field 4 is read so: the tables, or the refusal. Fields 1 to 3; field 4; the ends
+unfoldable pub readWith : (List ℕ → ℕ → ℕ → Part Pool) → List ℕ → Part Tables
+readWith field4 s =
+    provided (leb (length s) mostBytes) tooLong mostBytes
     (andThen (readModel s 0) (λ M p₁.
-    andThen (readPool s p₁ (M .queues .sum)) (λ P p₂.
-    andThen (readSets s p₂ (M .machines .product) (P .count)) (λ D p₃.
-    provided (inQueueOrder (M .queues) P (M .machines .product) D) 9 p₃
-    (provided (leb (length s) p₃) 10 p₃ (got (joined M P D) p₃))))))
+    andThen (field4 s p₁ (M .queues .sum)) (λ P p₂.
+    andThen (readEnds s p₂ (M .machines .product) (M .queues) P) (λ D p₃.
+    got (joined M P D) p₃))))
+
+-- A SESSION FILE
+unfoldable pub readFile : List ℕ → Part Tables
+readFile s = readWith readPool s
 
 -- the tables of no file: all entries 0
 abbrev pub empty : Tables

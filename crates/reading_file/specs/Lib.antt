@@ -2,6 +2,7 @@ pub mod Said
 pub mod Map
 pub mod Bad
 pub mod Sets
+pub mod Ends
 pub mod File
 pub mod Valid
 pub mod Lent

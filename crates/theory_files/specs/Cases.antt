@@ -25,7 +25,8 @@ use Rattle.reading_file.specs.Map.{readRoots, readMap}
 use Rattle.reading_file.specs.Bad.{readEntries, readBad}
 use Rattle.reading_model.specs.Model.{readModel}
 use Rattle.reading_file.specs.Sets.{readSets}
-use Rattle.reading_file.specs.File.{readFile}
+use Rattle.reading_file.specs.Ends.{readEnds}
+use Rattle.reading_file.specs.File.{readWith, readFile}
 use Rattle.tables.specs.declared.tables.Tables.{Tables}
 use Rattle.theory_model.specs.Model.{run}
 use Rattle.theory_model.specs.Session.{inside}
@@ -273,7 +274,7 @@ pub record Computed : Type 0 where
 
 pub computed : Computed
 unfolding
-    replyOf readFile readModel readSets
+    replyOf readFile readWith readModel readEnds readSets
     readNumber readWithin readBelow readTwo
     readFactor readSizes readStarts countedMachines readMachines
     readTerm readCounts countedQueues readContent readContents readStarting readQueues waits firstMessage

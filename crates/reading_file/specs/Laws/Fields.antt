@@ -2,7 +2,7 @@
 use Prim.Native.Nat.{ℕ, _≤_, _<_}
 use mathlib.Core.Path.{_≡_, refl, sym, ap, subst, subst₂, _∙_}
 use mathlib.Core.Logic.{_↔_}
-use mathlib.Core.Bool.{Bool, true}
+use mathlib.Core.Bool.{Bool, true, false}
 use mathlib.Core.List.{List}
 use lib.ListN.{length}
 use lib.Dec.{leb}
@@ -10,12 +10,13 @@ use borrow.Author.Tests.{leb-true, le-leb}
 use native.Mathlib.Omega.{arith}
 use Rattle.numbers.specs.Limits.{mostBytes}
 use Rattle.numbers.specs.Part.{Part, got, refused, provided, andThen}
-use Rattle.numbers.specs.Laws.Parts.{provided-got, same-value, same-place}
+use Rattle.numbers.specs.Laws.Parts.{provided-got, same-value, same-place, andThen-assoc, andThen-same}
 use Rattle.reading_pool.specs.Pool.{readPool}
 use Rattle.reading_order.specs.Search.{inQueueOrder}
 use Rattle.reading_model.specs.Model.{readModel}
 use Rattle.reading_file.specs.Sets.{readSets}
-use Rattle.reading_file.specs.File.{readFile, joined, modelTables, setTables}
+use Rattle.reading_file.specs.Ends.{readEnds}
+use Rattle.reading_file.specs.File.{readWith, readFile, joined, modelTables, setTables}
 use Rattle.numbers.specs.Laws.Places.{Fair}
 use Rattle.reading_model.specs.Laws.Places.{model-fair}
 use Rattle.reading_pool.specs.Laws.Places.{pool-fair}
@@ -61,9 +62,29 @@ fromPool s at M = andThen (readPool s at (M .queues .sum)) (λ P next. fromSets 
 abbrev pub parts : List ℕ → Part Tables
 parts s = andThen (readModel s 0) (λ M next. fromPool s next M)
 
+-- what follows two tests may stand behind them
+module _ {A B : Type 0} where
+  tests-then : (b c : Bool) (v : A) (next : ℕ) (f : A → ℕ → Part B)
+      → andThen (provided b 9 next (provided c 10 next (got v next))) f ≡ provided b 9 next (provided c 10 next (f v next))
+  tests-then true true v next f = refl
+  tests-then true false v next f = refl
+  tests-then false c v next f = refl
+
+-- the ends, and the tables of what was read before them
+ends-then : (s : List ℕ) (at : ℕ) (M : ModelTables) (P : Pool)
+    → andThen (readEnds s at (M .machines .product) (M .queues) P) (λ D next. got (joined M P D) next) ≡ fromSets s at M P
+unfolding readEnds
+ends-then s at M P =
+    andThen-assoc (readSets s at (M .machines .product) (P .count)) _ _
+    ∙ andThen-same (readSets s at (M .machines .product) (P .count)) _ _
+    (λ D next. tests-then (inQueueOrder (M .queues) P (M .machines .product) D) (leb (length s) next) D next _)
+
 pub file-is : (s : List ℕ) → readFile s ≡ provided (leb (length s) mostBytes) 1 mostBytes (parts s)
-unfolding readFile
-file-is s = refl
+unfolding readFile readWith
+file-is s =
+    ap (provided (leb (length s) mostBytes) 1 mostBytes)
+    (andThen-same (readModel s 0) _ _
+    (λ M p₁. andThen-same (readPool s p₁ (M .queues .sum)) _ _ (λ P p₂. ends-then s p₂ M P)))
 
 -- once the pool is read, the sets come next
 to-pool : {s : List ℕ} {M : ModelTables} {P : Pool} {at : ℕ} → ToPool s M P at → readFile s ≡ fromSets s at M P
