@@ -13,7 +13,7 @@ ghost use Rattle.writing_fields.specs.Parts.{amplePlace};
 pub(crate) fn put_map(s: &mut [u8], at: usize, product: usize, roots: &[u8]) -> usize
     requires { ⌜ at + 512 ≤ amplePlace ⌝ }
     requires { ⌜ product ≤ mostControls ⌝ }
-    ensures { λ r. ⌜ Put (now (s .entry)) at 512 (map product (record { roots = now (roots .entry) })) (now (s .exit)) r ⌝ }
+    ensures { λ r. ⌜ Put (now (s .entry)) at 512 (mapped product (record { roots = now (roots .entry) })) (now (s .exit)) r ⌝ }
 {
     put_entries(s, at, roots, 0, product)
 }

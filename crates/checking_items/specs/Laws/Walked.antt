@@ -25,7 +25,7 @@ use Rattle.checking_pairs.specs.Pairs.{mostCodes, pairOf, NodeFits, afterSide}
 use Rattle.following.specs.Standing.{WordWithin}
 use Rattle.checking_pairs.specs.Over.{Lent}
 use Rattle.checking_walk.specs.Laws.Valid.{word-empty}
-use Rattle.checking_walk.specs.Judged.{judgedOver, ShownFits, WalkJudged, shownOf, saidJudged, shownBy}
+use Rattle.checking_walk.specs.Judged.{judgedOver, ShownFits, WalkJudged, contentsShown, saidJudged, shownBy}
 use Rattle.tables.specs.Lookup.{RootAt}
 use Rattle.tables.specs.Laws.Lookup.{arcs-small, state-below}
 use Rattle.tables.specs.declared.kinds.DiagramState.{DiagramState}
@@ -58,7 +58,7 @@ fitting : {arcs finals rows : List ℕ} {w : Walk} {x : Pair} {contents seen′ 
     → WalkJudged arcs finals rows w x contents seen′ queue′ contents′ r → shownBy r ≤ contentsLeast
 fitting {arcs} {finals} {rows} {w} {x} s j = omega (arith, j .number, byJudged (judgedOver arcs finals rows w x) refl)
   where
-    byJudged : (o : Model.Judged) → judgedOver arcs finals rows w x ≡ o → length (shownOf o) ≤ contentsLeast
+    byJudged : (o : Model.Judged) → judgedOver arcs finals rows w x ≡ o → length (contentsShown o) ≤ contentsLeast
     byJudged (passes n) e = omega arith
     byJudged (fails u) e = s .most u e
 
@@ -198,7 +198,7 @@ module _ {T : Tables} {c row : ℕ} (a : StepAsked T c row) where
               (j .reply ∙ step-is (a .number)) (few-pairs T (a .valid));
           most = fitting step-shown j;
           kept =
-              kept-front (shownOf (over (walkOf (T .queues) row k) (nodeOf k source target))) contents contents′ (shownBy r) (j .number) (j .shown) lc;
+              kept-front (contentsShown (over (walkOf (T .queues) row k) (nodeOf k source target))) contents contents′ (shownBy r) (j .number) (j .shown) lc;
           scratch = record { seenLong = ls; queueLong = lq; blank = j .blank };
         }
 
@@ -256,6 +256,6 @@ module _ {T : Tables} {control root : ℕ} (a : EntryAsked T control root) where
               few-passed T (a .valid) (entry (a .number) (control, root)) (a .item) r contents′ (j .reply ∙ entry-is (a .number))
               (entry-few T (a .valid));
           most = fitting entry-shown j;
-          kept = kept-front (shownOf (entry-over source target)) contents contents′ (shownBy r) (j .number) (j .shown) lc;
+          kept = kept-front (contentsShown (entry-over source target)) contents contents′ (shownBy r) (j .number) (j .shown) lc;
           scratch = record { seenLong = ls; queueLong = lq; blank = j .blank };
         }

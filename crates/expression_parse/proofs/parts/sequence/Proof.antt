@@ -39,8 +39,8 @@ returns c =
     record {
       next = refl;
       count = refl;
-      begins = c .before .before .before .union .ensures ∙ rw (c .before .before .before .before .when .ensures);
-      ends = c .before .union2 .ensures ∙ rw (c .before .before .when2 .ensures);
+      begins = c .before .before .before .joined .ensures ∙ rw (c .before .before .before .before .when .ensures);
+      ends = c .before .joined2 .ensures ∙ rw (c .before .before .when2 .ensures);
       skipped = c .both .ensures;
       linked = c .before .before .before .before .before .connect .ensures;
     }

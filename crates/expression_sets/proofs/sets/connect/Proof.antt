@@ -53,7 +53,7 @@ loop-less c = search needs
 
 -- src/sets.rt:44:5
 loop-again : tie.Need-loop-again Inv-loop μ-loop
-loop-again c = ⊎-elim (λ w. linking-with (c .before .before .before .before .before .loop .inv) (c .before .before .before .before .loop-test .taken) (w .0 .taken) (c .before .union .ensures) (w .1)) (λ w. linking-without (c .before .before .before .before .before .loop .inv) (c .before .before .before .before .loop-test .taken) (w .0 .left) (w .1)) (c .if2 .came)
+loop-again c = ⊎-elim (λ w. linking-with (c .before .before .before .before .before .loop .inv) (c .before .before .before .before .loop-test .taken) (w .0 .taken) (c .before .joined .ensures) (w .1)) (λ w. linking-without (c .before .before .before .before .before .loop .inv) (c .before .before .before .before .loop-test .taken) (w .0 .left) (w .1)) (c .if2 .came)
 
 -- src/sets.rt:39:1
 returns-2 : tie.Need-returns-2 Inv-loop μ-loop

@@ -76,7 +76,7 @@ loop-less-2 c = search needs
 
 -- src/sets.rt:64:5
 loop-again-2 : tie.Need-loop-again-2 Inv-loop μ-loop
-loop-again-2 c = marking-with (c .before .before .before .before .before .before .loop .inv) (c .before .before .before .before .before .loop-test .taken) (c .before .before .before .wide .ensures .same) (c .before .before .if1 .left) (c .before .only .ensures) (c .union .ensures)
+loop-again-2 c = marking-with (c .before .before .before .before .before .before .loop .inv) (c .before .before .before .before .before .loop-test .taken) (c .before .before .before .wide .ensures .same) (c .before .before .if1 .left) (c .before .only .ensures) (c .joined .ensures)
 
 -- src/sets.rt:59:1
 returns : tie.Need-returns Inv-loop μ-loop
