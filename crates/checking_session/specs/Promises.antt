@@ -32,8 +32,8 @@ abbrev pub StepsJudged : Tables → ℕ → ℕ → ℕ → List ℕ → Verdict
 StepsJudged T c i pairs =
     ItemsJudged (pairsToEntry 0) T (stepsLeft (sessionOf T .model) c i (controls (sessionOf T .model) - c)) pairs
 
-abbrev pub AfterJudged : Tables → ℕ → ℕ → ℕ → List ℕ → Verdict → Memory → Type 0
-AfterJudged T c i pairs = ItemsJudged amplePairs T (fromStep (sessionOf T) c i) pairs
+abbrev pub FromStepJudged : Tables → ℕ → ℕ → ℕ → List ℕ → Verdict → Memory → Type 0
+FromStepJudged T c i pairs = ItemsJudged amplePairs T (fromStep (sessionOf T) c i) pairs
 
 -- BAD ENTRY b, and those from it on
 abbrev pub OneJudged : Tables → ℕ → ℕ → List ℕ → Verdict → Memory → Type 0

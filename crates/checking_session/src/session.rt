@@ -17,10 +17,10 @@ ghost use Rattle.checking_cursor.specs.Left.{Stands, placeOf};
 ghost use Rattle.checking_items.specs.Judging.{Scratch};
 ghost use Rattle.checking_items.specs.Promises.{tablesIn, memory};
 ghost use Rattle.checking_session.specs.Judges.{amplePairs, pairsBefore, StepsAsked};
-ghost use Rattle.checking_session.specs.Promises.{AfterJudged, AtJudged, FromJudged};
+ghost use Rattle.checking_session.specs.Promises.{FromStepJudged, AtJudged, FromJudged};
 
 // The steps from transition `first` of control state `from` on, then the bad entries.
-fn judge_after_start(
+fn judge_from_step(
     h: Head,
     rows: &[u8],
     finals: &[u8],
@@ -38,7 +38,7 @@ fn judge_after_start(
     requires { ⌜ pairs ≤ pairsBefore from first ⌝ }
     requires { ⌜ Scratch (now seen) (now queue) ⌝ }
     requires { ⌜ contentsLeast ≤ length (now contents) ⌝ }
-    ensures { λ r. ⌜ AfterJudged (tablesIn h (rows .entry) (finals .entry) (arcs .entry) (roots .entry) (entries .entry)) from first pairs (now (contents .entry)) r (memory (contents .exit) (seen .exit) (queue .exit)) ⌝ }
+    ensures { λ r. ⌜ FromStepJudged (tablesIn h (rows .entry) (finals .entry) (arcs .entry) (roots .entry) (entries .entry)) from first pairs (now (contents .entry)) r (memory (contents .exit) (seen .exit) (queue .exit)) ⌝ }
 {
     let turn = judge_steps(
         h,
@@ -97,7 +97,7 @@ pub fn judge_from(
             if !begins_inside(h, rows, finals, arcs, roots, entries) {
                 return Verdict::Outside;
             }
-            judge_after_start(
+            judge_from_step(
                 h,
                 rows,
                 finals,
@@ -112,7 +112,7 @@ pub fn judge_from(
                 contents,
             )
         }
-        Cursor::Step(c, i) => judge_after_start(
+        Cursor::Step(c, i) => judge_from_step(
             h,
             rows,
             finals,

@@ -12,7 +12,7 @@ use Rattle.checking_session.proofs.session.judge_from.Reads as reads
 use Rattle.checking_session.proofs.session.judge_from.Lts as lts
 use Rattle.checking_items.proofs.begin.begins_inside.Reads as begins-inside-reads
 use Rattle.checking_session.proofs.entries.judge_entries.Reads as judge-entries-reads
-use Rattle.checking_session.proofs.session.judge_after_start.Reads as judge-after-start-reads
+use Rattle.checking_session.proofs.session.judge_from_step.Reads as judge-from-step-reads
 use Rattle.numbers.proofs.number.wide.Reads as wide-reads
 
 -- src/session.rt:97:17
@@ -32,8 +32,8 @@ returns c =
     left-outside T v (a .at) (a .pairs) (c .before .before .enum-told .given .1) (c .before .before .before .before .before .before .before .before .before .before .before .before .pre .1 .1 .0) (sym (c .before .begins-inside .ensures) ∙ not-true _ (c .if1 .taken))
 
 -- src/session.rt:100:13
-judge-after-start-requires : tie.Need-judge-after-start-requires
-judge-after-start-requires c κs =
+judge-from-step-requires : tie.Need-judge-from-step-requires
+judge-from-step-requires c κs =
     let a = c .before .before .before .before .before .before .before .before .before .before .before .before .before .before .before .args in
     let T = tablesIn (a .h) (a .rows) (a .finals) (a .arcs) (a .roots) (a .entries) in
     let v = c .before .before .before .before .before .before .before .before .before .before .before .before .before .before .before .pre .0 in
@@ -49,8 +49,8 @@ wide-requires : tie.Need-wide-requires
 wide-requires c κs = search needs
 
 -- src/session.rt:115:31
-judge-after-start-requires-2 : tie.Need-judge-after-start-requires-2
-judge-after-start-requires-2 c κs =
+judge-from-step-requires-2 : tie.Need-judge-from-step-requires-2
+judge-from-step-requires-2 c κs =
     let a = c .before .before .before .before .before .before .before .before .before .before .before .before .before .before .before .args in
     let T = tablesIn (a .h) (a .rows) (a .finals) (a .arcs) (a .roots) (a .entries) in
     let v = c .before .before .before .before .before .before .before .before .before .before .before .before .before .before .before .pre .0 in
@@ -91,7 +91,7 @@ returns-2 c =
     let a = c .before .before .before .before .before .before .before .before .before .before .before .before .before .before .before .before .before .before .before .before .before .before .args in
     let T = tablesIn (a .h) (a .rows) (a .finals) (a .arcs) (a .roots) (a .entries) in
     let v = c .before .before .before .before .before .before .before .before .before .before .before .before .before .before .before .before .before .before .before .before .before .before .pre .0 in
-    left-inside T v (a .at) (a .pairs) (c .before .before .before .before .before .before .before .before .before .before .before .before .enum-told .given .1) (sym (c .before .before .before .before .before .before .before .before .before .before .before .begins-inside .ensures) ∙ not-false _ (c .before .before .before .before .before .before .before .before .before .before .if1 .left)) (c .before .before .before .before .before .before .judge-after-start .ensures)
+    left-inside T v (a .at) (a .pairs) (c .before .before .before .before .before .before .before .before .before .before .before .before .enum-told .given .1) (sym (c .before .before .before .before .before .before .before .before .before .before .before .begins-inside .ensures) ∙ not-false _ (c .before .before .before .before .before .before .before .before .before .before .if1 .left)) (c .before .before .before .before .before .before .judge-from-step .ensures)
 
 -- src/session.rt:76:1
 same-length-4 : tie.Need-same-length-4
@@ -111,7 +111,7 @@ returns-3 c =
     let a = c .before .before .before .before .before .before .before .before .before .before .before .before .before .before .before .before .before .before .before .before .before .before .args in
     let T = tablesIn (a .h) (a .rows) (a .finals) (a .arcs) (a .roots) (a .entries) in
     let v = c .before .before .before .before .before .before .before .before .before .before .before .before .before .before .before .before .before .before .before .before .before .before .pre .0 in
-    left-step T v (a .at) (a .pairs) _ _ (c .before .before .before .before .before .before .before .before .before .before .before .before .at .given .1) _ (c .before .before .before .before .before .before .before .before .before .before .wide .ensures .same) (c .before .before .before .before .before .before .judge-after-start2 .ensures)
+    left-step T v (a .at) (a .pairs) _ _ (c .before .before .before .before .before .before .before .before .before .before .before .before .at .given .1) _ (c .before .before .before .before .before .before .before .before .before .before .wide .ensures .same) (c .before .before .before .before .before .before .judge-from-step2 .ensures)
 
 -- src/session.rt:76:1
 same-length-7 : tie.Need-same-length-7
@@ -149,10 +149,10 @@ judge-from-spec =
     enum-told
     begins-inside-requires
     returns
-    judge-after-start-requires
+    judge-from-step-requires
     enum-known-at
     wide-requires
-    judge-after-start-requires-2
+    judge-from-step-requires-2
     enum-known-at-2
     judge-entries-requires
     enum-told-2

@@ -12,10 +12,10 @@ use Rattle.checking_session.specs.Laws.Links.{steps-link}
 use Rattle.checking_session.specs.Laws.Sequence.{begins, goes-on, joins}
 use Rattle.checking_session.proofs.Stops.{stops}
 use borrow.Author.Needs.{needs}
-use Rattle.checking_session.proofs.session.judge_after_start.Statement.{statement}
-use Rattle.checking_session.proofs.session.judge_after_start.Tie as tie
-use Rattle.checking_session.proofs.session.judge_after_start.Reads as reads
-use Rattle.checking_session.proofs.session.judge_after_start.Lts as lts
+use Rattle.checking_session.proofs.session.judge_from_step.Statement.{statement}
+use Rattle.checking_session.proofs.session.judge_from_step.Tie as tie
+use Rattle.checking_session.proofs.session.judge_from_step.Reads as reads
+use Rattle.checking_session.proofs.session.judge_from_step.Lts as lts
 use Rattle.checking_session.proofs.entries.judge_entries.Reads as judge-entries-reads
 use Rattle.checking_session.proofs.steps.judge_steps.Reads as judge-steps-reads
 
@@ -74,8 +74,8 @@ returns-2 c =
     let g = goes-on (decide (sessionOf T) (fromEntry (sessionOf T) 0)) (steps-link T (a .from) (a .first) (a .pairs)) _ _ (c .before .before .before .before .before .before .before .before .before .before .before .turn .given .1) (c .before .before .before .before .before .before .before .before .before .before .before .before .before .before .before .before .before .before .before .judge-steps .ensures) (begins (c .before .before .before .before .before .before .before .before .before .before .before .before .before .before .before .before .before .before .before .before .before .before .before .before .before .before .before .before .before .before .before .pre .1 .0) (c .before .before .before .before .before .before .before .before .before .before .before .before .before .before .before .before .before .before .before .before .before .before .before .before .before .before .before .before .before .before .before .pre .1 .1 .0)) in
     joins g (c .before .before .before .before .before .before .judge-entries .ensures)
 
-pub judge-after-start-spec : {M : Type 1} → statement M
-judge-after-start-spec =
+pub judge-from-step-spec : {M : Type 1} → statement M
+judge-from-step-spec =
     tie.close
     (tie.spec
     judge-steps-requires
