@@ -23,9 +23,10 @@ use Rattle.numbers.proofs.number.wide.Reads as wide-reads
 
 abbrev Inv-loop : tie.InvT-loop
 Inv-loop h rows finals arcs roots entries first pairs seen₀ queue₀ contents₀ count sum₀ b₀ seen queue contents sum b =
+    let S = sessionOf (tablesOf h rows finals arcs roots entries) in
     (Going (pairsToEntry b)
-    (decide (sessionOf (tablesOf h rows finals arcs roots entries)) (fromEntry (sessionOf (tablesOf h rows finals arcs roots entries)) first) pairs)
-    (decide (sessionOf (tablesOf h rows finals arcs roots entries)) (fromEntry (sessionOf (tablesOf h rows finals arcs roots entries)) b) sum) contents₀ sum contents seen queue
+    (decide S (fromEntry S first) pairs)
+    (decide S (fromEntry S b) sum) contents₀ sum contents seen queue
     × (b ≤ h .bad))
     × (count ≡ h .bad)
 

@@ -23,9 +23,10 @@ use Rattle.numbers.proofs.number.wide.Reads as wide-reads
 
 abbrev Inv-loop : tie.InvT-loop
 Inv-loop h rows finals arcs roots entries c first pairs seen₀ queue₀ contents₀ count sum₀ i₀ seen queue contents sum i =
+    let S = sessionOf (tablesOf h rows finals arcs roots entries) in
     (Going (pairsBefore (c .0) i)
-    (decide (sessionOf (tablesOf h rows finals arcs roots entries)) (stepsOn (sessionOf (tablesOf h rows finals arcs roots entries) .model) (c .0) first) pairs)
-    (decide (sessionOf (tablesOf h rows finals arcs roots entries)) (stepsOn (sessionOf (tablesOf h rows finals arcs roots entries) .model) (c .0) i) sum) contents₀ sum contents seen queue
+    (decide S (stepsOn (S .model) (c .0) first) pairs)
+    (decide S (stepsOn (S .model) (c .0) i) sum) contents₀ sum contents seen queue
     × (i ≤ h .transitions))
     × (count ≡ h .transitions)
 

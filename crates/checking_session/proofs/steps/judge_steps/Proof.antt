@@ -25,9 +25,10 @@ use Rattle.tables.proofs.kinds.ControlState.new.Reads as new-reads
 
 abbrev Inv-loop : tie.InvT-loop
 Inv-loop h rows finals arcs roots entries from first pairs seen₀ queue₀ contents₀ product sum₀ c₀ i₀ seen queue contents sum c i =
+    let S = sessionOf (tablesOf h rows finals arcs roots entries) in
     (Going (pairsBefore c i)
-    (decide (sessionOf (tablesOf h rows finals arcs roots entries)) (stepsLeft (sessionOf (tablesOf h rows finals arcs roots entries) .model) from first (controls (sessionOf (tablesOf h rows finals arcs roots entries) .model) - from)) pairs)
-    (decide (sessionOf (tablesOf h rows finals arcs roots entries)) (stepsLeft (sessionOf (tablesOf h rows finals arcs roots entries) .model) c i (controls (sessionOf (tablesOf h rows finals arcs roots entries) .model) - c)) sum) contents₀ sum contents seen queue
+    (decide S (stepsLeft (S .model) from first (controls (S .model) - from)) pairs)
+    (decide S (stepsLeft (S .model) c i (controls (S .model) - c)) sum) contents₀ sum contents seen queue
     × (i ≤ h .transitions))
     × (c * mostTransitions + i ≤ mostSteps)
 
