@@ -36,7 +36,9 @@ pub extern "C" fn measured_read(file: &[u8], i: usize) -> usize
     let mut finals = [0u8; DiagramState::LIMIT];
     let mut arcs = [0u8; POOL_ARCS];
     let read = read_into(file, &mut rows, &mut finals, &mut arcs);
-    let roots = read.roots;
+    let sets = read.sets;
+    let map = sets.map;
+    let roots = map.roots;
     sample(&rows, &finals, &arcs, roots, i)
 }
 

@@ -54,8 +54,11 @@ pub fn check(file: &[u8], seen: &mut [u16], queue: &mut [u16], contents: &mut [u
             blank(seen);
             blank(queue);
             let head = read.head;
-            let roots = read.roots;
-            let entries = read.entries;
+            let sets = read.sets;
+            let map = sets.map;
+            let roots = map.roots;
+            let bad = sets.bad;
+            let entries = bad.rows;
             judge_read(
                 head,
                 &rows,

@@ -21,7 +21,7 @@ abbrev pub lentReading : HeadRead → List ℕ → List ℕ → List ℕ → Rea
 lentReading h rows finals arcs =
     record {
       answer = h .answer;
-      tables = tablesOf (h .head) rows finals arcs (h .roots) (h .entries);
+      tables = tablesOf (h .head) rows finals arcs (h .sets .map .roots) (h .sets .bad .rows);
     }
 
 -- a lent table of n entries once it is cleared after a refusal

@@ -41,13 +41,12 @@ pub struct Reading {
     pub tables: Tables,
 }
 
-// What reading answers beside the three large tables. Those are lent: handed on by value they would be copied at every return. Roots and
-// entries stand apart: side by side they are copied as one, and that takes registers from the loops of reading, 3 percent of a long file.
+// What reading answers beside the three large tables. Those are lent: handed on by value they would be copied at every return. The sets stay as
+// they were read, and the answer comes last: in other orders the copies take registers from the loops of reading, up to a tenth of a file's time.
 pub struct HeadRead {
-    pub answer: Answer,
-    pub roots: [u8; MOST_CONTROLS],
+    pub sets: SetTables,
     pub head: Head,
-    pub entries: [u8; ENTRIES],
+    pub answer: Answer,
 }
 
 // All was read: a model, the number of the pool's states, and sets over it.
@@ -56,21 +55,16 @@ fn all_read(model: ModelRead, states: u8, sets: SetTables) -> HeadRead
 {
     let machines = model.machines;
     let queues = model.queues;
-    let map = sets.map;
-    let bad = sets.bad;
-    let roots = map.roots;
-    let entries = bad.rows;
     HeadRead {
-        answer: Answer::Read,
+        sets,
         head: Head {
             machines,
             queues,
             transitions: model.transitions,
             states,
-            bad: bad.count,
+            bad: sets.bad.count,
         },
-        roots,
-        entries,
+        answer: Answer::Read,
     }
 }
 
@@ -80,7 +74,15 @@ fn refused(why: Refusal) -> HeadRead
     let machines = empty_machines();
     let queues = empty_queues();
     HeadRead {
-        answer: Answer::Refused(why),
+        sets: SetTables {
+            map: Map {
+                roots: [0u8; MOST_CONTROLS],
+            },
+            bad: BadList {
+                count: 0,
+                rows: [0u8; ENTRIES],
+            },
+        },
         head: Head {
             machines,
             queues,
@@ -88,8 +90,7 @@ fn refused(why: Refusal) -> HeadRead
             states: 0,
             bad: 0,
         },
-        roots: [0u8; MOST_CONTROLS],
-        entries: [0u8; ENTRIES],
+        answer: Answer::Refused(why),
     }
 }
 
@@ -173,8 +174,10 @@ pub fn read(s: &[u8]) -> Reading
     let head = read.head;
     let machines = head.machines;
     let queues = head.queues;
-    let roots = read.roots;
-    let entries = read.entries;
+    let sets = read.sets;
+    let map = sets.map;
+    let bad = sets.bad;
+    let entries = bad.rows;
     Reading {
         answer,
         tables: Tables {
@@ -189,7 +192,7 @@ pub fn read(s: &[u8]) -> Reading
                 finals,
                 arcs,
             },
-            map: Map { roots },
+            map,
             bad: BadList {
                 count: head.bad,
                 rows: entries,

@@ -102,7 +102,9 @@ pub(crate) fn start(
     let head = read.head;
     let machines = head.machines;
     let queues = head.queues;
-    let roots = read.roots;
+    let sets = read.sets;
+    let map = sets.map;
+    let roots = map.roots;
     let progress = opening(answer, queues.count, trace.len(), memory.len());
     let record = record_for(r, machines, queues, progress.going);
     lay_for(memory, queues, progress.going);

@@ -45,8 +45,11 @@ fn gives(
     let mut read_arcs = [0u8; POOL_ARCS];
     let read = read_into(s, &mut read_rows, &mut read_finals, &mut read_arcs);
     let answer = read.answer;
-    let read_roots = read.roots;
-    let read_entries = read.entries;
+    let sets = read.sets;
+    let map = sets.map;
+    let read_roots = map.roots;
+    let bad = sets.bad;
+    let read_entries = bad.rows;
     match answer {
         Answer::Refused(_) => false,
         Answer::Read => same_tables(
