@@ -23,7 +23,7 @@ record-for-requires c κs = search needs
 
 -- src/start.rt:108:5
 lay-for-requires : tie.Need-lay-for-requires
-lay-for-requires c κs = opens-layable _ _ _ (c .before .before .before .before .before .before .before .read-into .ensures) (c .before .before .opening .ensures)
+lay-for-requires c κs = opens-layable _ _ _ (c .before .before .before .before .before .before .before .before .before .read-into .ensures) (c .before .before .opening .ensures)
 
 -- src/start.rt:88:1
 same-length : tie.Need-same-length
@@ -31,7 +31,7 @@ same-length c = search needs
 
 -- src/start.rt:88:1
 returns : tie.Need-returns
-returns c = begins _ _ _ _ _ (c .before .before .before .before .before .before .before .before .before .before .read-into .ensures) (c .before .before .before .before .before .opening .ensures) (rw (← c .before .before .before .before .record-for .ensures)) (c .before .before .lay-for .ensures)
+returns c = begins _ _ _ _ _ (c .before .before .before .before .before .before .before .before .before .before .before .before .read-into .ensures) (c .before .before .before .before .before .opening .ensures) (rw (← c .before .before .before .before .record-for .ensures)) (c .before .before .lay-for .ensures)
 
 pub start-spec : {M : Type 1} → statement M
 start-spec =

@@ -24,15 +24,15 @@ enum-told-2 c = search needs
 
 -- src/write.rt:53:13
 slice-aggregate-same-tables : tie.Need-slice-aggregate-same-tables
-slice-aggregate-same-tables c = sym (answer-valid _ _ (c .before .before .before .before .before .read-into .ensures) (ap saidAnswer (c .before .enum-told2 .given .1)) .transitions .long)
+slice-aggregate-same-tables c = sym (answer-valid _ _ (c .before .before .before .before .before .before .before .before .read-into .ensures) (ap saidAnswer (c .before .enum-told2 .given .1)) .transitions .long)
 
 -- src/write.rt:54:13
 slice-aggregate-same-tables-2 : tie.Need-slice-aggregate-same-tables-2
-slice-aggregate-same-tables-2 c = sym (answer-valid _ _ (c .before .before .before .before .before .before .read-into .ensures) (ap saidAnswer (c .before .before .enum-told2 .given .1)) .pool .finalsLong)
+slice-aggregate-same-tables-2 c = sym (answer-valid _ _ (c .before .before .before .before .before .before .before .before .before .read-into .ensures) (ap saidAnswer (c .before .before .enum-told2 .given .1)) .pool .finalsLong)
 
 -- src/write.rt:55:13
 slice-aggregate-same-tables-3 : tie.Need-slice-aggregate-same-tables-3
-slice-aggregate-same-tables-3 c = sym (answer-valid _ _ (c .before .before .before .before .before .before .before .read-into .ensures) (ap saidAnswer (c .before .before .before .enum-told2 .given .1)) .pool .arcsLong)
+slice-aggregate-same-tables-3 c = sym (answer-valid _ _ (c .before .before .before .before .before .before .before .before .before .before .read-into .ensures) (ap saidAnswer (c .before .before .before .enum-told2 .given .1)) .pool .arcsLong)
 
 slice-aggregate-same-tables-4 : tie.Need-slice-aggregate-same-tables-4
 slice-aggregate-same-tables-4 c = search needs
@@ -46,11 +46,11 @@ same-tables-requires c κs = search needs
 
 -- src/write.rt:27:1
 returns : tie.Need-returns
-returns c = gives-refused _ _ (c .before .before .before .before .read-into .ensures) _ _ _ (ap saidAnswer (c .enum-told .given .1))
+returns c = gives-refused _ _ (c .before .before .before .before .before .before .before .read-into .ensures) _ _ _ (ap saidAnswer (c .enum-told .given .1))
 
 -- src/write.rt:27:1
 returns-2 : tie.Need-returns-2
-returns-2 c = gives-read _ _ (c .before .before .before .before .before .before .before .before .before .before .read-into .ensures) _ (ap saidAnswer (c .before .before .before .before .before .before .enum-told2 .given .1)) (c .same-tables .ensures)
+returns-2 c = gives-read _ _ (c .before .before .before .before .before .before .before .before .before .before .before .before .before .read-into .ensures) _ (ap saidAnswer (c .before .before .before .before .before .before .enum-told2 .given .1)) (c .same-tables .ensures)
 
 pub gives-spec : {M : Type 1} → statement M
 gives-spec =
