@@ -62,11 +62,11 @@ slice-aggregate-judge-read-3 c = sym (read-valid _ (c .before .before .before .b
 
 -- src/check.rt:65:17
 slice-aggregate-judge-read-4 : tie.Need-slice-aggregate-judge-read-4
-slice-aggregate-judge-read-4 c = search needs
+slice-aggregate-judge-read-4 c = sym (read-valid _ (c .before .before .before .before .before .before .before .before .before .before .before .before .before .before .before .before .before .before .before .before .read-into .ensures) (c .before .before .before .before .before .before .before .before .before .before .before .before .before .before .before .before .before .before .enum-told .given .1) .map .long)
 
 -- src/check.rt:66:17
 slice-aggregate-judge-read-5 : tie.Need-slice-aggregate-judge-read-5
-slice-aggregate-judge-read-5 c = search needs
+slice-aggregate-judge-read-5 c = sym (read-valid _ (c .before .before .before .before .before .before .before .before .before .before .before .before .before .before .before .before .before .before .before .before .before .read-into .ensures) (c .before .before .before .before .before .before .before .before .before .before .before .before .before .before .before .before .before .before .before .enum-told .given .1) .bad .long)
 
 -- src/check.rt:60:13
 judge-read-requires : tie.Need-judge-read-requires

@@ -35,10 +35,10 @@ slice-aggregate-same-tables-3 : tie.Need-slice-aggregate-same-tables-3
 slice-aggregate-same-tables-3 c = sym (answer-valid _ _ (c .before .before .before .before .before .before .before .before .before .before .read-into .ensures) (ap saidAnswer (c .before .before .before .enum-told2 .given .1)) .pool .arcsLong)
 
 slice-aggregate-same-tables-4 : tie.Need-slice-aggregate-same-tables-4
-slice-aggregate-same-tables-4 c = search needs
+slice-aggregate-same-tables-4 c = sym (answer-valid _ _ (c .before .before .before .before .before .before .before .before .before .before .before .read-into .ensures) (ap saidAnswer (c .before .before .before .before .enum-told2 .given .1)) .map .long)
 
 slice-aggregate-same-tables-5 : tie.Need-slice-aggregate-same-tables-5
-slice-aggregate-same-tables-5 c = search needs
+slice-aggregate-same-tables-5 c = sym (answer-valid _ _ (c .before .before .before .before .before .before .before .before .before .before .before .before .read-into .ensures) (ap saidAnswer (c .before .before .before .before .before .enum-told2 .given .1)) .bad .long)
 
 -- src/write.rt:45:25
 same-tables-requires : tie.Need-same-tables-requires
