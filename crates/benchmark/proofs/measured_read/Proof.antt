@@ -19,7 +19,7 @@ sample-requires c κs = search needs
 
 -- src/lib.rt:31:1
 returns : tie.Need-returns
-returns c = c .sample .ensures ∙ ap (λ (T : Tables). sampled T (c .before .before .before .before .before .before .before .before .before .before .args .i)) (c .before .before .before .before .before .read-into .ensures .tables)
+returns c = c .sample .ensures ∙ ap (λ (T : Tables). sampled T (c .before .before .before .before .before .before .before .before .before .before .before .before .args .i)) (c .before .before .before .before .before .before .before .read-into .ensures .tables)
 
 pub measured-read-spec : {M : Type 1} → statement M
 measured-read-spec = tie.close (tie.spec read-into-requires sample-requires returns)
