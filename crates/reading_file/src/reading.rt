@@ -42,7 +42,7 @@ pub struct Reading {
 }
 
 // What reading answers beside the three large tables. Those are lent: handed on by value they would be copied at every return. The sets stay as
-// they were read, and the answer comes last: in other orders the copies take registers from the loops of reading, some percent of a file's time.
+// they were read. The order of the fields moves the instructions of reading by some percent, by another amount for each file.
 pub struct HeadRead {
     pub sets: SetTables,
     pub head: Head,
