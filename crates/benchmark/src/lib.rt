@@ -1,4 +1,6 @@
 // What the benchmark calls: the services as C functions.
+#![tactic(auto)]
+
 ghost use Rattle.std.specs.Prelude.{◌≡◌};
 ghost use Rattle.reading_file.specs.File.{read_file, tables_read};
 ghost use Rattle.benchmark.specs.Measured.{together, sampled, told_of, Told};

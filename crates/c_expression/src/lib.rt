@@ -1,2 +1,4 @@
 // What C is told of an expression: its reply, and its pool as bytes.
+#![tactic(auto)]
+
 pub mod drawn;

@@ -1,4 +1,6 @@
 // The answer to a file: the verdict on it, as the line that the program prints.
+#![tactic(auto)]
+
 ghost use Rattle.checking_answer.specs.Answer.{Answers, Lines, WholeLine};
 
 use checking_file::check::{MOST_SHOWN, TABLE_LEAST, check};

@@ -1,4 +1,6 @@
 // One item of a session, judged by itself: the start, a step, a bad entry.
+#![tactic(auto)]
+
 pub mod begin;
 mod cut;
 pub mod far;

@@ -1,3 +1,5 @@
 // The line that the program prints, written into a buffer.
+#![tactic(auto)]
+
 mod put;
 pub mod verdict;

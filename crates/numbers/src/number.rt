@@ -7,7 +7,7 @@ use crate::reader::{number_at, two_at};
 use crate::refusal::Refusal;
 
 // A number and the place after it.
-#[derive(Drop)]
+#[derive(Clone, Copy)]
 pub enum Number {
     Value(usize, usize),
     Refused(Refusal),

@@ -76,7 +76,7 @@ pub const TOO_MANY_STATES: usize = 22;
 // A file that resumes, and all its queues start empty.
 pub const STARTS_EMPTY: usize = 23;
 
-#[derive(Drop)]
+#[derive(Clone, Copy)]
 pub enum Refusal {
     // more bytes than an input may have
     TooLong,

@@ -1,4 +1,6 @@
 // Queues in lent memory: each in a ring of its own while a replay runs, from the ring's first byte on at its start; oldest first and then 0 at its end.
+#![tactic(auto)]
+
 pub mod follow;
 pub mod laying;
 pub mod settle;

@@ -1,4 +1,6 @@
 // Fronts of lent memory, filled from standard input and printed to standard output.
+#![tactic(auto)]
+
 pub mod files;
 pub mod input;
 pub mod lent;

@@ -1,4 +1,6 @@
 // Reads a session file from standard input and prints the line of its verdict.
+#![tactic(auto)]
+
 use checking_answer::{MOST_LINE, whole_line};
 use streams::input::{Input, read_input};
 use streams::print_front;

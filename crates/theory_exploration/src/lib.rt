@@ -1,1 +1,3 @@
 // Mathematics alone: exploring a deterministic labelled graph. What is defined and proved stands in specs/.
+#![tactic(auto)]
+

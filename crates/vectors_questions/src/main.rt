@@ -1,4 +1,6 @@
 // Answers a stream of records by their lines: files that are checked, with memory enough or too little, questions of membership, replays.
+#![tactic(auto)]
+
 mod lent;
 mod members;
 mod memory;

@@ -1,4 +1,6 @@
 // Answers a stream of records by a line each: files that are read, tables that are written, texts that are drawn.
+#![tactic(auto)]
+
 mod digest;
 mod edited;
 mod product;

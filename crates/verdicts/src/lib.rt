@@ -1,2 +1,4 @@
 // The verdict on a session, which checking gives, programs print and C is told.
+#![tactic(auto)]
+
 pub mod verdict;
