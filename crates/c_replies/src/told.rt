@@ -38,7 +38,7 @@ pub const WRITTEN: usize = 14;
 // Entries that the reply's space needs.
 pub const REPLY_LEAST: usize = 4;
 
-#[derive(Drop)]
+#[derive(Clone, Copy)]
 pub struct Told {
     pub kind: usize,
     pub first: usize,

@@ -11,7 +11,7 @@ use tables::tables::{KIND, LENGTH, QUEUE, Queues};
 
 // How an action parts the contents: the side it starts on, the first message that is read after it, and how many messages of
 // its word are taken out and put in.
-#[derive(Drop)]
+#[derive(Clone, Copy)]
 pub struct Cut {
     pub side: usize,
     pub cut: u8,

@@ -15,7 +15,7 @@ use tables::kinds::{Message, Reached};
 use tables::lookup::{Arc, along, arc_at};
 
 // Where a letter leads: to the pair with this code, or nowhere.
-#[derive(Drop)]
+#[derive(Clone, Copy)]
 pub enum Next {
     Pair(usize),
     Nowhere,

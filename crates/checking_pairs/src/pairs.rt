@@ -6,7 +6,7 @@ use numbers::number::wide;
 use tables::kinds::{DiagramState, Reached};
 
 // What a walk needs of its step or bad entry. Before it only messages below the cut are read, after it only those from the cut on.
-#[derive(Drop)]
+#[derive(Clone, Copy)]
 pub struct Walk {
     pub cut: u8,
     // The number of all messages.
@@ -19,7 +19,7 @@ pub struct Walk {
     pub entry: bool,
 }
 
-#[derive(Drop)]
+#[derive(Clone, Copy)]
 pub struct Node {
     pub side: usize,
     pub source: DiagramState,

@@ -15,7 +15,7 @@ use checking_pairs::pairs::{Node, Walk, node_of};
 use tables::kinds::Message;
 
 // The parent's place in the queue, and the letter.
-#[derive(Drop)]
+#[derive(Clone, Copy)]
 pub struct Edge {
     pub parent: usize,
     pub letter: u8,

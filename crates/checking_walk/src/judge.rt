@@ -12,7 +12,7 @@ use checking_pairs::marks::clear;
 use checking_pairs::pairs::{Node, Walk};
 
 // No pair fails, and so many there are; or so many messages are shown.
-#[derive(Drop)]
+#[derive(Clone, Copy)]
 pub enum Judged {
     Passes(usize),
     Fails(usize),

@@ -18,7 +18,7 @@ use tables::lookup::is_final;
 
 // What a search finds: the first failing pair's place in the queue and how many pairs were found by then, or that none fails
 // and how many there are.
-#[derive(Drop)]
+#[derive(Clone, Copy)]
 pub enum Outcome {
     Found(usize, usize),
     Finished(usize),

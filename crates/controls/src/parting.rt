@@ -10,7 +10,7 @@ use tables::tables::Machines;
 
 // A control state parted at a machine: what the machines before it give, what is left, and how many control states one state
 // of the machine takes.
-#[derive(Drop)]
+#[derive(Clone, Copy)]
 pub struct Parted {
     pub base: usize,
     pub rest: usize,

@@ -15,7 +15,7 @@ use tables::tables::{POOL_ARCS, Pool};
 // The most bytes of a text.
 pub const MOST_TEXT: usize = 256;
 
-#[derive(Drop)]
+#[derive(Clone, Copy)]
 pub enum Reply {
     // the state from which just the language is accepted
     Root(DiagramState),
@@ -29,7 +29,7 @@ pub enum Reply {
     TooManyStates,
 }
 
-#[derive(Drop)]
+#[derive(Clone, Copy)]
 pub struct Drawing {
     pub reply: Reply,
     pub pool: Pool,

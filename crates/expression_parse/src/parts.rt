@@ -8,7 +8,7 @@ use expression_sets::sets::{MOST_OCCURRENCES, connect, joined, only, put, when};
 
 // A part that was read: the place behind it and its spaces, the number of the next occurrence, the occurrences that may begin and end its
 // words, and whether the empty word is one of them.
-#[derive(Drop)]
+#[derive(Clone, Copy)]
 pub struct Part {
     pub next: usize,
     pub count: usize,
@@ -18,7 +18,7 @@ pub struct Part {
 }
 
 // What reading a part answers: the part, or the place where the text leaves the grammar.
-#[derive(Drop)]
+#[derive(Clone, Copy)]
 pub enum Step {
     Read(Part),
     Stuck(usize),

@@ -8,7 +8,7 @@ ghost use Rattle.expression_scan.specs.Runs.{RunAt};
 pub const MESSAGE_LIMIT: u8 = 32;
 
 // The number of a run of digits, and the place behind it.
-#[derive(Drop)]
+#[derive(Clone, Copy)]
 pub struct Run {
     pub value: u8,
     pub next: usize,

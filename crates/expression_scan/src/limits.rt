@@ -13,7 +13,7 @@ const MOST_DEPTH: usize = 8;
 const KEPT: usize = 0;
 
 // The limit that a byte passes.
-#[derive(Drop)]
+#[derive(Clone, Copy)]
 pub enum Excess {
     // a number that is no message's
     Large,
@@ -24,7 +24,7 @@ pub enum Excess {
 }
 
 // All within the limits, or what passes one leftmost, and its place.
-#[derive(Drop)]
+#[derive(Clone, Copy)]
 pub enum Limit {
     Kept,
     Passed(Excess, usize),

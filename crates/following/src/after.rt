@@ -15,7 +15,7 @@ use tables::tables::{CONTENTS_LEAST, MOST_WORD};
 
 // What a step makes of contents: behind the messages below the cut so many are taken out, and the first ones of the word at this entry of the
 // table are put in.
-#[derive(Drop)]
+#[derive(Clone, Copy)]
 pub struct Exchange {
     pub cut: u8,
     pub out: usize,

@@ -14,7 +14,7 @@ use tables::lookup::{Arc, arc_from};
 use tables::tables::MOST_WORD;
 
 // Where messages lead: to the row of a state, or nowhere after so many of them.
-#[derive(Drop)]
+#[derive(Clone, Copy)]
 pub enum Followed {
     At(usize),
     Lost(usize),

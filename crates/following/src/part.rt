@@ -11,7 +11,7 @@ use crate::rows::{row_of, state_of};
 use tables::kinds::Reached;
 
 // Where a part leads, and how many of its messages are followed.
-#[derive(Drop)]
+#[derive(Clone, Copy)]
 pub struct Extent {
     pub to: Reached,
     pub far: usize,

@@ -1,7 +1,7 @@
 // What membership answers.
 use numbers::refusal::Refusal;
 
-#[derive(Drop)]
+#[derive(Clone, Copy)]
 pub enum Member {
     // with how many messages are followed: of a yes, all of them
     Yes(usize),

@@ -1,6 +1,6 @@
 -- The numbers of a session file (document 01, "The session file"): groups of seven bits, low group first.
 use Rattle.std.specs.Prelude.{cond, ℕ, ◌+◌, ◌-◌, ◌*◌, List, length, get_or, ltb, leb}
-use Rattle.numbers.specs.Part.{Part, got, refused, provided, and_then}
+use Rattle.numbers.specs.Part.{Part, got, provided, and_then}
 use Rattle.numbers.specs.Refusals.{ends_early, not_shortest, out_of_range}
 
 -- one byte below 128, or two: the first with its top bit set, the second neither 0 nor with its top bit set

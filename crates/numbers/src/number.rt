@@ -14,21 +14,21 @@ pub enum Number {
 }
 
 // The value of a field, which is in its range, and the place after it.
-#[derive(Drop)]
+#[derive(Clone, Copy)]
 pub enum Field {
     Value(u8, usize),
     Refused(Refusal),
 }
 
 // Two values, one after the other, and the place after them.
-#[derive(Drop)]
+#[derive(Clone, Copy)]
 pub enum Pair {
     Values(u8, u8, usize),
     Refused(Refusal),
 }
 
 // A table was filled, up to this place.
-#[derive(Drop)]
+#[derive(Clone, Copy)]
 pub enum Filled {
     To(usize),
     Refused(Refusal),

@@ -15,7 +15,7 @@ pub struct Reader<'a> {
 }
 
 // Two numbers, one after the other, and the place that their reader has come to.
-#[derive(Drop)]
+#[derive(Clone, Copy)]
 pub struct Two {
     pub first: Number,
     pub second: Number,

@@ -7,7 +7,7 @@ ghost use Rattle.reading_file.specs.Bad.{read_entries, read_bad};
 use numbers::number::{Field, Filled, Pair, read_two, read_within, wide};
 use tables::tables::{BadList, ENTRIES, ENTRY, MOST_BAD};
 
-#[derive(Drop)]
+#[derive(Clone, Copy)]
 pub struct BadRead {
     pub filled: Filled,
     pub bad: BadList,

@@ -7,7 +7,7 @@ ghost use Rattle.reading_file.specs.Map.{read_roots, read_map};
 use numbers::number::{Field, Filled, read_within};
 use tables::tables::{MOST_CONTROLS, Map};
 
-#[derive(Drop)]
+#[derive(Clone, Copy)]
 pub struct MapRead {
     pub filled: Filled,
     pub map: Map,

@@ -20,14 +20,14 @@ use tables::tables::{
     BadList, ENTRIES, MOST_CONTROLS, Map, POOL_ARCS, Pool, ROWS, SetTables, Tables, Transitions,
 };
 
-#[derive(Drop)]
+#[derive(Clone, Copy)]
 pub enum Answer {
     Read,
     Refused(Refusal),
 }
 
 // The answer, and the tables: all entries 0 after a refusal.
-#[derive(Drop)]
+#[derive(Clone, Copy)]
 pub struct Reading {
     pub answer: Answer,
     pub tables: Tables,
@@ -35,7 +35,7 @@ pub struct Reading {
 
 // What reading answers beside the three large tables. Those are lent: handed on by value they would be copied at every return. The sets stay as
 // they were read. The order of the fields moves the instructions of reading by some percent, by another amount for each file.
-#[derive(Drop)]
+#[derive(Clone, Copy)]
 pub struct HeadRead {
     pub sets: SetTables,
     pub head: Head,

@@ -9,7 +9,7 @@ use crate::map::read_map;
 use numbers::number::Filled;
 use tables::tables::{BadList, ENTRIES, SetTables};
 
-#[derive(Drop)]
+#[derive(Clone, Copy)]
 pub struct SetsRead {
     pub filled: Filled,
     pub sets: SetTables,

@@ -15,7 +15,7 @@ use tables::empty::{empty_machines, empty_queues};
 use tables::tables::{Machines, Queues, ROWS};
 
 // The table of the transitions is lent: it is large, and would be copied at every return.
-#[derive(Drop)]
+#[derive(Clone, Copy)]
 pub struct ModelRead {
     pub filled: Filled,
     pub machines: Machines,

@@ -12,7 +12,7 @@ use tables::empty::empty_machines;
 use tables::tables::{MOST_CONTROLS, MOST_MACHINES, MOST_STATES, Machines};
 
 // The file resumes if it says what waits at the start.
-#[derive(Drop)]
+#[derive(Clone, Copy)]
 pub struct MachinesRead {
     pub filled: Filled,
     pub resumes: bool,

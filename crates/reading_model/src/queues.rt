@@ -10,7 +10,7 @@ use numbers::refusal::Refusal;
 use tables::empty::empty_queues;
 use tables::tables::{MOST_MESSAGES, MOST_QUEUES, Queues, STARTING};
 
-#[derive(Drop)]
+#[derive(Clone, Copy)]
 pub struct QueuesRead {
     pub filled: Filled,
     pub queues: Queues,

@@ -16,7 +16,7 @@ use tables::tables::{
     FROM, KIND, LENGTH, MOST_TRANSITIONS, MOST_WORD, Machines, QUEUE, Queues, ROW, ROWS, TO, WORD,
 };
 
-#[derive(Drop)]
+#[derive(Clone, Copy)]
 pub struct TransitionsRead {
     pub filled: Filled,
     pub count: u8,

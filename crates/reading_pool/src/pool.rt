@@ -13,7 +13,7 @@ use tables::kinds::DiagramState;
 use tables::tables::{ARCS, MOST_POOL, POOL_ARCS};
 
 // Its two tables are lent: they are large, and would be copied at every return.
-#[derive(Drop)]
+#[derive(Clone, Copy)]
 pub struct PoolRead {
     pub filled: Filled,
     pub count: u8,

@@ -16,7 +16,7 @@ use tables::kinds::{DiagramState, Reached};
 use tables::tables::MOST_QUEUES;
 
 // Where what waits leads: to a state, or nowhere after so many messages.
-#[derive(Drop)]
+#[derive(Clone, Copy)]
 pub enum Led {
     To(DiagramState),
     Lost(usize),

@@ -12,7 +12,7 @@ use tables::lookup::{is_final, root_of};
 use tables::tables::{MOST_MACHINES, MOST_QUEUES};
 
 // Outside, so many messages of what waits are followed.
-#[derive(Drop)]
+#[derive(Clone, Copy)]
 pub enum Position {
     Inside,
     Outside(usize),

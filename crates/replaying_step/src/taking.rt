@@ -7,7 +7,7 @@ use replaying_queues::words::{begins, put_word};
 use tables::tables::{FROM, KIND, LENGTH, MOST_MACHINES, MOST_QUEUES, QUEUE, ROW, TO, WORD};
 
 // Whether a transition was taken.
-#[derive(Drop)]
+#[derive(Clone, Copy)]
 pub enum Took {
     Yes,
     // its machine is in another state, or its queue does not begin with its word

@@ -5,7 +5,7 @@ use tables::head::Head;
 use tables::tables::MOST_CONTROLS;
 
 // Why a replay ended. Places of a step are in the trace.
-#[derive(Drop)]
+#[derive(Clone, Copy)]
 pub enum Stop {
     // the end of the trace
     End,
@@ -26,7 +26,7 @@ pub enum Stop {
 }
 
 // Whether a replay goes on, and why not; the place in the trace that it has come to, and the steps taken.
-#[derive(Drop)]
+#[derive(Clone, Copy)]
 pub struct Progress {
     pub going: bool,
     pub why: Stop,
@@ -34,21 +34,21 @@ pub struct Progress {
     pub steps: usize,
 }
 
-#[derive(Drop)]
+#[derive(Clone, Copy)]
 pub struct Ended {
     pub why: Stop,
     pub steps: usize,
 }
 
 // After a replay.
-#[derive(Drop)]
+#[derive(Clone, Copy)]
 pub struct Replayed {
     pub record: RunRecord,
     pub ended: Ended,
 }
 
 // Before the first step, with the small tables of the file; the large ones lie in the arrays that they were read into.
-#[derive(Drop)]
+#[derive(Clone, Copy)]
 pub struct Begun {
     pub record: RunRecord,
     pub progress: Progress,

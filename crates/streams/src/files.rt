@@ -7,14 +7,14 @@ use crate::fill_front;
 use numbers::number::wide;
 
 // A file of so many bytes at the front of the space, or the end of the stream.
-#[derive(Drop)]
+#[derive(Clone, Copy)]
 pub enum NextFile {
     File(usize),
     Nothing,
 }
 
 // The byte that says what is asked, or the end of the stream.
-#[derive(Drop)]
+#[derive(Clone, Copy)]
 pub enum Tag {
     Byte(u8),
     Nothing,

@@ -4,19 +4,19 @@ ghost use Rattle.tables.specs.Limits.{most_controls, most_pool, most_messages};
 ghost use Rattle.tables.specs.Kinds.{limited};
 
 // The joint state of all machines, machine 0 most significant.
-#[derive(Drop)]
+#[derive(Clone, Copy)]
 pub struct ControlState(pub u8);
 
 // A state of the pool that all diagrams share.
-#[derive(Drop)]
+#[derive(Clone, Copy)]
 pub struct DiagramState(pub u8);
 
 // Where a word has led: to a diagram state, or nowhere.
-#[derive(Drop)]
+#[derive(Clone, Copy)]
 pub struct Reached(pub u8);
 
 // A message, numbered through the queues.
-#[derive(Drop)]
+#[derive(Clone, Copy)]
 pub struct Message(pub u8);
 
 impl ControlState {

@@ -11,7 +11,7 @@ use crate::tables::ARCS;
 use numbers::number::{entry, wide};
 
 // Where an arc leads.
-#[derive(Drop)]
+#[derive(Clone, Copy)]
 pub enum Arc {
     Target(DiagramState),
     Nowhere,

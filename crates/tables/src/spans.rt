@@ -5,7 +5,7 @@ use crate::tables::MOST_QUEUES;
 use numbers::number::{entry, wide};
 
 // The messages of a queue: from lo on and below hi.
-#[derive(Drop)]
+#[derive(Clone, Copy)]
 pub struct Span {
     pub lo: usize,
     pub hi: usize,

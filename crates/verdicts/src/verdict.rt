@@ -2,7 +2,7 @@
 use numbers::refusal::Refusal;
 use tables::kinds::ControlState;
 
-#[derive(Drop)]
+#[derive(Clone, Copy)]
 pub enum Verdict {
     // nothing fails: the pairs visited
     Closed(usize),

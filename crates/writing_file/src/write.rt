@@ -16,7 +16,7 @@ use tables::tables::{
 use writing_fields::file::put_file;
 
 // How many bytes were written, or why none were: no file is read into these tables, or the buffer is shorter than the file.
-#[derive(Drop)]
+#[derive(Clone, Copy)]
 pub enum Written {
     Length(usize),
     NotReadable,
