@@ -47,6 +47,7 @@ module _ {A B : Type 0} (f : A → B) where
   mem_map (there m) = there (mem_map m)
 
   pub map_mem : (y : B) (l : List A) → Mem y (map f l) → (x : A) × Mem x l × (f x ≡ y)
+  map_mem y [] x' = elim x' [ ]
   map_mem y (x ∷ l) (here e) = (x, here refl, sym e)
   map_mem y (x ∷ l) (there m) = let r = map_mem y l m in (r.0, there r.1, r.2)
 
