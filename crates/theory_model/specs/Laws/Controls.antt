@@ -14,10 +14,14 @@ number_places [] c h = omega arith
 number_places (k ∷ ks) c h = ap (λ (r : ℕ). c / sizes_product ks * sizes_product ks + r) (number_places ks (c % sizes_product ks) (mod-lt c (factor_positive k (sizes_product ks) c h))) ∙ div-add-mod' c (sizes_product ks)
 
 pub number_below : (ks ps : List ℕ) → States ks ps → number ks ps < sizes_product ks
+number_below [] (p ∷ ps) s = elim s [ ]
+number_below (k ∷ ks) [] s = elim s [ ]
 number_below [] [] s = omega arith
 number_below (k ∷ ks) (p ∷ ps) s = digits_lt s.0 (number_below ks ps s.1)
 
 pub places_number : (ks ps : List ℕ) → States ks ps → places ks (number ks ps) ≡ ps
+places_number [] (p ∷ ps) s = elim s [ ]
+places_number (k ∷ ks) [] s = elim s [ ]
 places_number [] [] s = refl
 places_number (k ∷ ks) (p ∷ ps) s =
     ap₂ {C = List ℕ} (λ x xs. x ∷ xs)
@@ -31,6 +35,8 @@ places_are_states (k ∷ ks) c h =
     ((div-lt_iff_lt-mul positive).1 h, places_are_states ks (c % sizes_product ks) (mod-lt c positive))
 
 pub states_set : (ks ps : List ℕ) (m p : ℕ) → p < get_or ks m 0 → States ks ps → States ks (set ps m p)
+states_set [] (x ∷ ps) m p h s = elim h [ ]
+states_set (k ∷ ks) [] m p h s = elim s [ ]
 states_set [] [] m p h s = tt
 states_set (k ∷ ks) (x ∷ ps) zero p h s = (h, s.1)
 states_set (k ∷ ks) (x ∷ ps) (suc m) p h s = (s.0, states_set ks ps m p h s.1)

@@ -76,6 +76,7 @@ in_queues (n ∷ ns) k u f b =
     (x ∷ qs, queue c own, ap (λ l. x ++ l) w ∙ sym p)
 
 mem_parts : (n : ℕ) (u : List ℕ) → Mem n u → (a b : List ℕ) × (u ≡ a ++ (n ∷ b))
+mem_parts n [] x' = elim x' [ ]
 mem_parts n (m ∷ u) (here e) = ([], u, ap {B = List ℕ} (λ k. k ∷ u) (sym e))
 mem_parts n (m ∷ u) (there k) = let (a, b, e) = mem_parts n u k in (m ∷ a, b, ap {B = List ℕ} (λ y. m ∷ y) e)
 
@@ -121,6 +122,7 @@ in_order ns u b order =
 
 -- AND BACK: the word of some queues is not out of order
 between_each : {lo hi : ℕ} (u : List ℕ) → Between lo hi u → (n : ℕ) → Mem n u → (lo ≤ n) × (n < hi)
+between_each {lo = lo} {hi = hi} [] _ n x3 = elim x3 [ ]
 between_each (m ∷ u) (message l h b) n (here e) = (omega arith, omega arith)
 between_each (m ∷ u) (message l h b) n (there k) = between_each u b n k
 

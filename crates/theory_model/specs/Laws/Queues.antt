@@ -88,7 +88,7 @@ one_split (queue {q = q} {qs = qs} own rest) (queue {q = q'} {qs = qs'} own' res
 
 pub all_empty : {k : ℕ} (ns : List ℕ) → Own k ns (map (λ n. []) ns)
 all_empty [] = none_left
-all_empty (n ∷ ns) = queue nothing (all_empty ns)
+all_empty {k = k} (n ∷ ns) = queue nothing (all_empty {k = k + n} ns)
 
 pub word_empty : (ns : List ℕ) → word (map (λ n. []) ns) ≡ []
 word_empty [] = refl

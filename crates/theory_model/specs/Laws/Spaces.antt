@@ -24,6 +24,7 @@ module _ {A B C : Type 0} (f : A → B → C) where
 
   grid_each : {x : A} {y : B} (xs : List A) (ys : List B) → Mem x xs → Mem y ys → Mem (f x y) (grid xs ys)
   unfolding grid
+  grid_each {x = x} {y = y} [] ys x3 m = elim x3 [ ]
   grid_each {x} {y} (x' ∷ xs) ys (here e) m = Memᴰ.append_left (grid xs ys) (Memᴰ.cast (ap (λ a. f a y) e) (Memᴰ.map (f x') m))
   grid_each (x' ∷ xs) ys (there n) m = Memᴰ.append_right (map (f x') ys) (grid_each xs ys n m)
 
