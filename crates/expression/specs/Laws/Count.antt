@@ -1,7 +1,7 @@
 -- A diagram is refused for its states exactly if there are more of them than it may have.
 use Rattle.std.specs.Prelude.{◌≡◌, refl, ◌↔◌, true, ℕ, ◌^◌, ◌≤◌, ◌<◌, eqb, length}
 use Rattle.std.proofs.Common.{sym, ap, subst, ◌∙◌, inl, inr, arith}
-use Rattle.std.proofs.Math.Logic.{Iff·symm, Iff·trans}
+use mathlib.Core.Logic.Iff
 use Rattle.std.proofs.Math.Option.{Option, none, some, some-injective}
 use mathlib.Core.List.{List, [], ◌∷◌, reverse, cons-ne-nil}
 use Rattle.std.proofs.lemmas.List.{length-map, length-reverse}
@@ -72,7 +72,7 @@ module _ (t : Tree) (small : size t ≤ most_occurrences) (low : Low t) where
       go none e = absurd (node_none t small low w e s.some_occurrence.0 s.some_occurrence.1)
       go (some y) e =
           let n = node_set t small low w (cons-ne-nil s.message s.rest) y e in
-          let same : y ≡ x = same_members y x (λ p. Iff·trans (n.members p) (Iff·symm (s.members p))) in
+          let same : y ≡ x = same_members y x (λ p. Iff.trans (n.members p) (Iff.symm (s.members p))) in
           (reverse w, e ∙ ap some same)
 
   states_reached : (x : ℕ) → ReachedFrom most_messages (move A) 0 x ↔ StateOf t x

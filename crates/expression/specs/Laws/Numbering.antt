@@ -1,7 +1,7 @@
 -- The states are numbered by the shortest, lowest word, and each but the start is a set that words end on.
 use Rattle.std.specs.Prelude.{◌≡◌, refl, ◌↔◌, ◌⊎◌, true, ℕ, zero, suc, ◌≤◌, ◌<◌, eqb, length, get_or}
 use Rattle.std.proofs.Common.{sym, ap, subst, ◌∙◌, ⊎_elim, arith}
-use Rattle.std.proofs.Math.Logic.{Iff·symm, Iff·trans}
+use mathlib.Core.Logic.Iff
 use Rattle.std.proofs.Math.Option.{Option, none, some, some-injective}
 use mathlib.Core.List.{List, [], ◌∷◌, reverse, reverse-reverse, cons-ne-nil}
 use Rattle.std.proofs.Math.ListN.{get_elem?}
@@ -138,9 +138,9 @@ module _ (t : Tree) (small : size t ≤ most_occurrences) (low : Low t) (few : l
             let b = stands_some (stood (n ∷ v)) f in
             let x = node_set t small low (m ∷ u) (cons-ne-nil m u) _ a.1 in
             let y = node_set t small low (n ∷ v) (cons-ne-nil n v) _ b.1 in (
-              λ s p. Iff·trans (Iff·symm (x.members p)) (subst (λ k. (has (get_or (states B) k 0) p ≡ true) ↔ EndsOn t (n ∷ v) p) (sym s) (y.members p)),
+              λ s p. Iff.trans (Iff.symm (x.members p)) (subst (λ k. (has (get_or (states B) k 0) p ≡ true) ↔ EndsOn t (n ∷ v) p) (sym s) (y.members p)),
               λ s. one_place (states B) (states_distinct B few) i j a.0 b.0
-                  (same_members _ _ (λ p. Iff·trans (x.members p) (Iff·trans (s p) (Iff·symm (y.members p))))),
+                  (same_members _ _ (λ p. Iff.trans (x.members p) (Iff.trans (s p) (Iff.symm (y.members p))))),
             );
       }
 

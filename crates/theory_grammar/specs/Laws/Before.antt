@@ -13,6 +13,7 @@ ends_from inside [] = inside
 ends_from inside (b ∷ u) = ends_from (is_digit b) u
 
 pub ends_is : (u : List ℕ) → EndsInDigit u → ends_from false u ≡ true
+ends_is [] d = elim d [ ]
 ends_is (b ∷ []) d = digit_is b d
 ends_is (b ∷ (c ∷ u)) e = ends_is (c ∷ u) e
 

@@ -22,12 +22,15 @@ run_digit {d} h s σ = run_step (48 + d) s σ ∙ ap (λ g. goes (step g σ) s) 
 run_spaces : {w : List ℕ} → Spaces w → (v : List ℕ) (fs : List Frame) (ds is : List Tree) (m : Mode) → Settled m
     → run (w ++ v) (state fs ds is m) ≡ run v (state fs ds is m)
 unfolding run
+run_spaces (Rattle.theory_grammar.specs.Grammar.space {u = u} s) v fs ds is (digits _) e = elim e [ ]
 run_spaces Spaces.none v fs ds is m e = refl
 run_spaces (Spaces.space s) v fs ds is fresh e = run_spaces s v fs ds is fresh e
 run_spaces (Spaces.space s) v fs ds is (item x) e = run_spaces s v fs ds is (item x) e
 
 run_decimal : {n : ℕ} {u : List ℕ} → Decimal n u → (v : List ℕ) (fs : List Frame) (ds is : List Tree) (m : Mode) → Settled m
     → run (u ++ v) (state fs ds is m) ≡ run v (state fs ds (settled is m) (digits n))
+run_decimal (Rattle.theory_model.specs.Laws.Decimals.digit {n = n} h) v fs ds is (digits _) e = elim e [ ]
+run_decimal (Rattle.theory_model.specs.Laws.Decimals.more {n = Prim.Native.Nat.zero} {d = d} {u = u} p h r) v fs ds is m e = elim p [ ]
 run_decimal (Decimal.digit h) v fs ds is fresh e = run_digit h v (state fs ds is fresh)
 run_decimal (Decimal.digit h) v fs ds is (item x) e = run_digit h v (state fs ds is (item x))
 run_decimal (Decimal.more {n = suc n} {d = d} {u = u} p h r) v fs ds is m e =

@@ -58,6 +58,7 @@ sign_digit {d} h =
 
 -- THE DIGITS at the ends of a text
 pub ends_after : (u v : List ℕ) → EndsInDigit v → EndsInDigit (u ++ v)
+ends_after (c ∷ []) [] e = elim e [ ]
 ends_after [] v e = e
 ends_after (c ∷ []) (b ∷ v) e = e
 ends_after (c ∷ (d ∷ u)) v e = ends_after (d ∷ u) v e

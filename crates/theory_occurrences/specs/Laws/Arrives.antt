@@ -1,7 +1,7 @@
 -- A word leads to the set of the occurrences that it can end on, and is one of the tree's exactly if a word may end there.
 use Rattle.std.specs.Prelude.{◌≡◌, refl, ◌↔◌, Bool, true, false, cond, not, ℕ, ◌^◌, ◌≤◌, ◌<◌, ltb, eqb, get_or}
 use Rattle.std.proofs.Common.{sym, ap, subst, ◌∙◌, arith, ltb-false, eqb-true, ne_eqb}
-use Rattle.std.proofs.Math.Logic.{Iff·symm, Iff·trans}
+use mathlib.Core.Logic.Iff
 use Rattle.std.proofs.Math.Option.{Option, none, some, some-injective}
 use mathlib.Core.List.{List, [], ◌∷◌, ◌++◌, map, map-eq-nil_iff, reverse, reverse-cons, reverse-reverse, cons-ne-nil, concat-ne-nil}
 use Rattle.std.proofs.lemmas.Bool.{eqb-false, not-true}
@@ -51,9 +51,9 @@ module _ (t : Tree) (small : size t ≤ most_occurrences) (letters-low : Low t) 
 
   after_start : (m q : ℕ) → (has (after A 0 m) q ≡ true) ↔ EndsOn t (m ∷ []) q
   after_start m q =
-      Iff·trans
+      Iff.trans
       (in_after 0 m q (λ h. let w = first_within t 0 q fits h in omega arith))
-      (Iff·symm (ends_on_first t fits m q))
+      (Iff.symm (ends_on_first t fits m q))
 
   -- what follows a member
   in_next : (w : List ℕ) (y q : ℕ) → Node t w y → (has (next_set A y) q ≡ true) ↔ ((p : ℕ) × (has y p ≡ true) × Follows t 0 p q)

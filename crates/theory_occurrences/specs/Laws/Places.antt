@@ -1,7 +1,7 @@
 -- What may begin, end and follow, said of whole words of occurrences; and that what stands behind an occurrence may be exchanged.
 use Rattle.std.specs.Prelude.{◌≡◌, refl, ◌↔◌, ◌⊎◌, true, List, [], ◌∷◌, ◌++◌, ℕ, ◌+◌, ◌<◌, ltb, get_or}
 use Rattle.std.proofs.Common.{ap, ◌∙◌, inl, inr, ⊎_elim, append_assoc, arith, ltb-true, ltb-false}
-use Rattle.std.proofs.Math.Logic.{Iff·trans, Iff·symm}
+use mathlib.Core.Logic.Iff
 use Rattle.std.proofs.Math.ListN.{get_or-eq_default}
 use Rattle.theory_grammar.specs.Offends.{most_occurrences}
 use Rattle.theory_grammar.specs.Tree.{Tree, letter, empty, sequence, either, star, size, Marked}
@@ -129,4 +129,4 @@ table_is t k p q f = (to, λ g. (within (let w = follows_from t k p q f g in ome
         false_not_true (ap (λ z. has z q) out ∙ has_zero q) h)
 
 pub follows_is : (t : Tree) (k p q : ℕ) → Fits t k → Neighbours t k p q ↔ (has (get_or (follows t k zeros) p 0) q ≡ true)
-follows_is t k p q f = Iff·trans (neighbours_follow t k p q f) (Iff·symm (table_is t k p q f))
+follows_is t k p q f = Iff.trans (neighbours_follow t k p q f) (Iff.symm (table_is t k p q f))
