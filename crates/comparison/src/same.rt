@@ -95,7 +95,7 @@ fn same_heads(h: Head, g: Head) -> bool
 }
 
 // Two tables, each in parts.
-pub fn same_tables_lem(
+pub fn same_tables(
     h: Head,
     rows: &[u8],
     finals: &[u8],

@@ -2,7 +2,7 @@
 ghost use Rattle.expression_parse.specs.Steps.{Ready, ItemReady, Alternatives, Alternative, Item, Whole};
 
 use crate::parts::{Part, Step, either, ends, number, sequence, skip, stands, starred};
-use expression_scan::digits::is_digit_lem;
+use expression_scan::digits::is_digit;
 use expression_sets::sets::MOST_OCCURRENCES;
 
 // The alternatives from a place on, up to the bracket that closes them or the end of the text. The next occurrence is k.
@@ -77,7 +77,7 @@ fn item(
     ensures { Item s.now at k label.old follow.old label.new follow.new result }
 {
     let b = s[at];
-    if is_digit_lem(b) {
+    if is_digit(b) {
         return number(s, at, k, label, follow);
     }
     if b != b'(' {

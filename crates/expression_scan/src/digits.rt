@@ -14,7 +14,7 @@ pub struct Run {
     pub next: usize,
 }
 
-pub fn is_digit_lem(b: u8) -> bool
+pub fn is_digit(b: u8) -> bool
     ensures { result ≡ is_digit b }
 {
     b'0' <= b && b <= b'9'
@@ -38,7 +38,7 @@ pub fn run_at(s: &[u8], at: usize) -> Run
     let mut next = at;
     while next < s.len() {
         let b = s[next];
-        if !is_digit_lem(b) {
+        if !is_digit(b) {
             return Run { value, next };
         }
         value = with_digit(value, b - b'0');

@@ -3,7 +3,7 @@ ghost use Rattle.std.specs.Prelude.{◌≡◌, cond, not, ◌&&◌, ◌+◌, ◌
 ghost use Rattle.theory_grammar.specs.Offends.{offence, limits};
 ghost use Rattle.expression_scan.specs.Said.{said_excess, ExcessNumber, said_limit, When};
 
-use crate::digits::{MESSAGE_LIMIT, is_digit_lem, run_at};
+use crate::digits::{MESSAGE_LIMIT, is_digit, run_at};
 use expression_sets::sets::MOST_OCCURRENCES;
 use numbers::refusal::{OUT_OF_RANGE, TOO_DEEP, TOO_MANY_NUMBERS};
 
@@ -77,7 +77,7 @@ fn offence(s: &[u8], at: usize, inside: bool, opened: usize, closed: usize, coun
     ensures { result ≡ offence inside opened closed count (get_or s.now at 0) (drop (at + 1) s.now) }
 {
     let b = s[at];
-    if is_digit_lem(b) {
+    if is_digit(b) {
         if inside {
             return KEPT;
         }
@@ -114,7 +114,7 @@ pub fn check(s: &[u8]) -> Limit
             return Limit::Passed(numbered(number), at);
         }
         let b = s[at];
-        let digit = is_digit_lem(b);
+        let digit = is_digit(b);
         opened += when(b == b'(', 1);
         closed += when(b == b')', 1);
         count += when(begins(digit, inside), 1);

@@ -23,7 +23,7 @@ fn row_of(table: &[u8], i: usize, sum: usize) -> &[u8]
     &table[first..first + sum]
 }
 
-fn one_more_lem(arc: u8, count: u8) -> u8
+fn one_more(arc: u8, count: u8) -> u8
     requires { count < 255 }
     ensures { result ≡ cond (eqb arc 0) count (count + 1) }
 {
@@ -41,7 +41,7 @@ fn count_arcs(row: &[u8]) -> u8
     let mut count: u8 = 0;
     let mut m: usize = 0;
     while m < row.len() {
-        count = one_more_lem(row[m], count);
+        count = one_more(row[m], count);
         m += 1;
     }
     count

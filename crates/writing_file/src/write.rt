@@ -4,7 +4,7 @@ ghost use Rattle.reading_file.specs.File.{read_file};
 ghost use Rattle.tables.specs.Head.{tables_of};
 ghost use Rattle.writing_file.specs.Write.{gives, Writes};
 
-use comparison::same::same_tables_lem;
+use comparison::same::same_tables;
 use numbers::put::put_word;
 use numbers::refusal::MOST_BYTES;
 use reading_file::reading::{Answer, read_into};
@@ -47,7 +47,7 @@ fn gives(
     let read_entries = bad.rows;
     match answer {
         Answer::Refused(_) => false,
-        Answer::Read => same_tables_lem(
+        Answer::Read => same_tables(
             h,
             rows,
             finals,
