@@ -15,7 +15,7 @@ use Rattle.theory_model.specs.Laws.Basics.{false_not_true}
 use Rattle.theory_model.specs.Laws.Items.{IsItem}
 use Rattle.theory_files.specs.Tables.{transition_at, entry_at, session_of}
 use Rattle.theory_files.specs.Laws.Lookup.{controls_are}
-use Rattle.theory_files.specs.Laws.Rows.{transition_at_lem, entry_at, entries_length}
+use Rattle.theory_files.specs.Laws.Rows.{transition_at_lem, entry_at_lem, entries_length}
 use Rattle.checking_cursor.specs.Left.{left, later, here, goes, model_in, Over, StandsAt, Stands, most_items, place_of, past_of}
 use Rattle.checking_cursor.specs.Next.{Movable}
 use Rattle.checking_cursor.specs.Laws.Left.{steps_here, items_are, from_here, entry_here}
@@ -36,7 +36,7 @@ module _ (h : Head) (rows finals arcs roots entries : List ℕ) where
   over_tables = record { model = refl; bad = entries_length entries h.bad 0 }
 
   pub entry_item : (b : ℕ) → b < h.bad → IsItem session (entry b (entry_at entries b))
-  entry_item b l = entry_at entries h.bad 0 b l ∙ ap (λ n. some (entry_at entries n)) (zero-add b)
+  entry_item b l = entry_at_lem entries h.bad 0 b l ∙ ap (λ n. some (entry_at entries n)) (zero-add b)
 
   -- tables that were read may be moved over
   pub movable : Valid (tables_of h rows finals arcs roots entries) → Movable h rows

@@ -78,6 +78,8 @@ module _ {states places : List ℕ} {count : ℕ} (a : Numberable states places 
 
 -- a state for each machine
 states_length : (ks ps : List ℕ) → States ks ps → length ps ≡ length ks
+states_length [] (p ∷ ps) s = elim s [ ]
+states_length (k ∷ ks) [] s = elim s [ ]
 states_length [] [] s = refl
 states_length (k ∷ ks) (p ∷ ps) s = ap suc (states_length ks ps s.1)
 

@@ -89,8 +89,8 @@ module _ {f : Head} {rows : List ℕ} {r : RunRecord} {mem : List ℕ} {i : ℕ}
   )
 
   module _ (at : get_or r.states (machine_at rows row) 0 ≡ from_at rows row) where
-    is_at : is_at (model_in f rows) before.control (transition_at rows row) ≡ true
-    is_at = eq-eqb _ _ (standing ∙ at)
+    is_at_lem : is_at (model_in f rows) before.control (transition_at rows row) ≡ true
+    is_at_lem = eq-eqb _ _ (standing ∙ at)
 
     -- THE QUEUE does not allow it, or would pass its room
     refused_none : act action before.queues ≡ none → take? (model_in f rows) i before ≡ none
@@ -107,7 +107,7 @@ module _ {f : Head} {rows : List ℕ} {r : RunRecord} {mem : List ℕ} {i : ℕ}
     after qs = record { control = moved (model_in f rows) before.control (transition_at rows row); queues = qs }
 
     taken_to : {qs : List (List ℕ)} → act action before.queues ≡ some qs → take? (model_in f rows) i before ≡ some (after qs)
-    taken_to {qs} e = is_taken (model_in f rows) i before (transition_at rows row) qs numbered is_at e
+    taken_to {qs} e = is_taken (model_in f rows) i before (transition_at rows row) qs numbered is_at_lem e
 
     stays : {hs ls mem' : List ℕ} → Unshifted r.heads r.lengths mem hs ls mem' → Stays r mem (run_of r.states hs ls) mem'
     stays u = record { same = ap₂ (run_of r.states) u.heads u.lengths; kept = u.memory }

@@ -34,10 +34,10 @@ transition_at_lem rows (suc left) t (suc i) h =
     transition_at_lem rows left (suc t) i (omega arith) ∙ ap (λ n. some (transition_at rows (n * row_length))) (omega arith)
 
 -- and bad entry i
-pub entry_at : (rows : List ℕ) (left b i : ℕ) → i < left → get_elem? (bad_from rows left b) i ≡ some (entry_at rows (b + i))
-entry_at rows zero b i h = absurd (omega arith)
-entry_at rows (suc left) b zero h = ap (λ n. some (entry_at rows n)) (omega arith)
-entry_at rows (suc left) b (suc i) h = entry_at rows left (suc b) i (omega arith) ∙ ap (λ n. some (entry_at rows n)) (omega arith)
+pub entry_at_lem : (rows : List ℕ) (left b i : ℕ) → i < left → get_elem? (bad_from rows left b) i ≡ some (entry_at rows (b + i))
+entry_at_lem rows zero b i h = absurd (omega arith)
+entry_at_lem rows (suc left) b zero h = ap (λ n. some (entry_at rows n)) (omega arith)
+entry_at_lem rows (suc left) b (suc i) h = entry_at_lem rows left (suc b) i (omega arith) ∙ ap (λ n. some (entry_at rows n)) (omega arith)
 
 -- which row a transition is
 pub transition_row : (rows : List ℕ) (left t : ℕ) (τ : Transition) → Mem τ (transitions_from rows left t)

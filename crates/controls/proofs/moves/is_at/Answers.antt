@@ -1,0 +1,8 @@
+use mathlib.Core.Path.{sym, ap, ◌∙◌}
+use Prim.Native.Nat.{ℕ}
+use lib.Dec.{eqb}
+use borrow.Author.Rules.{rules}
+use Rattle.controls.proofs.moves.is_at.Goals as goal
+
+pub returns : goal.returns
+returns c = rw (c.wide.ensures.same, c.part_at-p.ensures.state)
