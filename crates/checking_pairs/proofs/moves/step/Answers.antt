@@ -1,0 +1,27 @@
+use native.Mathlib.Omega.{arith}
+use mathlib.Core.Path.{refl}
+use mathlib.Core.Logic.{inr}
+use Rattle.tables.specs.Kinds.{reached_of}
+use Rattle.tables.specs.Laws.Lookup.{nowhere_true, nowhere_false, state_below}
+use Rattle.checking_pairs.specs.Laws.Moves.{leads_nowhere, leads_as, jump_missing, jump_is}
+use borrow.Author.Rules.{rules}
+use Rattle.checking_pairs.proofs.moves.step.Goals as goal
+
+pub returns-then-is_nowhere : goal.returns-then-is_nowhere
+returns-then-is_nowhere c =
+    let a = c.args in
+    let p = c.requires in
+    leads_nowhere (jump_missing a.w p.lent p.node_fits.source c.at.ensures c.follow_word-source.ensures (reached_of a.x.target.0) (nowhere_true _ c.is_nowhere.ensures c.if-is_nowhere.true))
+
+pub state-requires : goal.state-requires
+state-requires c = state_below c.follow_word-source.ensures.most (nowhere_false _ c.is_nowhere.ensures c.if-is_nowhere.false)
+
+pub pair_to-requires : goal.pair_to-requires
+pair_to-requires c =
+    let below = state_below c.follow_word-source.ensures.most (nowhere_false _ c.is_nowhere.ensures c.if-is_nowhere.false) in
+    record { side = inr refl; source = omega (arith, c.state.ensures, below); target = c.follow_word-target.ensures.most }
+
+pub returns : goal.returns
+returns c =
+    let p = c.requires in
+    leads_as (jump_is c.args.w p.lent p.node_fits.source c.at.ensures c.follow_word-source.ensures (nowhere_false _ c.is_nowhere.ensures c.if-is_nowhere.false) c.state.ensures c.follow_word-target.ensures) c.pair_to.ensures
