@@ -1,0 +1,27 @@
+use borrow.Author.Rules.{rules}
+use Prim.Native.Nat.{◌-◌, ◌≤◌}
+use native.Mathlib.Omega.{arith}
+use mathlib.Core.Path.{ap, ◌∙◌}
+use lib.ListN.{length}
+use lib.Seq.{sets}
+use Rattle.numbers.specs.Laws.Put.{Left}
+use Rattle.theory_replay.specs.Rules.{room}
+use Rattle.replaying_queues.specs.Ring.{waiting}
+use Rattle.replaying_queues.specs.Laws.Waiting.{waiting_length}
+use Rattle.replaying_queues.specs.Laws.Settle.{gather_begin, gather_next, gather_end, laid_is}
+use Rattle.replaying_queues.specs.Laws.Words.{waiting_from, waiting_begin, waiting_next, waiting_end}
+use Rattle.replaying_queues.proofs.settle.settle_queue.Goals as goal
+
+pub loop-i-init : goal.loop-i-init
+loop-i-init c = (gather_begin _ (waiting_begin _ _ _ _), omega arith)
+
+pub loop-i-preserved : goal.loop-i-preserved
+loop-i-preserved c = (gather_next c.loop-i.invariant.0 (waiting_next _ _ _ _ c.loop-i-test.true), omega arith)
+
+pub returns : goal.returns
+returns c =
+    let a = c.args in
+    let q = waiting a.memory.now a.base a.head a.count in
+    let fits : length q ≤ room = omega (arith, waiting_length a.memory.now a.base a.head a.count) in
+    let gathered = gather_end c.loop-i.invariant.0 (waiting_end _ _ _ _ c.loop-i-test.false) in
+    c.put_word.ensures.buffer ∙ ap (sets a.memory.now a.base) (gathered ∙ laid_is room q fits)
