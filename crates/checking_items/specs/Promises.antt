@@ -1,6 +1,6 @@
 -- What each function over an item promises, of the tables and the memory that it is lent.
 use Rattle.std.specs.Prelude.{ℕ, List}
-use Rattle.std.specs.Borrow.{Bor}
+use Rattle.std.specs.Borrow.{Bor, MutBor}
 use Rattle.tables.specs.Head.{tables_of}
 use Rattle.tables.specs.declared.head.Head.{Head}
 use Rattle.tables.specs.declared.tables.Tables.{Tables}
@@ -21,7 +21,7 @@ pub record Memory : Type 0 where
   pub seen : List ℕ
   pub queue : List ℕ
 
-abbrev pub memory : Bor (List ℕ) → Bor (List ℕ) → Bor (List ℕ) → Memory
+abbrev pub memory : MutBor (List ℕ) → MutBor (List ℕ) → MutBor (List ℕ) → Memory
 memory contents seen queue = record { contents = contents.now; seen = seen.now; queue = queue.now }
 
 -- THE STEP of control state c whose row begins here; its number has no part in the judgement
