@@ -1,6 +1,8 @@
-// Standard input, read to its end or until the space is full. A read that fails is told apart from the end.
+// An input, read to its end or until the space is full. A read that fails is told apart from the end.
 ghost use Rattle.std.specs.Prelude.{◌≤◌, length};
 ghost use Rattle.streams.specs.Counts.{input_long};
+
+use std::io::Read;
 
 #[derive(Clone, Copy)]
 pub enum Input {
@@ -8,20 +10,16 @@ pub enum Input {
     Failed,
 }
 
-pub fn read_input(space: &mut [u8]) -> Input
+pub fn read_input<R: Read>(input: &mut R, space: &mut [u8]) -> Input
     ensures { input_long result ≤ length space.new }
 {
     let mut done: usize = 0;
     while done < space.len() {
-        let got = libc::read(0, &mut space[done..]);
-        if got < 0 {
-            return Input::Failed;
+        match input.read(&mut space[done..]) {
+            Err(_) => return Input::Failed,
+            Ok(0) => return Input::Bytes(done),
+            Ok(more) => done += more,
         }
-        let more = io::count(got, &space[done..]);
-        if more == 0 {
-            return Input::Bytes(done);
-        }
-        done += more;
     }
     Input::Bytes(done)
 }

@@ -1,5 +1,5 @@
 -- One byte more of lent memory filled, and of its digest.
-use Rattle.std.specs.Prelude.{ℕ, zero, suc, ◌+◌, ◌-◌, ◌%◌, ◌≤◌, ◌<◌, ◌≡◌, refl, List, [], ◌∷◌, ◌++◌, length, get_or, set, take, drop}
+use Rattle.std.specs.Prelude.{ℕ, ◌+◌, ◌-◌, ◌%◌, ◌≤◌, ◌<◌, ◌≡◌, refl, List, [], ◌∷◌, ◌++◌, length, get_or, set, take, drop}
 use Rattle.std.proofs.Common.{sym, ap, ap₂, ◌∙◌, append_assoc, append-nil, length-set, drop_of_length-le, drop-cons, take-suc-set, take_all, arith, add-one, sub-eq-zero_of_le}
 use Rattle.std.proofs.Math.Nat.{sub-zero}
 use Rattle.numbers.specs.Laws.Parts.{one_more_lem}
