@@ -3,7 +3,7 @@ use Rattle.std.specs.Prelude.{◌≡◌, refl, true, false, ◌&&◌, List, ◌�
 use Rattle.std.proofs.Common.{sym, ap, subst, ◌∙◌, drop-drop, ltb-true, lt-ltb, eqb-true, arith, zero-add}
 use Rattle.theory_model.specs.Laws.Basics.{and_is}
 use Rattle.theory_grammar.specs.Tree.{Tree, letter, star}
-use Rattle.theory_grammar.specs.Parse.{is_digit, sign, digit, fresh, digits, item, Frame, state, step}
+use Rattle.theory_grammar.specs.Parse.{is_digit, sign, fresh, digits, item, Frame, state, step}
 use Rattle.theory_grammar.specs.Offends.{value_from}
 use Rattle.theory_occurrences.specs.Sets.{only, put, link}
 use Rattle.theory_occurrences.specs.Positions.{clip}
