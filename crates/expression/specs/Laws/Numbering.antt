@@ -1,5 +1,5 @@
 -- The states are numbered by the shortest, lowest word, and each but the start is a set that words end on.
-use Rattle.std.specs.Prelude.{◌≡◌, refl, ◌↔◌, ◌⊎◌, true, ℕ, zero, suc, ◌≤◌, ◌<◌, eqb, length, get_or}
+use Rattle.std.specs.Prelude.{◌≡◌, refl, ◌↔◌, true, ℕ, zero, suc, ◌≤◌, ◌<◌, eqb, length, get_or}
 use Rattle.std.proofs.Common.{sym, ap, subst, ◌∙◌, ⊎_elim, arith}
 use mathlib.Core.Logic.Iff
 use Rattle.std.proofs.Math.Option.{Option, none, some, some-injective}

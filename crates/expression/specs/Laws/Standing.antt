@@ -37,6 +37,7 @@ pub record Place (N : List ℕ) (i y : ℕ) : Type 0 where
   pub is : place_from i N y ≡ i + at + 1
 
 pub place_is : (N : List ℕ) (i y : ℕ) → Mem y N → Place N i y
+place_is [] i y m = elim m [ ]
 place_is (x ∷ N) i y m =
     by_test (eqb x y)
     (λ t.
