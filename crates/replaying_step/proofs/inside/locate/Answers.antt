@@ -8,7 +8,7 @@ pub root_of-root-requires : goal.root_of-root-requires
 root_of-root-requires c = root_small c.requires c.control_of.result.0
 
 pub follow_rings-requires : goal.follow_rings-requires
-follow_rings-requires c =  let P = c.requires in rw c.wide-count.ensures.same (small_arcs P, (c.root_of-root.ensures.most, (in_rings P, messages_small P)))
+follow_rings-requires c =  let P = c.requires in rw c.wide-count.ensures.same (record { arcs_small = small_arcs P; from_le_most_pool = c.root_of-root.ensures.most; rings = in_rings P; between = messages_small P })
 
 pub is_final-requires : goal.is_final-requires
 is_final-requires c =  let small = (led_to_lem c.follow_rings.ensures c.in-To.is).1 in record { finals_len = c.requires.pool.finals_long; at_le_most_pool = omega (arith, c.at.ensures) }
