@@ -1,0 +1,6 @@
+use Rattle.checking_answer.specs.Laws.{answered_by}
+use borrow.Author.Rules.{rules}
+use Rattle.checking_answer.proofs.answer.Goals as goal
+
+pub returns : goal.returns
+returns c = answered_by c.check-verdict.result c.check-verdict.ensures.checks c.write_line.ensures
