@@ -1,6 +1,6 @@
 -- What the functions under the service promise: a step, the loop over steps, and the beginning.
 use Rattle.std.specs.Prelude.{ℕ, ◌+◌, ◌-◌, ◌*◌, ◌≤◌, ◌<◌, ◌≡◌, Bool, true, false, List, length, drop}
-use Rattle.std.specs.Borrow.{Bor}
+use Rattle.std.specs.Borrow.{Bor, MutBor}
 use Rattle.numbers.specs.Limits.{most_bytes}
 use Rattle.numbers.specs.declared.refusal.Refusal.{Refusal}
 use Rattle.reading_file.specs.Valid.{Valid}
@@ -47,7 +47,7 @@ parts states heads lengths mem p = state (run_of states heads lengths) mem p
 abbrev pub tables_lent : Head → Bor (List ℕ) → Bor (List ℕ) → Bor (List ℕ) → Bor (List ℕ) → Tables
 tables_lent h rows finals arcs roots = replay_tables h rows.now finals.now arcs.now roots.now
 
-abbrev pub parts_lent : Bor (List ℕ) → Bor (List ℕ) → Bor (List ℕ) → Bor (List ℕ) → Progress → State
+abbrev pub parts_lent : MutBor (List ℕ) → MutBor (List ℕ) → MutBor (List ℕ) → MutBor (List ℕ) → Progress → State
 parts_lent states heads lengths mem p = parts states.now heads.now lengths.now mem.now p
 
 abbrev pub ended_of : Progress → Code.Ended
