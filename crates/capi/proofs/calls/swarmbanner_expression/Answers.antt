@@ -1,0 +1,12 @@
+use Rattle.capi.specs.ExpressionLaws.{expression_short, expression_unheard, expression_told}
+use borrow.Author.Rules.{rules}
+use Rattle.capi.proofs.calls.swarmbanner_expression.Goals as goal
+
+pub returns-then-pool-lt-POOL_LEAST : goal.returns-then-pool-lt-POOL_LEAST
+returns-then-pool-lt-POOL_LEAST c = expression_short c.args.text.now c.args.pool.now c.args.reply.now c.if-pool-lt-POOL_LEAST.true
+
+pub returns-then-reply-lt-REPLY_LEAST : goal.returns-then-reply-lt-REPLY_LEAST
+returns-then-reply-lt-REPLY_LEAST c = expression_unheard c.args.text.now c.args.pool.now c.args.reply.now c.if-reply-lt-REPLY_LEAST.true
+
+pub returns : goal.returns
+returns c = expression_told c.args.text.now c.args.pool.now c.args.reply.now c.if-pool-lt-POOL_LEAST.false c.if-reply-lt-REPLY_LEAST.false c.expression-drawing.result c.expression-drawing.ensures c.put_drawn.ensures c.tell_drawn.ensures c.put_told.ensures
