@@ -1,3 +1,2 @@
 // Mathematics alone: exploring a deterministic labelled graph. What is defined and proved stands in specs/.
 #![tactic(auto)]
-

@@ -1,3 +1,2 @@
 // What tables say in the model's words: the pool of diagrams, the queues, the arcs. It stands in specs/.
 #![tactic(auto)]
-

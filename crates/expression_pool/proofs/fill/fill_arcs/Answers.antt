@@ -13,7 +13,7 @@ pub overflow_mul-i : goal.overflow_mul-i
 overflow_mul-i c = omega (arith, c.loop-i-test.true, c.requires)
 
 pub fill_row-requires : goal.fill_row-requires
-fill_row-requires c =  record { states_len_bound = c.requires; most_messages_bound = omega (arith, c.loop-i-test.true, c.requires) }
+fill_row-requires c = record { states_len_bound = c.requires; most_messages_bound = omega (arith, c.loop-i-test.true, c.requires) }
 
 pub overflow_add-i : goal.overflow_add-i
 overflow_add-i c = omega (arith, c.loop-i-test.true, c.requires)

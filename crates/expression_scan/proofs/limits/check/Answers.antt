@@ -9,7 +9,7 @@ pub loop-at-init : goal.loop-at-init
 loop-at-init c = checking_begins _
 
 pub offence-number-requires : goal.offence-number-requires
-offence-number-requires c =  record { at_in_bounds = c.loop-at-test.true; closed_le_at = c.loop-at.invariant.closes }
+offence-number-requires c = record { at_in_bounds = c.loop-at-test.true; closed_le_at = c.loop-at.invariant.closes }
 
 pub numbered-requires : goal.numbered-requires
 numbered-requires c = checking_number c.loop-at.invariant c.offence-number.ensures c.if-number-ne-KEPT.true

@@ -14,7 +14,7 @@ returns-then-rest-eq0 c = linking_empty c.loop-i.invariant c.if-rest-eq0.true
 pub loop-i-preserved : goal.loop-i-preserved
 loop-i-preserved c =
     elim c.if-rest-eq1.branch [
-      then-rest-eq1 w ↦ linking_with c.loop-i.invariant c.loop-i-test.true w.if-rest-eq1.true c.joined-sum.ensures w.follow-is
+      | then-rest-eq1 w ↦ linking_with c.loop-i.invariant c.loop-i-test.true w.if-rest-eq1.true c.joined-sum.ensures w.follow-is
       | else-rest-eq1 w ↦ linking_without c.loop-i.invariant c.loop-i-test.true w.if-rest-eq1.false w.follow-is
     ]
 

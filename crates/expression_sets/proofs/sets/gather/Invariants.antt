@@ -7,6 +7,5 @@ use Rattle.expression_sets.proofs.sets.gather.Given as goal
 abbrev pub invariant-loop-i : goal.invariant-loop-i
 invariant-loop-i l = Gathering l.set l.follow l.sum l.rest l.i
 
-
 abbrev pub decreases-loop-i : goal.decreases-loop-i
 decreases-loop-i l = most_occurrences - l.i

@@ -9,6 +9,5 @@ use Rattle.expression_sets.proofs.sets.marks_of.Given as goal
 abbrev pub invariant-loop-i : goal.invariant-loop-i
 invariant-loop-i l = Marking l.label l.marks l.i
 
-
 abbrev pub decreases-loop-i : goal.decreases-loop-i
 decreases-loop-i l = most_occurrences - l.i

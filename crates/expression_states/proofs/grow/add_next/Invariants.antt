@@ -8,6 +8,5 @@ use Rattle.expression_states.proofs.grow.add_next.Given as goal
 abbrev pub invariant-loop-m : goal.invariant-loop-m
 invariant-loop-m l = Marked l.initial.states l.count l.next l.marks l.states l.found l.m
 
-
 abbrev pub decreases-loop-m : goal.decreases-loop-m
 decreases-loop-m l = most_messages - l.m

@@ -11,6 +11,5 @@ use Rattle.tables.proofs.starting.waits.Given as goal
 abbrev pub invariant-loop-i : goal.invariant-loop-i
 invariant-loop-i l = (waits (drop l.i l.lengths) ≡ waits l.lengths) × (l.i ≤ 4)
 
-
 abbrev pub decreases-loop-i : goal.decreases-loop-i
 decreases-loop-i l = 4 - l.i
