@@ -2,25 +2,26 @@
 #![tactic(auto)]
 
 use checking_answer::{MOST_LINE, whole_line};
+use std::io;
 use streams::input::{Input, read_input};
 use streams::print_front;
 
-fn main() {
+fn main(rt: HostRuntime) {
     // one byte more than a file may have
     let mut file = [0u8; 16385];
-    match read_input(&mut file) {
+    match read_input(&mut rt.stdin(), &mut file) {
         Input::Failed => {
-            io::write_all(2, b"swarmbanner: standard input cannot be read\n");
+            let _ = eprintln!(rt; "swarmbanner: standard input cannot be read");
         }
-        Input::Bytes(length) => answer(&file[..length]),
+        Input::Bytes(length) => answer(&rt, &file[..length]),
     }
 }
 
 // Prints the line of a file.
-fn answer(file: &[u8]) {
+fn answer(rt: &(impl Print + Eprint), file: &[u8]) {
     let mut line = [0u8; MOST_LINE];
     let end = whole_line(file, &mut line);
-    if !print_front(&line, end) {
-        io::write_all(2, b"swarmbanner: the line cannot be written\n");
+    if !print_front(&mut io::writer(rt), &line, end) {
+        let _ = eprintln!(rt; "swarmbanner: the line cannot be written");
     }
 }

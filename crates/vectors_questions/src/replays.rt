@@ -4,34 +4,48 @@ use crate::lent::record_from;
 use crate::report::report;
 use numbers::number::wide;
 use replaying_trace::run::replay_from;
+use std::io::{Read, Write};
 use streams::files::{NextFile, next_file};
+use streams::fill_front;
 use streams::lent::{digest, fill};
 
 // Answers the replay against this file.
-pub(crate) fn answer(file: &[u8], trace: &mut [u8], memory: &mut [u8]) -> bool {
-    let NextFile::File(length) = next_file(trace) else {
+pub(crate) fn answer<R: Read, W: Write>(
+    input: &mut R,
+    output: &mut W,
+    file: &[u8],
+    trace: &mut [u8],
+    memory: &mut [u8],
+) -> bool {
+    let NextFile::File(length) = next_file(input, trace) else {
         return false;
     };
-    answer_of(file, &trace[..length], memory)
+    answer_of(input, output, file, &trace[..length], memory)
 }
 
 // Answers the replay of this trace.
-fn answer_of(file: &[u8], trace: &[u8], memory: &mut [u8]) -> bool {
+fn answer_of<R: Read, W: Write>(
+    input: &mut R,
+    output: &mut W,
+    file: &[u8],
+    trace: &[u8],
+    memory: &mut [u8],
+) -> bool {
     let mut head = [0u8; 4];
-    if io::read_full(0, &mut head) < 4 {
+    if !fill_front(input, &mut head, 4) {
         return false;
     }
     let length = wide(head[0]) + 256 * wide(head[1]);
     if memory.len() < length {
         return false;
     }
-    answer_in(file, trace, &mut memory[..length], head[2], head[3]);
+    answer_in(output, file, trace, &mut memory[..length], head[2], head[3]);
     true
 }
 
 // Answers the replay in this memory.
-fn answer_in(file: &[u8], trace: &[u8], memory: &mut [u8], m: u8, k: u8) {
+fn answer_in<W: Write>(output: &mut W, file: &[u8], trace: &[u8], memory: &mut [u8], m: u8, k: u8) {
     fill(memory, m);
     let replayed = replay_from(record_from(k), file, trace, memory);
-    report(replayed, digest(memory));
+    report(output, replayed, digest(memory));
 }

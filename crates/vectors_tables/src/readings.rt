@@ -2,42 +2,43 @@
 use crate::digest::digest;
 use numbers::refusal::{Refusal, number, place};
 use reading_file::reading::{Answer, read};
+use std::io::Write;
 use streams::lines;
 use streams::lines::told;
 use tables::tables::Tables;
 
-fn told_digest(t: Tables) {
-    io::write_all(1, b" ");
-    io::print_decimal(1, digest(t));
+fn told_digest<W: Write>(output: &mut W, t: Tables) {
+    lines::words(output, b" ");
+    lines::number(output, digest(t));
 }
 
-fn refused(why: Refusal, t: Tables) {
-    lines::refused(b"refused ", number(why), place(why));
-    told_digest(t);
+fn refused<W: Write>(output: &mut W, why: Refusal, t: Tables) {
+    lines::refused(output, b"refused ", number(why), place(why));
+    told_digest(output, t);
 }
 
-fn found(t: Tables) {
+fn found<W: Write>(output: &mut W, t: Tables) {
     let m = t.machines;
     let q = t.queues;
     let rows = t.transitions;
     let p = t.pool;
     let b = t.bad;
-    told(b"read ", m.count as usize);
-    told(b" ", m.product);
-    told(b" ", q.count as usize);
-    told(b" ", q.sum as usize);
-    told(b" ", rows.count as usize);
-    told(b" ", p.count as usize);
-    told(b" ", b.count as usize);
-    told_digest(t);
+    told(output, b"read ", m.count as usize);
+    told(output, b" ", m.product);
+    told(output, b" ", q.count as usize);
+    told(output, b" ", q.sum as usize);
+    told(output, b" ", rows.count as usize);
+    told(output, b" ", p.count as usize);
+    told(output, b" ", b.count as usize);
+    told_digest(output, t);
 }
 
-pub(crate) fn answer(file: &[u8]) -> bool {
+pub(crate) fn answer<W: Write>(output: &mut W, file: &[u8]) -> bool {
     let reading = read(file);
     let answer = reading.answer;
     match answer {
-        Answer::Refused(why) => refused(why, reading.tables),
-        Answer::Read => found(reading.tables),
+        Answer::Refused(why) => refused(output, why, reading.tables),
+        Answer::Read => found(output, reading.tables),
     }
-    io::write_all(1, b"\n")
+    lines::words(output, b"\n")
 }

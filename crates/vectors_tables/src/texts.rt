@@ -3,8 +3,9 @@ use expression::draw::{Drawing, MOST_TEXT, Reply, expression};
 use expression_scan::limits::excess_number;
 use numbers::put::{put_byte, put_word};
 use numbers::refusal::{OUTSIDE_GRAMMAR, TEXT_TOO_LONG, TOO_MANY_STATES};
+use std::io::Write;
 use streams::lent::digest;
-use streams::lines::{refused, told};
+use streams::lines::{number, refused, told, words};
 use tables::kinds::DiagramState;
 use tables::tables::{POOL_ARCS, Pool};
 
@@ -22,28 +23,33 @@ fn digest_of(pool: Pool) -> u64 {
     digest(&all)
 }
 
-fn drawn(root: DiagramState, pool: Pool) {
-    told(b"pool ", pool.count as usize);
-    told(b" ", root.0 as usize);
-    io::write_all(1, b" ");
-    io::print_decimal(1, digest_of(pool));
+fn drawn<W: Write>(output: &mut W, root: DiagramState, pool: Pool) {
+    told(output, b"pool ", pool.count as usize);
+    told(output, b" ", root.0 as usize);
+    words(output, b" ");
+    number(output, digest_of(pool));
 }
 
-fn report(drawing: Drawing) {
+fn report<W: Write>(output: &mut W, drawing: Drawing) {
     let reply = drawing.reply;
     match reply {
         Reply::Root(root) => {
             let pool = drawing.pool;
-            drawn(root, pool)
+            drawn(output, root, pool)
         }
-        Reply::TooLong => refused(b"refused ", TEXT_TOO_LONG, MOST_TEXT),
-        Reply::Outside(place) => refused(b"refused ", OUTSIDE_GRAMMAR, place),
-        Reply::Offender(excess, place) => refused(b"refused ", excess_number(excess), place),
-        Reply::TooManyStates => refused(b"refused ", TOO_MANY_STATES, 0),
+        Reply::TooLong => refused(output, b"refused ", TEXT_TOO_LONG, MOST_TEXT),
+        Reply::Outside(place) => refused(output, b"refused ", OUTSIDE_GRAMMAR, place),
+        Reply::Offender(excess, place) => refused(
+            output,
+            b"refused ",
+            excess_number(excess),
+            place,
+        ),
+        Reply::TooManyStates => refused(output, b"refused ", TOO_MANY_STATES, 0),
     }
 }
 
-pub(crate) fn answer(text: &[u8]) -> bool {
-    report(expression(text));
-    io::write_all(1, b"\n")
+pub(crate) fn answer<W: Write>(output: &mut W, text: &[u8]) -> bool {
+    report(output, expression(text));
+    words(output, b"\n")
 }

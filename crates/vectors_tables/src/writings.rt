@@ -5,6 +5,7 @@ use crate::edited::write_edited;
 use crate::product::write_with;
 use crate::written::report;
 use numbers::number::{entry, wide};
+use std::io::{Read, Write};
 use streams::files::{NextFile, next_file};
 use streams::lent::{digest, fill};
 use writing_file::write::Written;
@@ -17,28 +18,34 @@ const MODE: usize = 3;
 const HEAD: usize = 4;
 
 // Answers the question about this file.
-pub(crate) fn answer(file: &[u8], question: &mut [u8], buffer: &mut [u8]) -> bool {
-    let NextFile::File(length) = next_file(question) else {
+pub(crate) fn answer<R: Read, W: Write>(
+    input: &mut R,
+    output: &mut W,
+    file: &[u8],
+    question: &mut [u8],
+    buffer: &mut [u8],
+) -> bool {
+    let NextFile::File(length) = next_file(input, question) else {
         return false;
     };
-    answer_of(file, &question[..length], buffer)
+    answer_of(output, file, &question[..length], buffer)
 }
 
 // Answers this question.
-fn answer_of(file: &[u8], question: &[u8], buffer: &mut [u8]) -> bool {
+fn answer_of<W: Write>(output: &mut W, file: &[u8], question: &[u8], buffer: &mut [u8]) -> bool {
     let length = wide(entry(question, 0)) + 256 * wide(entry(question, 1));
     if buffer.len() < length {
         return false;
     }
-    answer_in(file, question, &mut buffer[..length]);
+    answer_in(output, file, question, &mut buffer[..length]);
     true
 }
 
 // Answers it in this buffer.
-fn answer_in(file: &[u8], question: &[u8], buffer: &mut [u8]) {
+fn answer_in<W: Write>(output: &mut W, file: &[u8], question: &[u8], buffer: &mut [u8]) {
     fill(buffer, entry(question, FILL));
     let written = write_asked(file, question, buffer);
-    report(written, digest(buffer));
+    report(output, written, digest(buffer));
 }
 
 fn write_asked(file: &[u8], question: &[u8], buffer: &mut [u8]) -> Written {
