@@ -1,7 +1,6 @@
 use mathlib.Core.Path.{ap, ◌∙◌}
 use Rattle.tables.specs.declared.tables.Tables.{Tables}
 use Rattle.benchmark.specs.Measured.{sampled}
-use borrow.Author.Rules.{rules}
 use Rattle.benchmark.proofs.measured_read.Goals as goal
 
 pub returns : goal.returns

@@ -1,5 +1,4 @@
 use borrow.Author.Tests.{lt-ltb, le-ltb}
-use borrow.Author.Rules.{rules}
 use Rattle.benchmark.proofs.sample.Goals as goal
 
 pub returns-then-i-lt-LIMIT : goal.returns-then-i-lt-LIMIT

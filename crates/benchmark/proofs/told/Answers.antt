@@ -1,6 +1,5 @@
 use mathlib.Core.Path.{sym, ap}
 use Rattle.benchmark.specs.Measured.{told_of}
-use borrow.Author.Rules.{rules}
 use Rattle.benchmark.proofs.told.Goals as goal
 
 pub returns-in-Leaves : goal.returns-in-Leaves
