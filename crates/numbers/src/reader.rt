@@ -1,5 +1,4 @@
-// A reader over the bytes of a session file. The checker derives no proof for a function over a struct that holds a slice,
-// so these are few and thin, and each is proved by hand; `number_at` and `two_at` have plain parameters, so whoever calls them needs no such proof.
+// A reader over the bytes of a session file. `number_at` and `two_at` have plain parameters.
 ghost use Rattle.std.specs.Prelude.{◌≡◌};
 ghost use Rattle.numbers.specs.Said.{said_number};
 ghost use Rattle.numbers.specs.Number.{read_number};

@@ -1,5 +1,4 @@
-// The loop of a replay over the record that a caller lends, and the service itself. The checker derives no proof for a function over a
-// reference to a struct, so these are thin, and each is proved by hand; `replay_from` has plain parameters, so whoever calls it needs no such proof.
+// The loop of a replay over the record that a caller lends, and the service itself; `replay_from` is the service on a record by value.
 ghost use Rattle.std.specs.Prelude.{◌≡◌, true};
 ghost use Rattle.replaying_trace.specs.Tables.{replay_tables};
 ghost use Rattle.replaying_trace.specs.Reply.{Replays};
