@@ -19,10 +19,10 @@ pub bounds-queue-k : goal.bounds-queue-k
 bounds-queue-k c = omega (arith, c.loop-k.invariant.1, tables_most c.requires, c.requires.queue_long)
 
 pub offset_bounds-seen-code : goal.offset_bounds-seen-code
-offset_bounds-seen-code c = omega (arith, c.wide-code.ensures, c.requires.codes (c.loop-k.k - 1))
+offset_bounds-seen-code c = omega (arith, c.wide-code.ensures, c.requires.codes (c.loop-k.k - 1), c.loop-k.invariant.1, tables_most c.requires)
 
 pub bounds-seen-code : goal.bounds-seen-code
-bounds-seen-code c = omega (arith, c.wide-code.ensures, c.requires.codes (c.loop-k.k - 1), c.loop-k.invariant.0.long)
+bounds-seen-code c = omega (arith, c.wide-code.ensures, c.requires.codes (c.loop-k.k - 1), c.loop-k.invariant.0.long, c.loop-k.invariant.1, tables_most c.requires)
 
 pub loop-k-smaller : goal.loop-k-smaller
 loop-k-smaller c = omega (arith, c.loop-k-test.true)
