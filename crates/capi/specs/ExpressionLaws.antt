@@ -1,9 +1,8 @@
 -- Laws of the call about an expression.
-use Rattle.std.specs.Prelude.{ℕ, ◌≤◌, ◌<◌, ◌≡◌, Bool, true, false, ◌&&◌, List, length, leb}
-use Rattle.std.proofs.Common.{ap, ap₂, ◌∙◌, le-leb}
+use Rattle.std.specs.Prelude.{ℕ, ◌≤◌, ◌<◌, ◌≡◌, false, List, length, leb}
+use Rattle.std.proofs.Common.{ap, ◌∙◌, le-leb}
 use Rattle.std.proofs.lemmas.Bool.{lt-leb}
 use Rattle.theory_model.specs.Laws.Basics.{is_and}
-use Rattle.tables.specs.declared.tables.Pool.{Pool}
 use Rattle.c_replies.specs.Told.{NO_QUEUE_ROOM, reply_least, reply_after, Tells}
 use Rattle.c_replies.specs.declared.told.Told.{Told}
 use Rattle.expression.specs.Expression.{Drawn, expression}

@@ -1,5 +1,5 @@
 -- Flat bytes stand for the tables that were put there, and tables that are taken from flat bytes are those bytes when they are put.
-use Rattle.std.specs.Prelude.{ℕ, ◌+◌, ◌*◌, ◌≤◌, ◌≡◌, length, take, drop}
+use Rattle.std.specs.Prelude.{ℕ, ◌*◌, ◌≤◌, ◌≡◌, length, take, drop}
 use Rattle.std.proofs.Math.Path.{sym, ap, ap₂}
 use Rattle.std.proofs.Common.{subst, ◌∙◌, take-append-drop, length-take, arith}
 use mathlib.Core.List.{List, ◌++◌, append_assoc}

@@ -1,5 +1,5 @@
 -- Whether the configuration of a record is inside, and how far it is followed if not, by what the code finds in the tables.
-use Rattle.std.specs.Prelude.{ℕ, ◌≤◌, ◌<◌, ◌≡◌, refl, Bool, true, false, List, length, get_or, take}
+use Rattle.std.specs.Prelude.{ℕ, ◌≤◌, ◌<◌, ◌≡◌, refl, Bool, true, false, List, get_or, take}
 use Rattle.std.proofs.Common.{sym, ap, ap₂, ◌∙◌, arith}
 use Rattle.std.proofs.Math.Option.{Option, some}
 use Rattle.tables.specs.Limits.{most_messages, most_pool}

@@ -1,5 +1,5 @@
 -- What holds of each entry of a list holds of each with one entry set.
-use Rattle.std.specs.Prelude.{ℕ, ◌≤◌, ◌<◌, ◌≡◌, List, eqb, length, get_or, set}
+use Rattle.std.specs.Prelude.{ℕ, ◌<◌, ◌≡◌, List, eqb, length, get_or, set}
 use Rattle.std.proofs.Common.{sym, subst, get_or-set_same, get_or-set_other, eqb-true}
 use Rattle.std.proofs.lemmas.Bool.{eqb-false}
 use Rattle.theory_model.specs.Laws.Basics.{by_test}

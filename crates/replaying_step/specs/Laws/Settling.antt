@@ -9,7 +9,7 @@ use Rattle.tables.specs.declared.tables.Queues.{Queues}
 use Rattle.theory_model.specs.Laws.Controls.{places_number}
 use Rattle.controls.specs.Controls.{sizes_of}
 use Rattle.tables.specs.Starting.{each}
-use Rattle.replaying_queues.specs.Ring.{waiting, ring_at, rings}
+use Rattle.replaying_queues.specs.Ring.{ring_at, rings}
 use Rattle.replaying_queues.specs.Laws.Waiting.{waiting_length}
 use Rattle.replaying_step.specs.Configurations.{run_of, config_of, Holds}
 use Rattle.replaying_step.specs.After.{padded, record_after}

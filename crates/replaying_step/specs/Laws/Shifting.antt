@@ -1,13 +1,13 @@
 -- What a row does to its queue, by what the code finds.
-use Rattle.std.specs.Prelude.{ℕ, zero, suc, ◌+◌, ◌-◌, ◌*◌, ◌%◌, ◌≤◌, ◌<◌, ◌≡◌, refl, true, false, List, [], ◌++◌, length, get_or, set, take, drop}
+use Rattle.std.specs.Prelude.{ℕ, zero, suc, ◌+◌, ◌-◌, ◌*◌, ◌%◌, ◌≤◌, ◌<◌, ◌≡◌, refl, true, false, List, [], ◌++◌, length, get_or, set, drop}
 use Rattle.std.proofs.Common.{sym, ap, subst, ◌∙◌, arith, mul-le-mul, le_refl, length-append, length-set, length-drop, length-take-le}
-use Rattle.std.proofs.Math.Option.{Option, none, some, map}
+use Rattle.std.proofs.Math.Option.{some, map}
 use Rattle.std.proofs.lemmas.List.{set-get_or}
 use Rattle.tables.specs.Limits.{most_queues}
 use Rattle.tables.specs.Rows.{word_entry, queue_at, length_at, word_at}
 use Rattle.tables.specs.Valid.{QueuesValid}
 use Rattle.tables.specs.declared.tables.Queues.{Queues}
-use Rattle.theory_model.specs.Model.{local, send, receive, act, strip}
+use Rattle.theory_model.specs.Model.{local, send, receive, strip}
 use Rattle.theory_files.specs.Tables.{action_of}
 use Rattle.theory_replay.specs.Rules.{room}
 use Rattle.replaying_queues.specs.Ring.{ring_at, rings, put_round, began}

@@ -1,5 +1,5 @@
 -- A transition taken on record and memory is the model's step, by what the code finds.
-use Rattle.std.specs.Prelude.{ℕ, ◌+◌, ◌*◌, ◌≤◌, ◌<◌, ◌≡◌, refl, true, false, List, length, get_or, set, take}
+use Rattle.std.specs.Prelude.{ℕ, ◌+◌, ◌*◌, ◌≤◌, ◌<◌, ◌≡◌, refl, true, List, length, get_or, set, take}
 use Rattle.std.proofs.Common.{sym, ap, ap₂, subst, ◌∙◌, arith, mul-le-mul, le_refl, zero-add, length-set, get_or-take, eq-eqb, ne_eqb}
 use Rattle.std.proofs.Math.Option.{Option, none, some}
 use Rattle.std.proofs.Math.ListN.{get_elem?}
@@ -17,7 +17,6 @@ use Rattle.theory_files.specs.Tables.{action_of, transition_at}
 use Rattle.theory_files.specs.Laws.Rows.{transition_at_lem, words_own}
 use Rattle.controls.specs.Controls.{sizes_of}
 use Rattle.controls.specs.Laws.Parting.{size_at}
-use Rattle.theory_replay.specs.Rules.{room, fits}
 use Rattle.replaying_queues.specs.Ring.{rings}
 use Rattle.replaying_queues.specs.Laws.Rings.{rings_fit}
 use Rattle.replaying_step.specs.Parts.{transitions_of, model_in}
@@ -27,7 +26,6 @@ use Rattle.replaying_step.specs.Taking.{Takeable, Stays, Shiftable, Shifted, Uns
 use Rattle.replaying_step.specs.Laws.Lists.{each_of_set}
 use Rattle.tables.specs.declared.head.Head.{Head}
 use Rattle.replaying_step.specs.declared.runs.RunRecord.{RunRecord}
-use Rattle.replaying_step.specs.declared.taking.Took.{Took}
 use Rattle.replaying_step.specs.declared.taking.Took.TheVariants.{Yes, NotPossible, NoRoom}
 
 one_some : {o : Option Transition} {τ τ' : Transition} → o ≡ some τ → o ≡ some τ' → τ ≡ τ'

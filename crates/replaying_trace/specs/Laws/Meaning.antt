@@ -1,5 +1,5 @@
 -- What a replay's reply says of the run of the file's session: the theorems of traces, over bytes.
-use Rattle.std.specs.Prelude.{ℕ, ◌*◌, ◌≤◌, ◌≡◌, ◌↔◌, List, length, leb}
+use Rattle.std.specs.Prelude.{ℕ, ◌*◌, ◌≤◌, ◌≡◌, ◌↔◌, List, length}
 use Rattle.std.proofs.Common.{sym, ◌∙◌, le-leb}
 use Rattle.std.proofs.Math.Path.{ap, ap₂}
 use Rattle.std.proofs.Math.Option.{none}
@@ -11,9 +11,9 @@ use Rattle.theory_model.specs.Model.{take?}
 use Rattle.theory_model.specs.Session.{Outside, how_far_in}
 use Rattle.theory_files.specs.Tables.{session_of}
 use Rattle.theory_replay.specs.Rules.{room, Why, outside, refusal, Asked}
-use Rattle.theory_replay.specs.Meaning.{Leads, EndMeans, last}
+use Rattle.theory_replay.specs.Meaning.{Leads, last}
 use Rattle.theory_replay.specs.Replay.{replayed}
-use Rattle.theory_replay.specs.Laws.Meaning.{replay_means, outside_exactly, untaken_exactly}
+use Rattle.theory_replay.specs.Laws.Meaning.{outside_exactly, untaken_exactly}
 use Rattle.replaying_step.specs.declared.runs.RunRecord.{RunRecord}
 use Rattle.replaying_trace.specs.Reply.{ran, ran_to, lent_to, replay_to, replay_of}
 use Rattle.replaying_trace.specs.Laws.Closed.{ran_why}

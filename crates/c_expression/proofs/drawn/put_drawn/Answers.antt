@@ -1,7 +1,6 @@
 use mathlib.Core.Path.{sym, ap, ◌∙◌}
 use Rattle.expression.specs.Said.{said_reply}
 use Rattle.c_expression.specs.Drawn.{pool_after}
-use borrow.Author.Rules.{rules}
 use Rattle.c_expression.proofs.drawn.put_drawn.Goals as goal
 
 pub returns-in-Root : goal.returns-in-Root

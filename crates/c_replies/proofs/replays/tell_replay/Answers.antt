@@ -1,4 +1,3 @@
-use borrow.Author.Rules.{rules}
 use mathlib.Core.Path.{sym, ap, ap₂, ◌∙◌}
 use Rattle.theory_replay.specs.Rules.{refusal}
 use Rattle.replaying_trace.specs.Reply.{ran, said_stop}

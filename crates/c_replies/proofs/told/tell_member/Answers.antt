@@ -1,4 +1,3 @@
-use borrow.Author.Rules.{rules}
 use mathlib.Core.Path.{sym, ap, ◌∙◌}
 use Rattle.membership.specs.Said.{said_member}
 use Rattle.c_replies.specs.Told.{told_member}

@@ -1,6 +1,5 @@
 use mathlib.Core.Path.{ap₂, ◌∙◌}
 use Rattle.c_replies.specs.Told.{told_refusal}
-use borrow.Author.Rules.{rules}
 use Rattle.c_replies.proofs.told.tell_refusal.Goals as goal
 
 pub returns : goal.returns

@@ -1,6 +1,5 @@
 use mathlib.Core.Path.{sym, ap, ◌∙◌}
 use Rattle.c_replies.specs.Told.{told_verdict}
-use borrow.Author.Rules.{rules}
 use Rattle.c_replies.proofs.told.tell_verdict.Goals as goal
 
 pub returns-in-Closed : goal.returns-in-Closed

@@ -1,4 +1,3 @@
-use borrow.Author.Rules.{rules}
 use mathlib.Core.Path.{sym, ap, ◌∙◌}
 use Rattle.writing_file.specs.Write.{said_written}
 use Rattle.c_replies.specs.Told.{told_written}

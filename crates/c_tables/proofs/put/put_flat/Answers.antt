@@ -1,5 +1,4 @@
 use Rattle.c_tables.specs.Laws.Put.{put_flat}
-use borrow.Author.Rules.{rules}
 use Rattle.c_tables.proofs.put.put_flat.Goals as goal
 
 pub returns : goal.returns

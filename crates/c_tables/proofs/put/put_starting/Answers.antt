@@ -1,5 +1,4 @@
 use Rattle.c_tables.specs.Laws.Put.{put_starting}
-use borrow.Author.Rules.{rules}
 use Rattle.c_tables.proofs.put.put_starting.Goals as goal
 
 pub returns : goal.returns

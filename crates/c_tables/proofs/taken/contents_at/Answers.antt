@@ -2,7 +2,6 @@ use native.Mathlib.Omega.{arith}
 use Rattle.tables.specs.Starting.{starting_length}
 use Rattle.c_tables.specs.Taken.{contents_place}
 use Rattle.c_tables.specs.Laws.Parts.{part_copied}
-use borrow.Author.Rules.{rules}
 use Rattle.c_tables.proofs.taken.contents_at.Goals as goal
 
 pub returns : goal.returns

@@ -1,4 +1,3 @@
-use borrow.Author.Rules.{rules}
 use Rattle.c_tables.specs.Laws.Parts.{part_entries}
 use Rattle.c_tables.proofs.taken.four_at.Goals as goal
 

@@ -1,4 +1,3 @@
-use borrow.Author.Rules.{rules}
 use Rattle.c_tables.proofs.taken.head_at.Goals as goal
 
 pub returns : goal.returns

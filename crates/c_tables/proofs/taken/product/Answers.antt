@@ -1,7 +1,5 @@
-use Prim.Native.Nat.{◌≤◌, ◌-◌}
-use borrow.Author.Rules.{rules}
 use native.Mathlib.Omega.{arith}
-use Rattle.c_tables.specs.Laws.Products.{Multiplied, multiplied_none, multiplied_more, multiplied_most, multiplied_done}
+use Rattle.c_tables.specs.Laws.Products.{multiplied_none, multiplied_more, multiplied_most, multiplied_done}
 use Rattle.c_tables.proofs.taken.product.Goals as goal
 
 pub loop-i-init : goal.loop-i-init

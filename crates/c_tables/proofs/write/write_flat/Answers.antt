@@ -1,5 +1,4 @@
 use Rattle.c_tables.specs.Laws.Writing.{flat_short, flat_machines, flat_parts}
-use borrow.Author.Rules.{rules}
 use Rattle.c_tables.proofs.write.write_flat.Goals as goal
 
 pub returns-then-tables-lt-TABLES_LEAST : goal.returns-then-tables-lt-TABLES_LEAST

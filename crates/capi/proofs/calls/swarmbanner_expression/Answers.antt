@@ -1,5 +1,4 @@
 use Rattle.capi.specs.ExpressionLaws.{expression_short, expression_unheard, expression_told}
-use borrow.Author.Rules.{rules}
 use Rattle.capi.proofs.calls.swarmbanner_expression.Goals as goal
 
 pub returns-then-pool-lt-POOL_LEAST : goal.returns-then-pool-lt-POOL_LEAST

@@ -1,5 +1,4 @@
 use Rattle.capi.specs.Laws.{member_unheard, member_told}
-use borrow.Author.Rules.{rules}
 use Rattle.capi.proofs.calls.swarmbanner_member.Goals as goal
 
 pub returns-then-reply-lt-REPLY_LEAST : goal.returns-then-reply-lt-REPLY_LEAST

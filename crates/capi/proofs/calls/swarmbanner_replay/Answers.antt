@@ -1,5 +1,4 @@
 use Rattle.capi.specs.Laws.{replay_short, replay_unheard, replay_told_lem}
-use borrow.Author.Rules.{rules}
 use Rattle.capi.proofs.calls.swarmbanner_replay.Goals as goal
 
 pub returns-then-run-lt-RECORD_LEAST : goal.returns-then-run-lt-RECORD_LEAST

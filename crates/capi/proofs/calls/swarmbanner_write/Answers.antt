@@ -1,5 +1,4 @@
 use Rattle.capi.specs.Laws.{write_unheard, write_told}
-use borrow.Author.Rules.{rules}
 use Rattle.capi.proofs.calls.swarmbanner_write.Goals as goal
 
 pub returns-then-reply-lt-REPLY_LEAST : goal.returns-then-reply-lt-REPLY_LEAST

@@ -1,17 +1,12 @@
-use borrow.Author.Rules.{rules}
 use mathlib.Core.Path.{refl, ◌∙◌}
 use mathlib.Core.Option.{some}
-use Prim.Native.Nat.{◌-◌, ◌≤◌}
 use native.Mathlib.Omega.{arith}
-use lib.ListN.{length}
-use Rattle.theory_model.specs.Diagram.{word}
 use Rattle.tables.specs.Laws.Lookup.{nowhere_true, nowhere_false, state_below}
-use Rattle.following.specs.Rows.{state_at, StateRow}
+use Rattle.following.specs.Rows.{state_at}
 use Rattle.following.specs.Laws.Rows.{followed_at, followed_lost}
-use Rattle.following.specs.Laws.Follow.{Following, follow_begin, front_small, follow_front, follow_end, follow_lost}
-use Rattle.following.specs.Laws.Far.{Counting, count_begin, count_front, count_lost}
-use Rattle.replaying_queues.specs.Ring.{rings}
-use Rattle.replaying_queues.specs.Laws.Rings.{one_ring, messages_from, messages_begin, messages_next, messages_end}
+use Rattle.following.specs.Laws.Follow.{follow_begin, front_small, follow_front, follow_end, follow_lost}
+use Rattle.following.specs.Laws.Far.{count_begin, count_front, count_lost}
+use Rattle.replaying_queues.specs.Laws.Rings.{one_ring, messages_begin, messages_next, messages_end}
 use Rattle.replaying_queues.specs.Laws.Led.{first_more, ring_far, leads_rootless, leads_nowhere, leads_to_lem}
 use Rattle.replaying_queues.proofs.follow.follow_rings.Goals as goal
 
@@ -32,7 +27,7 @@ loop-q-init c =
     (follow_begin (omega (arith, row.below)) c.requires.between begin, (count_begin refl begin, (row, omega arith)))
 
 pub follow-requires : goal.follow-requires
-follow-requires c =     let p = c.requires in
+follow-requires c = let p = c.requires in
     let a = c.args in
     let inv = c.loop-q.invariant in
     let next = messages_next a.memory.now a.heads.now a.lengths.now a.count c.loop-q-test.true in
@@ -40,7 +35,7 @@ follow-requires c =     let p = c.requires in
     record { arcs_small = p.arcs_small; state_row = inv.1.1.0; ring_at = record { within = ring.within; placed = ring.placed }; between = front_small inv.0 _ _ next }
 
 pub waiting_in-requires : goal.waiting_in-requires
-waiting_in-requires c =  let R = c.requires.rings in record { count_le_most_queues = omega (arith, R.most, c.loop-q-test.true); by_index = R.held }
+waiting_in-requires c = let R = c.requires.rings in record { count_le_most_queues = omega (arith, R.most, c.loop-q-test.true); by_index = R.held }
 
 pub overflow_add-result : goal.overflow_add-result
 overflow_add-result c =

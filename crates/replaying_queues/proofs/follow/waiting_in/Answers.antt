@@ -1,7 +1,4 @@
-use borrow.Author.Rules.{rules}
 use native.Mathlib.Omega.{arith}
-use Prim.Native.Nat.{◌-◌, ◌≤◌}
-use Rattle.replaying_queues.specs.Led.{Waits}
 use Rattle.replaying_queues.specs.Laws.Led.{waits_none, waits_more, waits_at}
 use Rattle.replaying_queues.proofs.follow.waiting_in.Goals as goal
 

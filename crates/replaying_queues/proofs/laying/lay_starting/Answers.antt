@@ -1,8 +1,5 @@
-use borrow.Author.Rules.{rules}
-use Prim.Native.Nat.{◌-◌, ◌≤◌}
 use mathlib.Core.Path.{◌≡◌}
 use native.Mathlib.Omega.{arith}
-use Rattle.replaying_queues.specs.Laying.{Lays}
 use Rattle.replaying_queues.specs.Laws.Laying.{lay_begin, lay_end, lay_room, lay_word, lay_next}
 use Rattle.replaying_queues.proofs.laying.lay_starting.Goals as goal
 
@@ -10,7 +7,7 @@ pub loop-q-init : goal.loop-q-init
 loop-q-init c = (lay_begin _ _ _, omega arith)
 
 pub put_word-requires : goal.put_word-requires
-put_word-requires c =     let a = c.requires in
+put_word-requires c = let a = c.requires in
     let h = rw c.wide-count.ensures.same at c.loop-q-test.true in
     let l = c.loop-q.invariant.0 in
     record { room_in_bounds = lay_room a h l; n_in_bounds = omega (arith, lay_word a h l c.wide-n.ensures.same); from_bound = omega arith }

@@ -1,15 +1,13 @@
-use borrow.Author.Rules.{rules}
-use Prim.Native.Nat.{◌-◌, ◌≤◌}
+use Prim.Native.Nat.{◌≤◌}
 use native.Mathlib.Omega.{arith}
 use mathlib.Core.Path.{ap, ◌∙◌}
 use lib.ListN.{length}
 use lib.Seq.{sets}
-use Rattle.numbers.specs.Laws.Put.{Left}
 use Rattle.theory_replay.specs.Rules.{room}
 use Rattle.replaying_queues.specs.Ring.{waiting}
 use Rattle.replaying_queues.specs.Laws.Waiting.{waiting_length}
 use Rattle.replaying_queues.specs.Laws.Settle.{gather_begin, gather_next, gather_end, laid_is}
-use Rattle.replaying_queues.specs.Laws.Words.{waiting_from, waiting_begin, waiting_next, waiting_end}
+use Rattle.replaying_queues.specs.Laws.Words.{waiting_begin, waiting_next, waiting_end}
 use Rattle.replaying_queues.proofs.settle.settle_queue.Goals as goal
 
 pub loop-i-init : goal.loop-i-init

@@ -1,13 +1,9 @@
-use borrow.Author.Rules.{rules}
-use mathlib.Core.Logic.{⊎_elim}
-use Prim.Native.Nat.{◌-◌, ◌≤◌, ◌<◌}
+use Prim.Native.Nat.{◌<◌}
 use native.Mathlib.Omega.{arith}
-use lib.ListN.{take, drop}
-use Rattle.replaying_queues.specs.Ring.{waiting}
 use Rattle.theory_replay.specs.Rules.{room}
 use Rattle.following.specs.Laws.Standing.{standing_first}
-use Rattle.following.specs.Laws.Words.{word_from, word_begin, word_next, word_end, word_one}
-use Rattle.replaying_queues.specs.Laws.Words.{waiting_from, waiting_begin, waiting_next, Asked, asked_begin, asked_same, asked_other, asked_end, ask_one, ask_short}
+use Rattle.following.specs.Laws.Words.{word_begin, word_next, word_end, word_one}
+use Rattle.replaying_queues.specs.Laws.Words.{waiting_begin, waiting_next, asked_begin, asked_same, asked_other, asked_end, ask_one, ask_short}
 use Rattle.replaying_queues.proofs.words.begins.Goals as goal
 use Rattle.replaying_queues.proofs.words.begins.Goals.{then-memory-base, else-memory-base}
 
@@ -29,13 +25,12 @@ loop-i-preserved c =
     let t = c.loop-i.invariant.0 in
     let e = word_next _ _ _ c.loop-i-test.true c.requires.n_in_bounds in
     let within : i < a.count = omega (arith, c.loop-i-test.true, c.if-count-n.false) in
-    let f = waiting_next a.memory.now a.base a.head a.count within in
-    (
+    let f = waiting_next a.memory.now a.base a.head a.count within in (
       elim c.if-memory-base.branch [
-        then-memory-base other ↦ asked_other e f _ t other.if-memory-base.true other.same-is
+        | then-memory-base other ↦ asked_other e f _ t other.if-memory-base.true other.same-is
         | else-memory-base same ↦ asked_same e f t same.if-memory-base.false same.same-is
       ],
-      omega arith
+      omega arith,
     )
 
 pub returns : goal.returns

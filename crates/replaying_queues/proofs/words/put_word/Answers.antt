@@ -1,9 +1,6 @@
-use borrow.Author.Rules.{rules}
-use Prim.Native.Nat.{◌+◌, ◌-◌, ◌≤◌}
 use native.Mathlib.Omega.{arith}
-use lib.ListN.{take, drop}
-use Rattle.following.specs.Laws.Words.{word_from, word_begin, word_next, word_end, word_one}
-use Rattle.replaying_queues.specs.Laws.Words.{Putting, put_begin, put_one, put_next, put_end}
+use Rattle.following.specs.Laws.Words.{word_begin, word_next, word_end, word_one}
+use Rattle.replaying_queues.specs.Laws.Words.{put_begin, put_one, put_next, put_end}
 use Rattle.replaying_queues.proofs.words.put_word.Goals as goal
 
 pub returns-then-n-eq1 : goal.returns-then-n-eq1

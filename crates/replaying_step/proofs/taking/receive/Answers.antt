@@ -1,13 +1,11 @@
 use native.Mathlib.Omega.{arith}
-use borrow.Author.Tests.{not-true, not-false}
 use mathlib.Core.Path.{sym, ◌∙◌}
 use Rattle.tables.specs.Rows.{queue_at}
 use Rattle.replaying_step.specs.Laws.Shifting.{queue_room, receive_none, receive_length, receive_taken}
-use borrow.Author.Rules.{rules}
 use Rattle.replaying_step.proofs.taking.receive.Goals as goal
 
 pub begins-requires : goal.begins-requires
-begins-requires c =  let S = c.requires.shiftable in let k = queue_at c.args.rows.now c.args.row in
+begins-requires c = let S = c.requires.shiftable in let k = queue_at c.args.rows.now c.args.row in
     record { ring = record { within = queue_room S; placed = S.ringed.placed k; held = S.ringed.held k }; n_in_bounds = omega (arith, S.within, S.action.word.most) }
 
 pub returns-then-not-begins : goal.returns-then-not-begins

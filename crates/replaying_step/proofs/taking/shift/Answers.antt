@@ -1,5 +1,4 @@
 use Rattle.replaying_step.specs.Laws.Shifting.{local_stays, kind_receives}
-use borrow.Author.Rules.{rules}
 use Rattle.replaying_step.proofs.taking.shift.Goals as goal
 
 pub returns-then-kind-eq-LOCAL : goal.returns-then-kind-eq-LOCAL

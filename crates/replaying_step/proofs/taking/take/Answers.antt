@@ -2,7 +2,6 @@ use native.Mathlib.Omega.{arith}
 use Prim.Native.Nat.{◌*◌}
 use Rattle.tables.specs.Rows.{row_length}
 use Rattle.replaying_step.specs.Laws.Taking.{machine_few, row_shiftable, take_elsewhere, take_refused, take_full, take_yes}
-use borrow.Author.Rules.{rules}
 use Rattle.replaying_step.proofs.taking.take.Goals as goal
 
 pub overflow_cast-machine : goal.overflow_cast-machine

@@ -1,7 +1,5 @@
 use mathlib.Core.Path.{refl}
-use borrow.Author.Tests.{not-true, not-false}
 use Rattle.replaying_trace.specs.Laws.Begin.{lays_none, lays_all}
-use borrow.Author.Rules.{rules}
 use Rattle.replaying_trace.proofs.start.lay_for.Goals as goal
 
 pub returns-then-not-going : goal.returns-then-not-going

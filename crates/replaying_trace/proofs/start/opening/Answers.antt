@@ -1,6 +1,5 @@
 use mathlib.Core.Path.{refl}
 use Rattle.replaying_trace.specs.Run.{unread, too_long, too_short, opened}
-use borrow.Author.Rules.{rules}
 use Rattle.replaying_trace.proofs.start.opening.Goals as goal
 
 pub returns-then-length-gt-MOST_BYTES : goal.returns-then-length-gt-MOST_BYTES

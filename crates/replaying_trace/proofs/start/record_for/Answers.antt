@@ -1,6 +1,4 @@
 use Rattle.replaying_trace.specs.Laws.Begin.{record_starts, record_stays}
-use borrow.Author.Tests.{not-true, not-false}
-use borrow.Author.Rules.{rules}
 use Rattle.replaying_trace.proofs.start.record_for.Goals as goal
 
 pub returns-then-not-going : goal.returns-then-not-going

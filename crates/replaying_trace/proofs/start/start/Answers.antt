@@ -1,5 +1,4 @@
 use Rattle.replaying_trace.specs.Laws.Begin.{opens_layable, begins}
-use borrow.Author.Rules.{rules}
 use Rattle.replaying_trace.proofs.start.start.Goals as goal
 
 pub lay_for-requires : goal.lay_for-requires

@@ -1,6 +1,5 @@
 use mathlib.Core.Path.{refl}
 use Rattle.replaying_trace.specs.Laws.Turn.{turned_untaken, turned_full, turned_on, held_settleable, held_stopped, stays_held}
-use borrow.Author.Rules.{rules}
 use Rattle.replaying_trace.proofs.turn.taken.Goals as goal
 
 pub stopped-requires : goal.stopped-requires

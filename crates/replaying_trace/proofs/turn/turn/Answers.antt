@@ -1,7 +1,6 @@
 use mathlib.Core.Path.{sym, ap, ◌∙◌}
 use Rattle.numbers.specs.Said.{said_field}
 use Rattle.replaying_trace.specs.Laws.Turn.{stepped_outside, stepped_end, stepped_unread, stepped_taken, number_asked, held_stopped}
-use borrow.Author.Rules.{rules}
 use Rattle.replaying_trace.proofs.turn.turn.Goals as goal
 
 pub returns-in-Outside : goal.returns-in-Outside

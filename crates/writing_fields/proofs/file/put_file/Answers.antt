@@ -5,7 +5,6 @@ use Rattle.numbers.specs.Laws.Put.{put_then}
 use Rattle.theory_format.specs.Spelled.{machines, spelled}
 use Rattle.writing_fields.specs.Parts.{diagrams}
 use Rattle.writing_fields.specs.Laws.Texts.{put_as}
-use borrow.Author.Rules.{rules}
 use Rattle.writing_fields.proofs.file.put_file.Goals as goal
 
 pub returns : goal.returns

@@ -1,4 +1,3 @@
-use borrow.Author.Rules.{rules}
 use Rattle.writing_fields.proofs.moves.first_of.Goals as goal
 
 pub returns-then-resumes : goal.returns-then-resumes

@@ -1,5 +1,4 @@
 use Rattle.writing_fields.specs.Laws.Kinds.{kind_ends, kind_goes_on}
-use borrow.Author.Rules.{rules}
 use Rattle.writing_fields.proofs.moves.put_kind.Goals as goal
 
 pub returns-then-kind-eq0 : goal.returns-then-kind-eq0

@@ -3,7 +3,6 @@ use Rattle.numbers.specs.Laws.Put.{put_then}
 use Rattle.theory_format.specs.Spelled.{transition}
 use Rattle.writing_fields.specs.Parts.{kind}
 use Rattle.writing_fields.specs.Laws.Texts.{put_found}
-use borrow.Author.Rules.{rules}
 use Rattle.writing_fields.proofs.moves.put_transition.Goals as goal
 
 pub returns : goal.returns

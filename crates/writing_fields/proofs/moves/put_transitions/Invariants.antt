@@ -1,14 +1,8 @@
-use borrow.Author.Rules.{rules}
-use Prim.Native.Nat.{ℕ, ◌≤◌, ◌<◌, ◌+◌, ◌-◌, ◌*◌}
-use mathlib.Core.Path.{◌∙◌}
+use Prim.Native.Nat.{ℕ, ◌≤◌, ◌+◌, ◌-◌, ◌*◌}
 use mathlib.Core.List.{List}
-use native.Mathlib.Nat.{sub-zero}
-use native.Mathlib.Omega.{arith}
 use Rattle.tables.specs.Rows.{row_length}
-use Rattle.numbers.specs.Laws.Put.{Left, left_start, put_then}
-use Rattle.theory_format.specs.Spelled.{each, transition, transitions}
-use Rattle.writing_fields.specs.Laws.Texts.{put_long}
-use Rattle.writing_fields.specs.Laws.Loops.{left_part, left_parts}
+use Rattle.numbers.specs.Laws.Put.{Left}
+use Rattle.theory_format.specs.Spelled.{each, transition}
 use Rattle.writing_fields.proofs.moves.put_transitions.Given as goal
 
 abbrev part : List ℕ → ℕ → List ℕ
@@ -18,7 +12,6 @@ abbrev pub invariant-loop-t : goal.invariant-loop-t
 invariant-loop-t l =
     Left l.initial.s l.initial.next (each (part l.rows) l.count 0) l.s l.next (each (part l.rows) (l.count - l.t) l.t) × (l.t ≤ l.count)
     × (l.next + 522 * (l.count - l.t) ≤ l.initial.next + 522 * l.count)
-
 
 abbrev pub decreases-loop-t : goal.decreases-loop-t
 decreases-loop-t l = l.count - l.t

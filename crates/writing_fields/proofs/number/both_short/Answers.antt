@@ -1,6 +1,5 @@
 use borrow.Author.Tests.{lt-ltb, le-ltb}
 use native.Mathlib.Omega.{arith}
-use borrow.Author.Rules.{rules}
 use Rattle.writing_fields.proofs.number.both_short.Goals as goal
 
 pub returns-then-a-ge128 : goal.returns-then-a-ge128

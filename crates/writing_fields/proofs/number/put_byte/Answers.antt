@@ -1,5 +1,4 @@
 use Rattle.writing_fields.specs.Laws.Numbers.{put_past}
-use borrow.Author.Rules.{rules}
 use Rattle.writing_fields.proofs.number.put_byte.Goals as goal
 
 pub returns-then-s-at : goal.returns-then-s-at

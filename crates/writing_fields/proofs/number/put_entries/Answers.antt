@@ -1,9 +1,7 @@
-use borrow.Author.Rules.{rules}
-use Prim.Native.Nat.{ℕ, ◌≤◌, ◌+◌, ◌-◌, ◌*◌}
+use Prim.Native.Nat.{ℕ}
 use lib.ListN.{get_or}
 use native.Mathlib.Omega.{arith}
-use Rattle.numbers.specs.Laws.Put.{Left}
-use Rattle.theory_format.specs.Spelled.{number, entries}
+use Rattle.theory_format.specs.Spelled.{number}
 use Rattle.writing_fields.specs.Laws.Texts.{put_found}
 use Rattle.writing_fields.specs.Laws.Loops.{left_first, left_part, left_parts}
 use Rattle.writing_fields.proofs.number.put_entries.Goals as goal
@@ -17,7 +15,7 @@ loop-i-preserved c = (
       (put_found c.entry.ensures c.put_number-next.ensures),
   omega arith,
   omega (arith, c.put_number-next.ensures.within, c.loop-i.invariant.2),
- )
+)
 
 pub shape_of-s : goal.shape_of-s
 shape_of-s c = c.loop-i.invariant.0.long

@@ -3,7 +3,6 @@ use native.Mathlib.Omega.{arith}
 use lib.ListN.{length, length-set}
 use Rattle.numbers.specs.Laws.Put.{put_then}
 use Rattle.writing_fields.specs.Laws.Numbers.{both_room, put_both}
-use borrow.Author.Rules.{rules}
 use Rattle.writing_fields.proofs.number.put_two.Goals as goal
 
 pub bounds-s-at : goal.bounds-s-at

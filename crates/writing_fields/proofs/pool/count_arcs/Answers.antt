@@ -1,11 +1,7 @@
-use borrow.Author.Rules.{rules}
-use Prim.Native.Nat.{ℕ, ◌≤◌, ◌+◌, ◌-◌}
-use mathlib.Core.Path.{◌≡◌, refl}
+use mathlib.Core.Path.{refl}
 use native.Mathlib.Nat.{zero-add, sub-zero}
 use native.Mathlib.Omega.{arith}
 use lib.ListN.{length, get_or}
-use Rattle.theory_format.specs.Spelled.{arcs_of}
-use Rattle.writing_fields.specs.Parts.{arcs_in}
 use Rattle.writing_fields.specs.Laws.Arcs.{count_next, count_within, count_end}
 use Rattle.writing_fields.proofs.pool.count_arcs.Goals as goal
 

@@ -1,5 +1,4 @@
 use borrow.Author.Tests.{eq-eqb, ne_eqb}
-use borrow.Author.Rules.{rules}
 use Rattle.writing_fields.proofs.pool.one_more.Goals as goal
 
 pub returns-then-arc-eq0 : goal.returns-then-arc-eq0

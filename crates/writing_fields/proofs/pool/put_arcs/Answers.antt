@@ -1,12 +1,8 @@
 use mathlib.Core.Path.{refl}
-use borrow.Author.Rules.{rules}
-use Prim.Native.Nat.{◌≤◌, ◌+◌, ◌-◌, ◌*◌}
 use native.Mathlib.Nat.{sub-zero}
 use native.Mathlib.Omega.{arith}
 use lib.ListN.{length}
-use Rattle.numbers.specs.Laws.Put.{Left, left_start}
-use Rattle.theory_format.specs.Spelled.{arcs_of, arcs}
-use Rattle.writing_fields.specs.Parts.{arcs_in}
+use Rattle.numbers.specs.Laws.Put.{left_start}
 use Rattle.writing_fields.specs.Laws.Arcs.{left_skip, left_arc, left_arcs_end}
 use Rattle.writing_fields.proofs.pool.put_arcs.Goals as goal
 

@@ -1,10 +1,10 @@
 use borrow.Author.Rules.{rules}
-use Prim.Native.Nat.{◌≤◌, ◌<◌, ◌+◌, ◌-◌, ◌*◌}
+use Prim.Native.Nat.{◌<◌, ◌*◌}
 use mathlib.Core.Path.{◌∙◌}
 use native.Mathlib.Nat.{sub-zero}
 use native.Mathlib.Omega.{arith}
-use Rattle.numbers.specs.Laws.Put.{Left, left_start, put_then}
-use Rattle.theory_format.specs.Spelled.{each, state, pool}
+use Rattle.numbers.specs.Laws.Put.{left_start, put_then}
+use Rattle.theory_format.specs.Spelled.{state, pool}
 use Rattle.writing_fields.specs.Laws.Texts.{put_long}
 use Rattle.writing_fields.specs.Laws.Loops.{left_part, left_parts}
 use Rattle.writing_fields.proofs.pool.put_pool.Goals as goal
@@ -17,7 +17,7 @@ loop-i-preserved c = (
   left_part (state c.args.finals.now c.args.arcs.now c.args.sum) _ _ c.loop-i-test.true c.loop-i.invariant.0 c.put_state-next.ensures,
   omega arith,
   omega (arith, c.put_state-next.ensures.within, c.loop-i.invariant.2),
- )
+)
 
 pub shape_of-s : goal.shape_of-s
 shape_of-s c = c.loop-i.invariant.0.long ∙ put_long c.put_number-next.ensures

@@ -1,7 +1,6 @@
 use native.Mathlib.Omega.{arith}
 use Rattle.numbers.specs.Laws.Put.{put_then}
 use Rattle.writing_fields.specs.Laws.Texts.{put_found}
-use borrow.Author.Rules.{rules}
 use Rattle.writing_fields.proofs.pool.put_row.Goals as goal
 
 pub returns : goal.returns

@@ -1,6 +1,5 @@
 use Prim.Native.Nat.{◌*◌}
 use Rattle.writing_fields.specs.Laws.Arcs.{cut_before, cut_within, cut_after}
-use borrow.Author.Rules.{rules}
 use Rattle.writing_fields.proofs.pool.row_of.Goals as goal
 
 pub returns-then-table-first : goal.returns-then-table-first

@@ -1,11 +1,11 @@
-use Prim.Native.Nat.{ℕ, ◌≤◌, ◌<◌, ◌+◌, ◌-◌, ◌*◌}
+use Prim.Native.Nat.{ℕ, ◌<◌, ◌+◌, ◌*◌}
 use mathlib.Core.Path.{ap₂, ◌∙◌}
 use mathlib.Core.List.{List, ◌++◌}
 use lib.ListN.{get_or}
 use native.Mathlib.Nat.{sub-zero}
 use native.Mathlib.Omega.{arith}
-use Rattle.numbers.specs.Laws.Put.{Left, left_start, put_then}
-use Rattle.theory_format.specs.Spelled.{number, each, bad}
+use Rattle.numbers.specs.Laws.Put.{left_start, put_then}
+use Rattle.theory_format.specs.Spelled.{number, bad}
 use Rattle.writing_fields.specs.Laws.Texts.{put_as, put_long}
 use Rattle.writing_fields.specs.Laws.Loops.{left_part, left_parts}
 use borrow.Author.Rules.{rules}
@@ -23,7 +23,7 @@ loop-b-preserved c = (
       (put_as (ap₂ (λ (x y : ℕ). number x ++ number y) c.entry.ensures c.entry-in-loop-b.ensures) c.put_two-next.ensures),
   omega arith,
   omega (arith, c.put_two-next.ensures.within, c.loop-b.invariant.2),
- )
+)
 
 pub shape_of-s : goal.shape_of-s
 shape_of-s c = c.loop-b.invariant.0.long ∙ put_long c.put_number-next.ensures

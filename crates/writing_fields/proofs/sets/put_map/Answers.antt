@@ -1,7 +1,6 @@
 use native.Mathlib.Omega.{arith}
 use Rattle.theory_format.specs.Spelled.{mapped}
 use Rattle.writing_fields.specs.Laws.Texts.{put_wider}
-use borrow.Author.Rules.{rules}
 use Rattle.writing_fields.proofs.sets.put_map.Goals as goal
 
 pub returns : goal.returns

@@ -1,7 +1,6 @@
 use Prim.Native.Nat.{◌<◌}
 use mathlib.Core.Path.{sym, ◌∙◌}
 use native.Mathlib.Omega.{arith}
-use borrow.Author.Tests.{not-true, not-false}
 use Rattle.theory_format.specs.Spelled.{contents}
 use Rattle.writing_fields.specs.Laws.Waiting.{waiting_none, waiting_some}
 use borrow.Author.Rules.{rules}

@@ -1,4 +1,3 @@
-use borrow.Author.Rules.{rules}
 use mathlib.Core.Path.{sym, ap}
 use Rattle.reading_file.specs.Said.{said_answer}
 use Rattle.reading_file.specs.Laws.Reading.{answer_valid}

@@ -1,6 +1,4 @@
-use borrow.Author.Rules.{rules}
 use native.Mathlib.Omega.{arith}
-use borrow.Author.Tests.{not-true, not-false}
 use Rattle.writing_file.specs.Laws.Writing.{fronted, unread_machines, unread_product, unread_long, restored_by}
 use Rattle.writing_file.specs.Laws.Promises.{writes_unread, writes_short, writes_whole}
 use Rattle.writing_file.proofs.write.write_parts.Goals as goal
