@@ -1,5 +1,5 @@
 -- The line that is written of a verdict is the line of checking's reply; and with enough lent it is the line of the file's reply.
-use Rattle.std.specs.Prelude.{ℕ, ◌+◌, ◌*◌, ◌≤◌, ◌≡◌, refl, List, ◌++◌, length, drop, replicate, leb}
+use Rattle.std.specs.Prelude.{ℕ, ◌+◌, ◌*◌, ◌≤◌, ◌≡◌, List, ◌++◌, length, drop, replicate, leb}
 use Rattle.std.proofs.Common.{sym, ap, subst, ◌∙◌, le-leb, arith}
 use Rattle.std.proofs.lemmas.List.{length-replicate}
 use Rattle.theory_files.specs.Reply.{shown_of, line_of, reply_of, reply_to}

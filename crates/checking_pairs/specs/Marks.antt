@@ -1,6 +1,6 @@
 -- What the lent tables show. The queue has the number of each pair that was found, in the order of finding; seen has at a pair's number the place of its
 -- parent in the queue plus 1, and 0 where the pair was not found.
-use Rattle.std.specs.Prelude.{◌≡◌, not, List, map, ℕ, suc, ◌-◌, ◌≤◌, ◌<◌, eqb, length, get_or, take, replicate}
+use Rattle.std.specs.Prelude.{◌≡◌, not, List, map, ℕ, ◌-◌, ◌≤◌, ◌<◌, eqb, length, get_or, take, replicate}
 use Rattle.std.proofs.Math.Option.{Option}
 use Rattle.theory_exploration.specs.Search.{Found, push, sweep}
 use Rattle.theory_exploration.specs.Marks.{mem, count}

@@ -1,5 +1,5 @@
 -- Field 4: the pool of diagram states.
-use Rattle.std.specs.Prelude.{ℕ, zero, suc, ◌+◌, ◌-◌, ◌*◌, List, set, replicate, leb}
+use Rattle.std.specs.Prelude.{ℕ, zero, suc, ◌+◌, ◌*◌, List, set, replicate, leb}
 use Rattle.tables.specs.Limits.{most_pool, most_messages}
 use Rattle.numbers.specs.Part.{Part, got, provided, and_then}
 use Rattle.numbers.specs.Number.{read_within, below, read_below}

@@ -1,5 +1,4 @@
 use Rattle.checking_answer.specs.Laws.{answered_by}
-use borrow.Author.Rules.{rules}
 use Rattle.checking_answer.proofs.answer.Goals as goal
 
 pub returns : goal.returns

@@ -1,4 +1,3 @@
-use borrow.Author.Rules.{rules}
 use Rattle.theory_files.specs.Checking.{table_least}
 use Rattle.tables.specs.Limits.{contents_least}
 use Rattle.checking_answer.specs.Laws.{lines, new_long}

@@ -1,4 +1,3 @@
-use borrow.Author.Rules.{rules}
 use native.Mathlib.Omega.{arith}
 use Rattle.checking_answer.specs.Laws.{whole}
 use Rattle.checking_answer.proofs.whole_line.Goals as goal

@@ -3,7 +3,6 @@ use Rattle.std.specs.Prelude.{ℕ, ◌≤◌, ◌<◌, ◌≡◌, refl, false, L
 use Rattle.std.proofs.Common.{sym, ap, subst, ◌∙◌, arith, take-append-drop, length-take-le}
 use Rattle.std.proofs.lemmas.List.{length-replicate}
 use Rattle.checking_pairs.specs.Pairs.{most_codes}
-use Rattle.numbers.specs.Part as Part
 use Rattle.numbers.specs.Said.{number_of, place_of}
 use Rattle.reading_file.specs.Said.{said_answer}
 use Rattle.reading_file.specs.File.{Reads, read_file}
@@ -13,7 +12,6 @@ use Rattle.reading_file.specs.declared.reading.Reading.{Reading}
 use Rattle.reading_file.specs.declared.reading.Answer.TheVariants.{Read, Refused as AnswerRefused}
 use Rattle.numbers.specs.declared.refusal.Refusal.{Refusal}
 use Rattle.numbers.specs.declared.refusal.Refusal.TheVariants.{TooLong}
-use Rattle.theory_model.specs.Judge as Model
 use Rattle.theory_files.specs.Reply.{reply_to}
 use Rattle.theory_files.specs.Checking.{enough, read_lent, table_after, contents_after, Checks, CheckMeans, CheckTwoRuns}
 use Rattle.tables.specs.Limits.{contents_least}

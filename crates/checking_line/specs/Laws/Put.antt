@@ -1,8 +1,6 @@
 -- Digits and messages that are put one after the other.
-use Rattle.std.specs.Prelude.{ℕ, zero, suc, ◌+◌, ◌-◌, ◌/◌, ◌%◌, ◌≤◌, ◌<◌, ◌≡◌, refl, Bool, true, false, List, [], ◌∷◌, ◌++◌, length, get_or, take, drop, set, ltb}
-use Rattle.std.proofs.Common.{sym, ap, ap₂, subst, ◌∙◌, length-append, length-set, drop_of_length-le, drop-cons, lt-ltb, le-ltb, ltb-false, arith, add-zero, zero-add}
-use Rattle.std.proofs.lemmas.List.Edits.{sets, sets-eq}
-use Rattle.std.proofs.Math.Seq.{length-sets}
+use Rattle.std.specs.Prelude.{ℕ, zero, suc, ◌+◌, ◌-◌, ◌/◌, ◌%◌, ◌≤◌, ◌<◌, ◌≡◌, refl, Bool, true, false, List, [], ◌∷◌, ◌++◌, length, get_or, take, drop, ltb}
+use Rattle.std.proofs.Common.{sym, ap, subst, ◌∙◌, drop-cons, lt-ltb, le-ltb, ltb-false, arith}
 use Rattle.std.proofs.Math.Nat.{sub-zero}
 use Rattle.theory_model.specs.Line.{digits, spaced, spaced_all}
 use Rattle.numbers.specs.Put.{Put}

@@ -8,7 +8,7 @@ use Rattle.theory_model.specs.Model.{sizes_product, number}
 use Rattle.theory_model.specs.Session.{States}
 use Rattle.theory_model.specs.Laws.Controls.{number_below}
 use Rattle.theory_files.specs.Laws.Counts.{states_are}
-use Rattle.controls.specs.Controls.{sizes_of, starts_of, Numberable, Numbering, with_rest, Stepped}
+use Rattle.controls.specs.Controls.{sizes_of, starts_of, Numberable, Numbering, with_rest}
 use Rattle.controls.specs.Laws.Parting.{sizes_length, sizes_stepped, sizes_product_lem}
 
 gathered : (sum k p P N : ℕ) → sum * (k * P) + (p * P + N) ≡ (sum * k + p) * P + N

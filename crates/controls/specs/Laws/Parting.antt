@@ -1,7 +1,7 @@
 -- Parting a control state machine by machine.
-use Rattle.std.specs.Prelude.{ℕ, zero, suc, ◌+◌, ◌-◌, ◌*◌, ◌/◌, ◌%◌, ◌≤◌, ◌<◌, ◌≡◌, refl, List, [], ◌∷◌, length, get_or, set, take, drop}
+use Rattle.std.specs.Prelude.{ℕ, zero, suc, ◌+◌, ◌-◌, ◌*◌, ◌/◌, ◌%◌, ◌≤◌, ◌<◌, ◌≡◌, List, [], ◌∷◌, length, get_or, set, take, drop}
 use Rattle.std.proofs.Common.{sym, ap, subst, ◌∙◌, arith, add-one, mod-lt, div-add-mod', mul-le-mul, one-mul, zero-add, add_assoc, le_refl, length-take, drop_of_length-le, drop-cons, get_or-take}
-use Rattle.tables.specs.Limits.{most_machines, most_controls}
+use Rattle.tables.specs.Limits.{most_controls}
 use Rattle.tables.specs.Kinds.{limited}
 use Rattle.tables.specs.Valid.{MachinesValid}
 use Rattle.tables.specs.declared.tables.Machines.{Machines}
@@ -10,7 +10,6 @@ use Rattle.theory_model.specs.Laws.Controls.{number_places, number_below, places
 use Rattle.theory_files.specs.Laws.Counts.{product_is}
 use Rattle.tables.specs.Laws.Kinds.{control_made}
 use Rattle.controls.specs.Controls.{sizes_of, Located, Partable, Stepped}
-use Rattle.controls.specs.declared.parting.Parted.{Parted}
 
 -- every machine has a state
 abbrev pub Positive : List ℕ → Type 0

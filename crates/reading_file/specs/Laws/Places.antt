@@ -1,5 +1,5 @@
 -- The sets are fair: places only grow and stay within the file, and each refuses by 3 to 8.
-use Rattle.std.specs.Prelude.{ℕ, ◌-◌, ◌*◌, ◌≤◌, List, length, replicate}
+use Rattle.std.specs.Prelude.{ℕ, ◌*◌, ◌≤◌, List, length, replicate}
 use native.Mathlib.Omega.{arith}
 use Rattle.tables.specs.Limits.{most_controls, most_bad}
 use Rattle.numbers.specs.Part.{got}

@@ -1,5 +1,5 @@
 -- The fields of the model are fair: places only grow and stay within the file, and each refuses by 3 to 8, or by 23 at the first number.
-use Rattle.std.specs.Prelude.{ℕ, suc, ◌+◌, ◌-◌, ◌*◌, ◌≤◌, Bool, List, length, get_or, set, ltb, eqb}
+use Rattle.std.specs.Prelude.{ℕ, suc, ◌+◌, ◌*◌, ◌≤◌, Bool, List, length, get_or, set, ltb, eqb}
 use Rattle.std.proofs.Math.ListN.{replicate}
 use Rattle.std.proofs.Math.Dec.{leb}
 use native.Mathlib.Omega.{arith}

@@ -6,7 +6,6 @@ use Rattle.std.proofs.Math.Bool.{true, false, and-false}
 use Rattle.std.proofs.lemmas.Bool.{false≢true, lt-leb}
 use Rattle.numbers.specs.Limits.{most_bytes}
 use Rattle.numbers.specs.Part.{Part, got, provided}
-use Rattle.numbers.specs.Part as Part
 use Rattle.numbers.specs.Laws.Parts.{not_refused}
 use Rattle.reading_file.specs.File.{read_file}
 use Rattle.reading_file.specs.Valid.{Valid}

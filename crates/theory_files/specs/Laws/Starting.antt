@@ -1,5 +1,5 @@
 -- What waits at the start is of each queue's own messages.
-use Rattle.std.specs.Prelude.{ℕ, zero, suc, ◌+◌, ◌*◌, ◌<◌, ◌≡◌, List, [], ◌∷◌, length, get_or, take, drop}
+use Rattle.std.specs.Prelude.{ℕ, suc, ◌+◌, ◌*◌, ◌<◌, ◌≡◌, List, [], ◌∷◌, length, get_or, take, drop}
 use Rattle.std.proofs.Common.{subst, get_or-drop, length-take-le, arith}
 use Rattle.tables.specs.Limits.{most_starting}
 use Rattle.tables.specs.Starting.{each, starting_at, starting_of}

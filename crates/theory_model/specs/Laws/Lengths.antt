@@ -13,7 +13,7 @@ use Rattle.theory_exploration.specs.Laws.Places.{place_below}
 use Rattle.theory_exploration.specs.Search.{Found, Outcome, found, finished, search_from, lowest, trace_from, trace}
 use Rattle.theory_exploration.specs.Laws.Agree.{agree_length}
 use Rattle.theory_exploration.specs.Laws.Search.{Answers, search_is as search-answers}
-use Rattle.theory_model.specs.Model.{messages, begin}
+use Rattle.theory_model.specs.Model.{messages}
 use Rattle.theory_model.specs.Session.{Session, WellFormed}
 use Rattle.theory_model.specs.Verdict.{Item, start, step, entry, Pair, most_pairs}
 use Rattle.theory_model.specs.Judge.{same, Walk, Begun, go, wrong, contents, out, walked, Judged, passes, fails, look, begin_step, begin_entry, walk_of}

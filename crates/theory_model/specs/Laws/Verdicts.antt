@@ -12,7 +12,7 @@ use Rattle.theory_model.specs.Model.{Action, local, send, receive, controls, mov
 use Rattle.theory_model.specs.Diagram.{follow, is_final, accepts, word}
 use Rattle.theory_model.specs.Session.{Session, inside, Outside, WellFormed}
 use Rattle.theory_model.specs.Verdict.{Item, start, step, entry, items, Pair, before, after, StepPair, BadPair, Visited, Passes, Sum, First, Means}
-use Rattle.theory_model.specs.Verdict.{Reply, closed, outside, bad, Closed, most_in_all, steps_from, entries_from}
+use Rattle.theory_model.specs.Verdict.{Reply, closed, outside, Closed, most_in_all, steps_from, entries_from}
 use Rattle.theory_model.specs.Judge.{Judged, passes, fails, Begun, begin_step, begin_entry, walk_of, judge_walk, judge, reply, decide, verdict}
 use Rattle.theory_model.specs.TwoRuns.{TwoRuns}
 use Rattle.theory_model.specs.Laws.Items.{IsItem, item_is}

@@ -1,5 +1,5 @@
 -- No step changes how many queues there are.
-use Rattle.std.specs.Prelude.{ℕ, ◌≡◌, refl, List, [], ◌++◌, length, get_or, set}
+use Rattle.std.specs.Prelude.{ℕ, ◌≡◌, refl, List, [], ◌++◌, length, get_or}
 use Rattle.std.proofs.Common.{sym, ap, ◌∙◌, length-set}
 use Rattle.std.proofs.Math.Option.{some}
 use Rattle.theory_model.specs.Model.{Action, local, send, receive, Configuration, act, begin}

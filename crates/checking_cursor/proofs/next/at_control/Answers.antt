@@ -1,8 +1,5 @@
-use Prim.Native.Nat.{◌-◌, ◌≤◌}
-use mathlib.Core.Path.{◌≡◌, refl, sym, ◌∙◌}
-use borrow.Author.Rules.{rules}
+use mathlib.Core.Path.{refl, sym, ◌∙◌}
 use native.Mathlib.Omega.{arith}
-use Rattle.checking_cursor.specs.Left.{steps_on, model_in}
 use Rattle.checking_cursor.specs.Laws.Seeking.{passes_over}
 use Rattle.checking_cursor.proofs.next.at_control.Goals as goal
 
@@ -10,7 +7,7 @@ pub loop-i-init : goal.loop-i-init
 loop-i-init c = (omega arith, omega (arith, c.wide-count.ensures.same, c.requires.c_lt_product.1), refl)
 
 pub is_at-requires : goal.is_at-requires
-is_at-requires c =     let m = c.requires.movable in
+is_at-requires c = let m = c.requires.movable in
     record { machines_valid = m.machines; row_length_in_bounds = omega (arith, m.transitions.long, m.transitions.most, c.wide-count.ensures.same); row_bound = (m.transitions.row c.loop-i.i (omega (arith, c.wide-count.ensures.same))).move.machine; c_lt_product = c.requires.c_lt_product.0 }
 
 pub returns-then-is_at : goal.returns-then-is_at

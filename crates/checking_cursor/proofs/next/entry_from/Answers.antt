@@ -1,6 +1,5 @@
 use native.Mathlib.Omega.{arith}
 use Rattle.checking_cursor.specs.Laws.Seeking.{entry_found, end_found}
-use borrow.Author.Rules.{rules}
 use Rattle.checking_cursor.proofs.next.entry_from.Goals as goal
 
 pub returns-then-b-wide : goal.returns-then-b-wide

@@ -1,14 +1,13 @@
 use native.Mathlib.Omega.{arith}
 use Rattle.checking_cursor.specs.Laws.Standing.{stands_at_lem}
 use Rattle.checking_cursor.specs.Laws.Seeking.{after_end, found_at}
-use borrow.Author.Rules.{rules}
 use Rattle.checking_cursor.proofs.next.next.Goals as goal
 
 pub overflow_add-i : goal.overflow_add-i
 overflow_add-i c = let (l, k, a) = stands_at_lem _ c.in-Step.is c.requires.stands in omega (arith, c.requires.movable.transitions.most)
 
 pub seek-requires-in-Step : goal.seek-requires-in-Step
-seek-requires-in-Step c =  let (l, k, a) = stands_at_lem _ c.in-Step.is c.requires.stands in record { movable = c.requires.movable; from_lt_product = (l, omega arith) }
+seek-requires-in-Step c = let (l, k, a) = stands_at_lem _ c.in-Step.is c.requires.stands in record { movable = c.requires.movable; from_lt_product = (l, omega arith) }
 
 pub overflow_add-b : goal.overflow_add-b
 overflow_add-b c = let l = stands_at_lem _ c.in-Entry.is c.requires.stands in omega (arith, c.requires.movable.bad)

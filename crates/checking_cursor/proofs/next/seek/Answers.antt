@@ -1,16 +1,15 @@
-use Prim.Native.Nat.{◌-◌, ◌<◌}
+use Prim.Native.Nat.{◌<◌}
 use mathlib.Core.Path.{sym, subst}
-use borrow.Author.Rules.{rules}
 use native.Mathlib.Omega.{arith}
 use Rattle.tables.specs.Laws.Kinds.{control_made}
-use Rattle.checking_cursor.specs.Laws.Seeking.{Seeking, seek_begins, seek_step, seek_on, seek_entries}
+use Rattle.checking_cursor.specs.Laws.Seeking.{seek_begins, seek_step, seek_on, seek_entries}
 use Rattle.checking_cursor.proofs.next.seek.Goals as goal
 
 pub loop-c-init : goal.loop-c-init
 loop-c-init c = seek_begins c.requires.movable _ _ c.requires.from_lt_product.0 c.requires.from_lt_product.1
 
 pub at_control-t-requires : goal.at_control-t-requires
-at_control-t-requires c =  record { movable = c.requires.movable; c_lt_product = (subst (λ n. n < c.args.h.machines.product) (sym (control_made c.requires.movable.machines _ c.loop-c-test.true c.new-control.ensures)) c.loop-c-test.true, c.loop-c.invariant.most) }
+at_control-t-requires c = record { movable = c.requires.movable; c_lt_product = (subst (λ n. n < c.args.h.machines.product) (sym (control_made c.requires.movable.machines _ c.loop-c-test.true c.new-control.ensures)) c.loop-c-test.true, c.loop-c.invariant.most) }
 
 pub returns-then-t-count : goal.returns-then-t-count
 returns-then-t-count c = seek_step c.requires.movable c.loop-c.invariant _ c.at_control-t.ensures (control_made c.requires.movable.machines _ c.loop-c-test.true c.new-control.ensures) c.loop-c-test.true (omega (arith, c.wide-count.ensures.same))

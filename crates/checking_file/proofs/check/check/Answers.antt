@@ -2,7 +2,6 @@ use mathlib.Core.Path.{refl, sym}
 use native.Mathlib.Omega.{arith}
 use Rattle.theory_files.specs.Laws.Checking.{little_seen, little_queue, little_contents}
 use Rattle.checking_file.specs.Laws.Reply.{too_long_lem, too_little, not_read, read_valid, blank_room, judged}
-use borrow.Author.Rules.{rules}
 use Rattle.checking_file.proofs.check.check.Goals as goal
 
 pub returns-then-file-gt-MOST_BYTES : goal.returns-then-file-gt-MOST_BYTES
@@ -41,7 +40,7 @@ pub slice_bounds-judge_read-end-in-Read-4 : goal.slice_bounds-judge_read-end-in-
 slice_bounds-judge_read-end-in-Read-4 c = sym (read_valid _ c.read_into-read.ensures c.in-Read.is).bad.long
 
 pub judge_read-requires : goal.judge_read-requires
-judge_read-requires c =  record { valid = read_valid _ c.read_into-read.ensures c.in-Read.is; room = blank_room c.args.seen.now c.args.queue.now refl (omega (arith, c.if-seen-lt-TABLE_LEAST.false)) (omega (arith, c.if-queue-lt-TABLE_LEAST.false)) (omega (arith, c.if-contents-lt-CONTENTS_LEAST.false)) c.blank.ensures c.blank-in-Read.ensures }
+judge_read-requires c = record { valid = read_valid _ c.read_into-read.ensures c.in-Read.is; room = blank_room c.args.seen.now c.args.queue.now refl (omega (arith, c.if-seen-lt-TABLE_LEAST.false)) (omega (arith, c.if-queue-lt-TABLE_LEAST.false)) (omega (arith, c.if-contents-lt-CONTENTS_LEAST.false)) c.blank.ensures c.blank-in-Read.ensures }
 
 pub returns-in-Refused : goal.returns-in-Refused
 returns-in-Refused c =

@@ -3,7 +3,6 @@ use native.Mathlib.Omega.{arith}
 use lib.Seq.{length-take-le}
 use Rattle.checking_items.specs.Promises.{tables_in}
 use Rattle.checking_file.specs.Laws.Check.{room_scratch, items_conclude}
-use borrow.Author.Rules.{rules}
 use Rattle.checking_file.proofs.judging.judge_lent.Goals as goal
 
 pub slice_bounds-judge_from-end-2 : goal.slice_bounds-judge_from-end-2
@@ -13,7 +12,7 @@ pub slice_bounds-judge_from-end-4 : goal.slice_bounds-judge_from-end-4
 slice_bounds-judge_from-end-4 c = sym (length-take-le c.args.n c.args.queue.now c.requires.room.queue_long)
 
 pub judge_from-requires : goal.judge_from-requires
-judge_from-requires c =  record { valid = c.requires.valid; stands = (record { stands = tt }, omega arith); scratch = room_scratch c.requires.room; contents_least_in_bounds = c.requires.room.contents_long }
+judge_from-requires c = record { valid = c.requires.valid; stands = (record { stands = tt }, omega arith); scratch = room_scratch c.requires.room; contents_least_in_bounds = c.requires.room.contents_long }
 
 pub returns : goal.returns
 returns c =

@@ -1,6 +1,5 @@
 use native.Mathlib.Omega.{arith}
 use Rattle.checking_items.specs.Laws.Cut.{cuts_local, cuts_send, cuts_receive, queue_within, first_within}
-use borrow.Author.Rules.{rules}
 use Rattle.checking_items.proofs.cut.cut_of.Goals as goal
 
 pub returns-then-kind-eq0 : goal.returns-then-kind-eq0

@@ -1,7 +1,6 @@
 use mathlib.Core.Path.{◌∙◌}
 use Rattle.tables.specs.Laws.Lookup.{nowhere_true, nowhere_false, state_below}
 use Rattle.checking_items.specs.Laws.Walked.{root_as, state_somewhere, roots_small, entry_none, entry_shown, entry_node, entry_lent, entry_walked}
-use borrow.Author.Rules.{rules}
 use Rattle.checking_items.proofs.item.judge_entry.Goals as goal
 
 pub root_of-source-requires : goal.root_of-source-requires
@@ -14,7 +13,7 @@ pub state-from-requires : goal.state-from-requires
 state-from-requires c = state_below c.root_of-source.ensures.most (nowhere_false _ c.is_nowhere.ensures c.if-is_nowhere.false)
 
 pub judge-requires : goal.judge-requires
-judge-requires c =     let a = c.requires.entry_asked in
+judge-requires c = let a = c.requires.entry_asked in
     let h = root_as c.root_of-source.ensures c.state-from.ensures in
     let e = state_somewhere c.state-from.ensures (nowhere_false _ c.is_nowhere.ensures c.if-is_nowhere.false) in
     let t = c.at.ensures in

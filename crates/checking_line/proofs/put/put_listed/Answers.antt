@@ -1,4 +1,3 @@
-use borrow.Author.Rules.{rules}
 use Rattle.checking_line.specs.Laws.Line.{put_listed}
 use Rattle.checking_line.proofs.put.put_listed.Goals as goal
 

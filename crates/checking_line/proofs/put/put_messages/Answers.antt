@@ -1,9 +1,4 @@
-use borrow.Author.Rules.{rules}
-use Rattle.numbers.specs.Laws.Put.{Left}
 use Rattle.checking_line.specs.Laws.Put.{messages_start, left_message, left_messages}
-use Rattle.theory_model.specs.Line.{spaced_all}
-use Prim.Native.Nat.{◌≤◌, ◌+◌, ◌-◌, ◌*◌}
-use lib.ListN.{take, drop}
 use native.Mathlib.Omega.{arith}
 use Rattle.checking_line.proofs.put.put_messages.Goals as goal
 

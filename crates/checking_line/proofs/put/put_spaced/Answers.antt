@@ -1,6 +1,5 @@
 use Rattle.numbers.specs.Laws.Put.{put_then}
 use native.Mathlib.Omega.{arith}
-use borrow.Author.Rules.{rules}
 use Rattle.checking_line.proofs.put.put_spaced.Goals as goal
 
 pub returns : goal.returns

@@ -1,6 +1,4 @@
-use Rattle.checking_line.specs.Said.{holds}
 use borrow.Author.Tests.{le-leb, lt-leb}
-use borrow.Author.Rules.{rules}
 use Rattle.checking_line.proofs.verdict.has_room.Goals as goal
 
 pub returns-then-contents-shown : goal.returns-then-contents-shown

@@ -1,4 +1,3 @@
-use borrow.Author.Rules.{rules}
 use Rattle.checking_line.specs.Laws.Line.{enough, bounds, little, lined, lined_none, put_bad}
 use native.Mathlib.Omega.{arith}
 use Rattle.checking_line.proofs.verdict.write_bad.Goals as goal

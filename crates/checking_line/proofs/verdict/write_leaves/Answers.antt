@@ -1,4 +1,3 @@
-use borrow.Author.Rules.{rules}
 use Rattle.checking_line.specs.Laws.Line.{enough, bounds, little, lined, lined_none, put_leaves}
 use native.Mathlib.Omega.{arith}
 use Rattle.checking_line.proofs.verdict.write_leaves.Goals as goal

@@ -1,5 +1,4 @@
 use Rattle.checking_line.specs.Laws.Line.{writes_closed, writes_outside, writes_leaves, writes_bad, writes_refused, writes_short}
-use borrow.Author.Rules.{rules}
 use Rattle.checking_line.proofs.verdict.write_line.Goals as goal
 
 pub returns-in-Closed : goal.returns-in-Closed

@@ -1,6 +1,5 @@
 use Rattle.checking_line.specs.Laws.Line.{enough, bounds, little, lined, lined_none, put_refused}
 use native.Mathlib.Omega.{arith}
-use borrow.Author.Rules.{rules}
 use Rattle.checking_line.proofs.verdict.write_refused.Goals as goal
 
 pub put_word-word-requires : goal.put_word-word-requires

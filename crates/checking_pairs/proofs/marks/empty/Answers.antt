@@ -1,8 +1,6 @@
 use native.Mathlib.Omega.{arith}
 use mathlib.Core.Path.{refl}
-use lib.ListN.{length}
-use Rattle.checking_pairs.specs.Laws.Clearing.{Emptying, empty_next, empty_end}
-use borrow.Author.Rules.{rules}
+use Rattle.checking_pairs.specs.Laws.Clearing.{empty_next, empty_end}
 use Rattle.checking_pairs.proofs.marks.empty.Goals as goal
 
 pub loop-k-init : goal.loop-k-init

@@ -1,6 +1,5 @@
 use native.Mathlib.Omega.{arith}
 use Rattle.checking_pairs.specs.Laws.Marks.{tables_most, tables_room, pushed_old, pushed_new}
-use borrow.Author.Rules.{rules}
 use Rattle.checking_pairs.proofs.marks.mark.Goals as goal
 
 pub returns-then-seen-code-ne0 : goal.returns-then-seen-code-ne0

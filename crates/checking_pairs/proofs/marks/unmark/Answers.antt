@@ -1,9 +1,8 @@
-use Prim.Native.Nat.{◌-◌, ◌≤◌}
+use Prim.Native.Nat.{◌-◌}
 use native.Mathlib.Omega.{arith}
 use mathlib.Core.Path.{sym, ◌∙◌}
 use Rattle.checking_pairs.specs.Laws.Marks.{tables_most}
-use Rattle.checking_pairs.specs.Laws.Clearing.{Unmarking, unmark_begin, unmark_next, unmark_end}
-use borrow.Author.Rules.{rules}
+use Rattle.checking_pairs.specs.Laws.Clearing.{unmark_begin, unmark_next, unmark_end}
 use Rattle.checking_pairs.proofs.marks.unmark.Goals as goal
 
 pub loop-k-init : goal.loop-k-init

@@ -1,4 +1,3 @@
-use borrow.Author.Rules.{rules}
 use Rattle.tables.specs.Laws.Lookup.{nowhere_true, nowhere_false}
 use Rattle.checking_pairs.specs.Laws.Moves.{pair_dropped, pair_step, pair_state, leads_nowhere, leads_pair}
 use Rattle.checking_pairs.proofs.moves.pair_to.Goals as goal

@@ -3,7 +3,6 @@ use Rattle.tables.specs.Said.{said_arc}
 use Rattle.tables.specs.Kinds.{reached_of}
 use Rattle.checking_pairs.specs.Laws.Moves.{reads_along, leads_nowhere, leads_as, read_missing, read_is}
 use Rattle.tables.specs.Laws.Lookup.{entry_within, arc_small}
-use borrow.Author.Rules.{rules}
 use Rattle.checking_pairs.proofs.moves.read.Goals as goal
 
 pub arc_at-requires : goal.arc_at-requires

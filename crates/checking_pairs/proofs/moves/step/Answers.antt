@@ -4,7 +4,6 @@ use mathlib.Core.Logic.{inr}
 use Rattle.tables.specs.Kinds.{reached_of}
 use Rattle.tables.specs.Laws.Lookup.{nowhere_true, nowhere_false, state_below}
 use Rattle.checking_pairs.specs.Laws.Moves.{leads_nowhere, leads_as, jump_missing, jump_is}
-use borrow.Author.Rules.{rules}
 use Rattle.checking_pairs.proofs.moves.step.Goals as goal
 
 pub returns-then-is_nowhere : goal.returns-then-is_nowhere

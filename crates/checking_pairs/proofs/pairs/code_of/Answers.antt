@@ -1,6 +1,5 @@
 use native.Mathlib.Omega.{arith}
 use Rattle.checking_pairs.specs.Laws.Pairs.{side_most, node_coded}
-use borrow.Author.Rules.{rules}
 use Rattle.checking_pairs.proofs.pairs.code_of.Goals as goal
 
 pub overflow_add-result : goal.overflow_add-result

@@ -1,5 +1,4 @@
 use Rattle.checking_pairs.specs.Laws.Pairs.{node_low, node_high}
-use borrow.Author.Rules.{rules}
 use Rattle.checking_pairs.proofs.pairs.node_of.Goals as goal
 
 pub returns-then-code-lt-AFTER : goal.returns-then-code-lt-AFTER

@@ -1,26 +1,23 @@
-use Prim.Native.Nat.{ℕ, ◌+◌, ◌-◌, ◌≤◌}
-use mathlib.Core.Path.{◌≡◌, sym, ap, subst, ◌∙◌}
+use Prim.Native.Nat.{ℕ, ◌+◌, ◌≤◌}
+use mathlib.Core.Path.{sym, ap, subst, ◌∙◌}
 use mathlib.Core.List.{List}
 use native.Mathlib.Omega.{arith}
 use lib.ListN.{length}
-use Rattle.tables.specs.Head.{tables_of}
 use Rattle.theory_model.specs.Judge.{decide}
 use Rattle.theory_files.specs.Tables.{session_of}
 use Rattle.tables.specs.Limits.{contents_least}
 use Rattle.checking_items.specs.Promises.{tables_in}
-use Rattle.checking_session.specs.Laws.Sequence.{Going, begins, goes_within, goes_on, ends}
+use Rattle.checking_session.specs.Laws.Sequence.{begins, goes_within, goes_on, ends}
 use Rattle.checking_session.proofs.Stops.{stops}
 use Rattle.checking_cursor.specs.Left.{from_entry}
-use Rattle.checking_session.specs.Judges.{pairs_to_entry}
 use Rattle.checking_session.specs.Laws.Links.{entry_link, entry_end}
-use borrow.Author.Rules.{rules}
 use Rattle.checking_session.proofs.entries.judge_entries.Goals as goal
 
 pub loop-b-init : goal.loop-b-init
 loop-b-init c = ((begins c.requires.first_le_bad.1 c.requires.scratch, c.requires.first_le_bad.0), c.wide-count.ensures.same)
 
 pub judge_one-turn-requires : goal.judge_one-turn-requires
-judge_one-turn-requires c =     let inv = c.loop-b.invariant in
+judge_one-turn-requires c = let inv = c.loop-b.invariant in
     record { valid = c.requires.valid; b_lt_bad = (omega (arith, c.loop-b-test.true, inv.1), omega (arith, inv.0.0.few, c.requires.valid.bad.most, c.loop-b-test.true, inv.1)); scratch = inv.0.0.scratch; contents_least_in_bounds = subst (λ (l : List ℕ). contents_least ≤ length l) (sym inv.0.0.kept) c.requires.contents_least_in_bounds }
 
 pub shape_of-seen-in_default : goal.shape_of-seen-in_default

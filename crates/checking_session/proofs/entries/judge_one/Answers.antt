@@ -8,11 +8,10 @@ use Rattle.checking_walk.specs.declared.judge.Judged.{Judged}
 use Rattle.checking_items.specs.Judging.{pairs_of}
 use Rattle.checking_items.specs.Laws.Walked.{entry_root}
 use Rattle.checking_session.specs.Laws.Entries.{entry_asked, entry_of, entry_passes, entry_fails}
-use borrow.Author.Rules.{rules}
 use Rattle.checking_session.proofs.entries.judge_one.Goals as goal
 
 pub judge_entry-requires : goal.judge_entry-requires
-judge_entry-requires c =     let v = c.requires.valid in
+judge_entry-requires c = let v = c.requires.valid in
     let h = c.requires.b_lt_bad.0 in
     let e = made_is most_controls _ c.wide.ensures.small c.new-control.ensures ∙ c.wide.ensures.same in
     let f = made_is most_pool _ (omega (arith, c.wide-2.ensures.same, entry_root (entry_asked v c.args.b h))) c.new-root.ensures ∙ c.wide-2.ensures.same in

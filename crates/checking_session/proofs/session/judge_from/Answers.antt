@@ -1,11 +1,9 @@
 use mathlib.Core.Path.{sym, ◌∙◌}
 use native.Mathlib.Omega.{arith}
-use borrow.Author.Tests.{not-true, not-false}
 use Rattle.checking_cursor.specs.Laws.Standing.{stands_at_lem}
 use Rattle.checking_cursor.specs.declared.cursor.Cursor.TheVariants.{Start, Step, Entry, End}
 use Rattle.checking_items.specs.Promises.{tables_in}
 use Rattle.checking_session.specs.Laws.Cursors.{pairs_at, start_asked, left_outside, left_inside, rest_asked, left_step, left_as, left_end}
-use borrow.Author.Rules.{rules}
 use Rattle.checking_session.proofs.session.judge_from.Goals as goal
 
 pub begins_inside-requires : goal.begins_inside-requires
@@ -19,14 +17,14 @@ returns-then-not-begins_inside c =
     left_outside T v a.at a.pairs c.in-Start.is c.requires.scratch (sym c.begins_inside.ensures ∙ c.if-not-begins_inside.true)
 
 pub judge_from_step-requires : goal.judge_from_step-requires
-judge_from_step-requires c =     let a = c.args in
+judge_from_step-requires c = let a = c.args in
     let T = tables_in a.h a.rows a.finals a.arcs a.roots a.entries in
     let v = c.requires.valid in
     let l = pairs_at Start c.in-Start.is c.requires.stands.1 in
     record { steps_asked = start_asked T v a.at a.pairs c.in-Start.is; pairs_bound = omega (arith, l); scratch = c.requires.scratch; contents_least_in_bounds = c.requires.contents_least_in_bounds }
 
 pub judge_from_step-requires-in-Step : goal.judge_from_step-requires-in-Step
-judge_from_step-requires-in-Step c =     let a = c.args in
+judge_from_step-requires-in-Step c = let a = c.args in
     let T = tables_in a.h a.rows a.finals a.arcs a.roots a.entries in
     let v = c.requires.valid in
     let l = pairs_at (Step c.in-Step.c c.in-Step.i) c.in-Step.is c.requires.stands.1 in
@@ -34,7 +32,7 @@ judge_from_step-requires-in-Step c =     let a = c.args in
     record { steps_asked = rest_asked T v a.at a.pairs _ _ c.in-Step.is c.requires.stands.0 e; pairs_bound = omega (arith, l, e); scratch = c.requires.scratch; contents_least_in_bounds = c.requires.contents_least_in_bounds }
 
 pub judge_entries-requires : goal.judge_entries-requires
-judge_entries-requires c =     let e = c.in-Entry.is in
+judge_entries-requires c = let e = c.in-Entry.is in
     let b = c.in-Entry.b in
     record { valid = c.requires.valid; first_le_bad = (omega (arith, stands_at_lem (Entry b) e c.requires.stands.0), pairs_at (Entry b) e c.requires.stands.1); scratch = c.requires.scratch; contents_least_in_bounds = c.requires.contents_least_in_bounds }
 

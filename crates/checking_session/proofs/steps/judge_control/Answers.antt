@@ -1,26 +1,23 @@
-use Prim.Native.Nat.{ℕ, ◌+◌, ◌-◌, ◌≤◌}
-use mathlib.Core.Path.{◌≡◌, sym, ap, subst, ◌∙◌}
+use Prim.Native.Nat.{ℕ, ◌+◌, ◌≤◌}
+use mathlib.Core.Path.{sym, ap, subst, ◌∙◌}
 use mathlib.Core.List.{List}
 use native.Mathlib.Omega.{arith}
 use lib.ListN.{length}
-use Rattle.tables.specs.Head.{tables_of}
 use Rattle.theory_model.specs.Judge.{decide}
 use Rattle.theory_files.specs.Tables.{session_of}
 use Rattle.tables.specs.Limits.{contents_least}
 use Rattle.checking_items.specs.Promises.{tables_in}
-use Rattle.checking_session.specs.Laws.Sequence.{Going, begins, goes_within, goes_on, ends}
+use Rattle.checking_session.specs.Laws.Sequence.{begins, goes_within, goes_on, ends}
 use Rattle.checking_session.proofs.Stops.{stops}
 use Rattle.checking_cursor.specs.Left.{steps_on}
-use Rattle.checking_session.specs.Judges.{pairs_before}
 use Rattle.checking_session.specs.Laws.Links.{turn_link, turn_end}
-use borrow.Author.Rules.{rules}
 use Rattle.checking_session.proofs.steps.judge_control.Goals as goal
 
 pub loop-i-init : goal.loop-i-init
 loop-i-init c = ((begins c.requires.pairs_bound c.requires.scratch, c.requires.steps_asked.within), c.wide-count.ensures.same)
 
 pub judge_turn-turn-requires : goal.judge_turn-turn-requires
-judge_turn-turn-requires c =     let inv = c.loop-i.invariant in
+judge_turn-turn-requires c = let inv = c.loop-i.invariant in
     let a = c.requires.steps_asked in record { turn_asked = record { valid = a.valid; control = a.control; within = omega (arith, c.loop-i-test.true, inv.1) }; pairs_le_ample_pairs = omega (arith, inv.0.0.few, a.control, a.valid.machines.product_most, a.valid.transitions.most, c.loop-i-test.true, inv.1); scratch = inv.0.0.scratch; contents_least_in_bounds = subst (λ (l : List ℕ). contents_least ≤ length l) (sym inv.0.0.kept) c.requires.contents_least_in_bounds }
 
 pub shape_of-seen-in_default : goal.shape_of-seen-in_default

@@ -1,28 +1,25 @@
-use Prim.Native.Nat.{ℕ, ◌+◌, ◌-◌, ◌*◌, ◌≤◌}
+use Prim.Native.Nat.{ℕ, ◌+◌, ◌-◌, ◌≤◌}
 use mathlib.Core.Path.{sym, ap, subst, ◌∙◌}
 use mathlib.Core.List.{List}
 use native.Mathlib.Omega.{arith}
 use lib.ListN.{length}
-use Rattle.tables.specs.Head.{tables_of}
 use Rattle.theory_model.specs.Judge.{decide}
 use Rattle.theory_files.specs.Tables.{session_of}
-use Rattle.tables.specs.Limits.{contents_least, most_transitions}
+use Rattle.tables.specs.Limits.{contents_least}
 use Rattle.checking_items.specs.Promises.{tables_in}
-use Rattle.checking_session.specs.Laws.Sequence.{Going, begins, goes_on, ends}
+use Rattle.checking_session.specs.Laws.Sequence.{begins, goes_on, ends}
 use Rattle.checking_session.proofs.Stops.{stops}
 use Rattle.theory_model.specs.Model.{controls}
 use Rattle.tables.specs.Laws.Kinds.{control_made}
-use Rattle.checking_cursor.specs.Left.{steps_left, most_steps}
-use Rattle.checking_session.specs.Judges.{pairs_before}
+use Rattle.checking_cursor.specs.Left.{steps_left}
 use Rattle.checking_session.specs.Laws.Links.{control_link, control_end}
-use borrow.Author.Rules.{rules}
 use Rattle.checking_session.proofs.steps.judge_steps.Goals as goal
 
 pub loop-c-init : goal.loop-c-init
 loop-c-init c = ((begins c.requires.pairs_bound c.requires.scratch, c.requires.steps_asked.within), omega (arith, c.requires.steps_asked.control, c.requires.steps_asked.within, c.requires.steps_asked.valid.machines.product_most, c.requires.steps_asked.valid.transitions.most))
 
 pub judge_control-turn-requires : goal.judge_control-turn-requires
-judge_control-turn-requires c =     let made = control_made c.requires.steps_asked.valid.machines c.loop-c.c c.loop-c-test.true c.new-control.ensures in
+judge_control-turn-requires c = let made = control_made c.requires.steps_asked.valid.machines c.loop-c.c c.loop-c-test.true c.new-control.ensures in
     let inv = c.loop-c.invariant in
     record { steps_asked = record { valid = c.requires.steps_asked.valid; control = omega (arith, made, c.loop-c-test.true); within = inv.0.1 }; pairs_bound = omega (arith, made, inv.0.0.few); scratch = inv.0.0.scratch; contents_least_in_bounds = subst (λ (l : List ℕ). contents_least ≤ length l) (sym inv.0.0.kept) c.requires.contents_least_in_bounds }
 

@@ -1,5 +1,5 @@
 use native.Mathlib.Omega.{arith}
-use Rattle.checking_walk.specs.Laws.Shown.{laid_length, Wording, word_begin, word_most, word_more, word_end}
+use Rattle.checking_walk.specs.Laws.Shown.{laid_length, word_begin, word_most, word_more, word_end}
 use Rattle.checking_walk.proofs.contents.lay_word.Goals as goal
 
 pub loop-i-init : goal.loop-i-init

@@ -1,10 +1,10 @@
-use Prim.Native.Nat.{◌≤◌, ◌<◌}
+use Prim.Native.Nat.{◌<◌}
 use native.Mathlib.Omega.{arith}
 use mathlib.Core.Path.{ap, ◌∙◌}
-use mathlib.Core.List.{◌++◌, reverse}
-use lib.ListN.{length, take, drop, length-reverse}
+use mathlib.Core.List.{reverse}
+use lib.ListN.{length, take, length-reverse}
 use lib.Seq.{length_front, lt-length-set}
-use Rattle.checking_walk.specs.Laws.Turning.{Turning, turn_begin, turn_within, turn_next, turn_end}
+use Rattle.checking_walk.specs.Laws.Turning.{turn_begin, turn_within, turn_next, turn_end}
 use Rattle.checking_walk.proofs.contents.turn.Goals as goal
 
 pub loop-j-init : goal.loop-j-init

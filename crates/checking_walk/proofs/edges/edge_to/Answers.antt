@@ -4,7 +4,6 @@ use lib.ListN.{get_or}
 use Prim.Native.Nat.{◌-◌}
 use Rattle.checking_walk.specs.Shown.{letter_over}
 use Rattle.checking_walk.specs.Laws.Edges.{placed_long, placed_code, placed_marked, parent_earlier}
-use borrow.Author.Rules.{rules}
 use Rattle.checking_walk.proofs.edges.edge_to.Goals as goal
 
 pub offset_bounds-queue-k : goal.offset_bounds-queue-k
@@ -35,7 +34,7 @@ bounds-queue-parent c =
     omega (arith, mark, parent_earlier c.requires.placed c.requires.k_nonzero, placed_long c.requires.placed)
 
 pub letter_of-requires : goal.letter_of-requires
-letter_of-requires c =  record { lent = c.requires.lent; from_lt_most_codes = omega (arith, c.wide-from.ensures, c.requires.placed.tables.codes (c.wide-parent.result - 1)) }
+letter_of-requires c = record { lent = c.requires.lent; from_lt_most_codes = omega (arith, c.wide-from.ensures, c.requires.placed.tables.codes (c.wide-parent.result - 1)) }
 
 pub returns : goal.returns
 returns c =

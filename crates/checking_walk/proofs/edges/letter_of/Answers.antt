@@ -3,7 +3,6 @@ use Rattle.theory_exploration.specs.Search.{leads_to}
 use Rattle.theory_model.specs.Judge.{same}
 use Rattle.checking_pairs.specs.Pairs.{decode}
 use Rattle.checking_walk.specs.Laws.Lowest.{message_before, step_met, step_missed, message_after, none_after}
-use borrow.Author.Rules.{rules}
 use Rattle.checking_walk.proofs.edges.letter_of.Goals as goal
 
 pub returns-then-m-w : goal.returns-then-m-w

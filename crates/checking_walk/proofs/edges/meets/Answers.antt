@@ -4,7 +4,6 @@ use Rattle.theory_model.specs.Judge.{same}
 use Rattle.checking_pairs.specs.Pairs.{decode}
 use Rattle.checking_pairs.specs.Laws.Pairs.{same_codes}
 use Rattle.checking_pairs.specs.Leads.{said_next}
-use borrow.Author.Rules.{rules}
 use Rattle.checking_walk.proofs.edges.meets.Goals as goal
 
 pub returns : goal.returns

@@ -1,17 +1,13 @@
 use Prim.Native.Nat.{◌-◌}
-use native.Mathlib.Omega.{arith}
-use mathlib.Core.Path.{◌≡◌, refl, sym, ap, ◌∙◌}
-use Rattle.theory_exploration.specs.Search.{leads_to, lowest_from}
+use mathlib.Core.Path.{◌≡◌}
+use Rattle.theory_exploration.specs.Search.{lowest_from}
 use Rattle.theory_model.specs.Judge.{same}
 use Rattle.checking_pairs.specs.Pairs.{decode, pair_of}
 use Rattle.checking_pairs.specs.Over.{read_from}
-use Rattle.checking_walk.specs.Laws.Lowest.{low_met, low_next, low_end}
-use borrow.Author.Rules.{rules}
 use Rattle.checking_walk.proofs.edges.message_to.Given as goal
 
 abbrev pub invariant-loop-m : goal.invariant-loop-m
 invariant-loop-m l = lowest_from (read_from l.arcs l.entry l.x) same (pair_of l.x) (decode l.code) (l.end - l.m) l.m ≡ lowest_from (read_from l.arcs l.entry l.x) same (pair_of l.x) (decode l.code) (l.end - l.first) l.first
-
 
 abbrev pub decreases-loop-m : goal.decreases-loop-m
 decreases-loop-m l = l.end - l.m

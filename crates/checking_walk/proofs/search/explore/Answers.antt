@@ -1,15 +1,10 @@
-use borrow.Author.Rules.{rules}
 use native.Mathlib.Omega.{arith}
-use Prim.Native.Nat.{suc, ◌-◌}
 use mathlib.Core.Path.{sym, ap, ◌∙◌}
-use Rattle.theory_exploration.specs.Search.{search as searched}
-use Rattle.theory_model.specs.Judge.{same}
-use Rattle.checking_pairs.specs.Pairs.{most_codes, decode}
-use Rattle.checking_pairs.specs.Marks.{view}
+use Rattle.checking_pairs.specs.Pairs.{decode}
 use Rattle.checking_pairs.specs.Laws.Marks.{tables_most}
-use Rattle.checking_pairs.specs.Over.{go_over, wrong_over}
+use Rattle.checking_pairs.specs.Over.{wrong_over}
 use Rattle.checking_walk.specs.Laws.Sweeps.{swept_as}
-use Rattle.checking_walk.specs.Laws.Exploring.{Exploring, exploring_begin, exploring_found, exploring_next, exploring_end}
+use Rattle.checking_walk.specs.Laws.Exploring.{exploring_begin, exploring_found, exploring_next, exploring_end}
 use Rattle.checking_walk.proofs.search.explore.Goals as goal
 
 pub loop-k-init : goal.loop-k-init
@@ -25,7 +20,7 @@ pub node_of-x-requires : goal.node_of-x-requires
 node_of-x-requires c = omega (arith, c.wide.ensures, c.loop-k.invariant.tables.codes c.loop-k.k)
 
 pub fails-requires : goal.fails-requires
-fails-requires c =  record { finals_len = c.requires.finals_len; node_fits = c.node_of-x.ensures.fits }
+fails-requires c = record { finals_len = c.requires.finals_len; node_fits = c.node_of-x.ensures.fits }
 
 pub shape_of-seen-then-fails : goal.shape_of-seen-then-fails
 shape_of-seen-then-fails c = c.loop-k.invariant.tables.seen_long ∙ sym c.requires.tables.seen_long
@@ -37,7 +32,7 @@ pub returns-then-fails : goal.returns-then-fails
 returns-then-fails c = exploring_found c.loop-k.invariant c.loop-k-test.true (ap (wrong_over _ _) (ap decode (sym c.wide.ensures) ∙ c.node_of-x.ensures.is) ∙ sym c.fails.ensures ∙ c.if-fails.true)
 
 pub visit-tail-requires : goal.visit-tail-requires
-visit-tail-requires c =  record { lent = c.requires.lent; node_fits = c.node_of-x.ensures.fits; tables = c.loop-k.invariant.tables; from_lt_tail = c.loop-k-test.true }
+visit-tail-requires c = record { lent = c.requires.lent; node_fits = c.node_of-x.ensures.fits; tables = c.loop-k.invariant.tables; from_lt_tail = c.loop-k-test.true }
 
 pub overflow_add-k : goal.overflow_add-k
 overflow_add-k c = omega (arith, c.loop-k-test.true, tables_most c.loop-k.invariant.tables)

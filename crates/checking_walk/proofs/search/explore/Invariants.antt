@@ -1,20 +1,14 @@
-use borrow.Author.Rules.{rules}
-use native.Mathlib.Omega.{arith}
 use Prim.Native.Nat.{suc, ◌-◌}
-use mathlib.Core.Path.{sym, ap, ◌∙◌}
 use Rattle.theory_exploration.specs.Search.{search as searched}
 use Rattle.theory_model.specs.Judge.{same}
-use Rattle.checking_pairs.specs.Pairs.{most_codes, decode}
+use Rattle.checking_pairs.specs.Pairs.{most_codes}
 use Rattle.checking_pairs.specs.Marks.{view}
-use Rattle.checking_pairs.specs.Laws.Marks.{tables_most}
 use Rattle.checking_pairs.specs.Over.{go_over, wrong_over}
-use Rattle.checking_walk.specs.Laws.Sweeps.{swept_as}
-use Rattle.checking_walk.specs.Laws.Exploring.{Exploring, exploring_begin, exploring_found, exploring_next, exploring_end}
+use Rattle.checking_walk.specs.Laws.Exploring.{Exploring}
 use Rattle.checking_walk.proofs.search.explore.Given as goal
 
 abbrev pub invariant-loop-k : goal.invariant-loop-k
 invariant-loop-k l = Exploring (suc l.w.sum) (go_over l.arcs l.rows l.w) (wrong_over l.finals l.w.entry) l.seen l.queue l.tail l.k (searched (suc l.w.sum) (go_over l.arcs l.rows l.w) same (wrong_over l.finals l.w.entry) most_codes 0 (view l.initial.seen l.initial.queue l.found))
-
 
 abbrev pub decreases-loop-k : goal.decreases-loop-k
 decreases-loop-k l = most_codes - l.k

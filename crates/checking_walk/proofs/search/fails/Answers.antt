@@ -1,8 +1,6 @@
 use mathlib.Core.Path.{sym, ap, ◌∙◌}
 use mathlib.Core.Bool.{not}
-use borrow.Author.Tests.{not-true, not-false}
 use Rattle.checking_walk.specs.Laws.Exploring.{fails_before, fails_source, fails_entry, fails_step}
-use borrow.Author.Rules.{rules}
 use Rattle.checking_walk.proofs.search.fails.Goals as goal
 
 pub returns-then-x-eq0 : goal.returns-then-x-eq0

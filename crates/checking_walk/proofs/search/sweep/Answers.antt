@@ -1,23 +1,17 @@
 use native.Mathlib.Omega.{arith}
-use Prim.Native.Nat.{◌≤◌, ◌-◌}
 use mathlib.Core.Path.{sym, ◌∙◌}
-use Rattle.theory_exploration.specs.Search.{sweep}
-use Rattle.theory_model.specs.Judge.{same}
-use Rattle.checking_pairs.specs.Pairs.{pair_of}
-use Rattle.checking_pairs.specs.Marks.{view}
 use Rattle.checking_pairs.specs.Laws.Marks.{pushed_as}
-use Rattle.checking_pairs.specs.Over.{read_from}
-use Rattle.checking_walk.specs.Laws.Sweeps.{Sweeping, sweeping_begin, sweeping_next, sweeping_end}
+use Rattle.checking_walk.specs.Laws.Sweeps.{sweeping_begin, sweeping_next, sweeping_end}
 use Rattle.checking_walk.proofs.search.sweep.Goals as goal
 
 pub loop-m-init : goal.loop-m-init
 loop-m-init c = (sweeping_begin c.requires.tables c.requires.from_lt_found, c.requires.first_le_end)
 
 pub read-next-requires : goal.read-next-requires
-read-next-requires c =  record { arcs_small = c.requires.arcs_small; node_fits = c.requires.node_fits; m_lt_most_messages = omega (arith, c.requires.end_le_most_messages) }
+read-next-requires c = record { arcs_small = c.requires.arcs_small; node_fits = c.requires.node_fits; m_lt_most_messages = omega (arith, c.requires.end_le_most_messages) }
 
 pub mark_next-tail-requires : goal.mark_next-tail-requires
-mark_next-tail-requires c =  record { small = c.read-next.ensures.small; tables = c.loop-m.invariant.0.tables; from_lt_tail = c.loop-m.invariant.0.later }
+mark_next-tail-requires c = record { small = c.read-next.ensures.small; tables = c.loop-m.invariant.0.tables; from_lt_tail = c.loop-m.invariant.0.later }
 
 pub overflow_add-m : goal.overflow_add-m
 overflow_add-m c = omega (arith, c.loop-m-test.true, c.requires.end_le_most_messages)

@@ -1,18 +1,14 @@
-use native.Mathlib.Omega.{arith}
 use Prim.Native.Nat.{◌≤◌, ◌-◌}
-use mathlib.Core.Path.{sym, ◌∙◌}
 use Rattle.theory_exploration.specs.Search.{sweep}
 use Rattle.theory_model.specs.Judge.{same}
 use Rattle.checking_pairs.specs.Pairs.{pair_of}
 use Rattle.checking_pairs.specs.Marks.{view}
-use Rattle.checking_pairs.specs.Laws.Marks.{pushed_as}
 use Rattle.checking_pairs.specs.Over.{read_from}
-use Rattle.checking_walk.specs.Laws.Sweeps.{Sweeping, sweeping_begin, sweeping_next, sweeping_end}
+use Rattle.checking_walk.specs.Laws.Sweeps.{Sweeping}
 use Rattle.checking_walk.proofs.search.sweep.Given as goal
 
 abbrev pub invariant-loop-m : goal.invariant-loop-m
 invariant-loop-m l = Sweeping (read_from l.arcs l.entry l.x) (pair_of l.x) l.from l.end l.m l.seen l.queue l.tail (sweep (read_from l.arcs l.entry l.x) same (pair_of l.x) l.from (l.end - l.first) l.first (view l.initial.seen l.initial.queue l.found)) × (l.m ≤ l.end)
-
 
 abbrev pub decreases-loop-m : goal.decreases-loop-m
 decreases-loop-m l = l.end - l.m

@@ -1,9 +1,7 @@
-use borrow.Author.Rules.{rules}
 use native.Mathlib.Omega.{arith}
-use Prim.Native.Nat.{◌-◌, ◌≤◌}
 use mathlib.Core.Path.{sym, ap}
 use lib.ListN.{length}
-use Rattle.comparison.specs.Laws.{Comparing, comparing_none, comparing_more, comparing_done, same_not}
+use Rattle.comparison.specs.Laws.{comparing_none, comparing_more, comparing_done, same_not}
 use Rattle.comparison.proofs.same.same.Goals as goal
 
 pub returns-then-a-b : goal.returns-then-a-b

@@ -1,6 +1,4 @@
-use borrow.Author.Rules.{rules}
 use mathlib.Core.Path.{sym, ◌∙◌}
-use borrow.Author.Tests.{not-true, not-false}
 use Rattle.comparison.proofs.same.same_tables.Goals as goal
 
 pub returns-then-not-same_heads : goal.returns-then-not-same_heads

@@ -1,7 +1,3 @@
-use mathlib.Core.Path.{sym, ap, ◌∙◌}
-use Prim.Native.Nat.{ℕ}
-use lib.Dec.{eqb}
-use borrow.Author.Rules.{rules}
 use Rattle.controls.proofs.moves.is_at.Goals as goal
 
 pub returns : goal.returns

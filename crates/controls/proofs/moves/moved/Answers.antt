@@ -1,9 +1,6 @@
-use mathlib.Core.Path.{sym, ap, ◌∙◌}
-use Prim.Native.Nat.{ℕ, ◌+◌, ◌*◌, ◌%◌}
 use native.Mathlib.Omega.{arith}
 use native.Mathlib.Nat.{mul-le-mul, le_of_lt, mod-lt}
 use Rattle.controls.specs.Laws.Parting.{moved_made}
-use borrow.Author.Rules.{rules}
 use Rattle.controls.proofs.moves.moved.Goals as goal
 
 pub overflow_mul-wide : goal.overflow_mul-wide

@@ -1,6 +1,5 @@
 use native.Mathlib.Omega.{arith}
 use Rattle.controls.specs.Laws.Begin.{read_numberable, number_is_control}
-use borrow.Author.Rules.{rules}
 use Rattle.controls.proofs.numbering.control_of.Goals as goal
 
 pub number_of-requires : goal.number_of-requires

@@ -2,7 +2,6 @@ use Prim.Native.Nat.{◌≤◌}
 use native.Mathlib.Omega.{arith}
 use native.Mathlib.Nat.{mul-le-mul}
 use Rattle.controls.specs.Laws.Begin.{numbering_next, numbering_done, numbering_small}
-use borrow.Author.Rules.{rules}
 use Rattle.controls.proofs.numbering.with_machine.Goals as goal
 
 pub overflow_mul-result : goal.overflow_mul-result

@@ -1,8 +1,7 @@
-use lib.ListN.{take, drop}
+use lib.ListN.{take}
 use Rattle.controls.specs.Laws.Parting.{Front, front_begin, front_step, front_end, machine_there, control_small}
-use borrow.Author.Rules.{rules}
-use Prim.Native.Nat.{◌≤◌, ◌-◌, ◌+◌, ◌*◌, ◌/◌, ◌%◌}
-use mathlib.Core.Path.{◌≡◌, sym, ap, subst, ◌∙◌}
+use Prim.Native.Nat.{◌≤◌, ◌+◌}
+use mathlib.Core.Path.{◌≡◌, subst}
 use native.Mathlib.Omega.{arith}
 use native.Mathlib.Nat.{div-add-mod'}
 use Rattle.controls.proofs.parting.part.Goals as goal
@@ -14,7 +13,7 @@ pub overflow_add-i : goal.overflow_add-i
 overflow_add-i c = omega (arith, c.requires.within, c.requires.stepped.most)
 
 pub product_from-stride-requires : goal.product_from-stride-requires
-product_from-stride-requires c =  record { stepped = c.requires.stepped; i_le_count = omega (arith, c.requires.within) }
+product_from-stride-requires c = record { stepped = c.requires.stepped; i_le_count = omega (arith, c.requires.within) }
 
 pub nonzero_div-base : goal.nonzero_div-base
 nonzero_div-base c = omega (arith, c.product_from-stride.ensures, c.requires.stepped.small (c.loop-i.i + 1))
@@ -37,7 +36,7 @@ pub overflow_add-machine : goal.overflow_add-machine
 overflow_add-machine c = omega (arith, c.requires.within, c.requires.stepped.most)
 
 pub product_from-stride-requires-2 : goal.product_from-stride-requires-2
-product_from-stride-requires-2 c =  record { stepped = c.requires.stepped; i_le_count = omega (arith, c.requires.within) }
+product_from-stride-requires-2 c = record { stepped = c.requires.stepped; i_le_count = omega (arith, c.requires.within) }
 
 pub returns : goal.returns
 returns c =

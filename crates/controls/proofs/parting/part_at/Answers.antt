@@ -1,5 +1,4 @@
 use Rattle.controls.specs.Laws.Parting.{read_partable}
-use borrow.Author.Rules.{rules}
 use Rattle.controls.proofs.parting.part_at.Goals as goal
 
 pub part-requires : goal.part-requires

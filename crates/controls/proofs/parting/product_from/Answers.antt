@@ -1,11 +1,9 @@
-use borrow.Author.Rules.{rules}
-use Prim.Native.Nat.{◌≤◌}
 use mathlib.Core.Path.{◌≡◌, sym, ap, ◌∙◌}
 use lib.ListN.{take, drop}
 use native.Mathlib.Omega.{arith}
 use Rattle.theory_model.specs.Model.{sizes_product as product-of}
 use Rattle.controls.specs.Laws.Parting.{stepped_back}
-use Prim.Native.Nat.{ℕ, ◌-◌}
+use Prim.Native.Nat.{◌-◌}
 use Rattle.controls.proofs.parting.product_from.Goals as goal
 
 pub loop-j-init : goal.loop-j-init

@@ -1,7 +1,6 @@
 use native.Mathlib.Omega.{arith}
 use mathlib.Core.Path.{◌∙◌}
 use Rattle.expression_pool.specs.Laws.Entries.{arc_none, arc_set, place_most}
-use borrow.Author.Rules.{rules}
 use Rattle.expression_pool.proofs.fill.arc_to.Goals as goal
 
 pub returns-then-set-eq0 : goal.returns-then-set-eq0

@@ -1,9 +1,6 @@
-use borrow.Author.Rules.{rules}
-use native.Mathlib.Omega.{arith}
-use mathlib.Core.Path.{refl}
 use Prim.Native.Nat.{◌≤◌, ◌-◌}
 use lib.ListN.{length}
-use Rattle.expression_pool.specs.Laws.Entries.{ArcsFilled, arcs_begin, arcs_next, arcs_end}
+use Rattle.expression_pool.specs.Laws.Entries.{ArcsFilled}
 use Rattle.expression_pool.proofs.fill.fill_arcs.Given as goal
 
 abbrev pub invariant-loop-i : goal.invariant-loop-i

@@ -1,8 +1,5 @@
-use borrow.Author.Rules.{rules}
 use native.Mathlib.Omega.{arith}
-use Prim.Native.Nat.{◌≤◌, ◌-◌}
-use lib.ListN.{length}
-use Rattle.expression_pool.specs.Laws.Entries.{FinalsFilled, finals_begin, finals_next, finals_end}
+use Rattle.expression_pool.specs.Laws.Entries.{finals_begin, finals_next, finals_end}
 use Rattle.expression_pool.proofs.fill.fill_finals.Goals as goal
 
 pub loop-i-init : goal.loop-i-init

@@ -1,8 +1,5 @@
-use borrow.Author.Rules.{rules}
 use native.Mathlib.Omega.{arith}
-use Prim.Native.Nat.{◌≤◌, ◌-◌}
-use Rattle.tables.specs.Limits.{most_messages}
-use Rattle.expression_pool.specs.Laws.Entries.{RowFilled, row_begin, row_next, row_end}
+use Rattle.expression_pool.specs.Laws.Entries.{row_begin, row_next, row_end}
 use Rattle.expression_pool.proofs.fill.fill_row.Goals as goal
 
 pub loop-m-init : goal.loop-m-init

@@ -1,6 +1,5 @@
 use mathlib.Core.Path.{◌∙◌}
 use Rattle.expression_pool.specs.Laws.Entries.{final_start, final_set}
-use borrow.Author.Rules.{rules}
 use Rattle.expression_pool.proofs.fill.final_mark.Goals as goal
 
 pub returns-then-state-eq0 : goal.returns-then-state-eq0

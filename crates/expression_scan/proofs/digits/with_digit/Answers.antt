@@ -1,5 +1,4 @@
 use mathlib.Core.Path.{sym}
-use borrow.Author.Rules.{rules}
 use Rattle.expression_scan.specs.Laws.Values.{clip_small, clip_large}
 use Rattle.expression_scan.proofs.digits.with_digit.Goals as goal
 

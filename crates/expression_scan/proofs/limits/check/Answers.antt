@@ -1,8 +1,5 @@
-use borrow.Author.Rules.{rules}
 use native.Mathlib.Omega.{arith}
-use Prim.Native.Nat.{◌-◌}
-use lib.ListN.{length}
-use Rattle.expression_scan.specs.Laws.Limits.{Checking, checking_number, checking_begins, checking_on, checking_stops, checking_ends}
+use Rattle.expression_scan.specs.Laws.Limits.{checking_number, checking_begins, checking_on, checking_stops, checking_ends}
 use Rattle.expression_scan.proofs.limits.check.Goals as goal
 
 pub loop-at-init : goal.loop-at-init

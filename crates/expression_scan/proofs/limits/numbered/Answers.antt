@@ -1,5 +1,4 @@
 use Rattle.expression_scan.specs.Laws.Limits.{last_number}
-use borrow.Author.Rules.{rules}
 use Rattle.expression_scan.proofs.limits.numbered.Goals as goal
 
 pub returns : goal.returns

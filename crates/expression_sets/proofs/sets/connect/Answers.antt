@@ -1,8 +1,5 @@
-use borrow.Author.Rules.{rules}
 use Rattle.expression_sets.proofs.sets.connect.Goals.{then-rest-eq1, else-rest-eq1}
-use Prim.Native.Nat.{◌-◌}
-use Rattle.theory_grammar.specs.Offends.{most_occurrences}
-use Rattle.expression_sets.specs.Laws.Linking.{Linking, linking_begins, linking_with, linking_without, linking_ends, linking_empty}
+use Rattle.expression_sets.specs.Laws.Linking.{linking_begins, linking_with, linking_without, linking_ends, linking_empty}
 use Rattle.expression_sets.proofs.sets.connect.Goals as goal
 
 pub loop-i-init : goal.loop-i-init

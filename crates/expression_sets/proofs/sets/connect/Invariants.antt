@@ -1,8 +1,6 @@
-use borrow.Author.Rules.{rules}
-use mathlib.Core.Logic.{⊎_elim}
 use Prim.Native.Nat.{◌-◌}
 use Rattle.theory_grammar.specs.Offends.{most_occurrences}
-use Rattle.expression_sets.specs.Laws.Linking.{Linking, linking_begins, linking_with, linking_without, linking_ends, linking_empty}
+use Rattle.expression_sets.specs.Laws.Linking.{Linking}
 use Rattle.expression_sets.proofs.sets.connect.Given as goal
 
 abbrev pub invariant-loop-i : goal.invariant-loop-i

@@ -1,7 +1,6 @@
-use borrow.Author.Rules.{rules}
 use Prim.Native.Nat.{◌-◌}
 use Rattle.theory_grammar.specs.Offends.{most_occurrences}
-use Rattle.expression_sets.specs.Laws.Gathering.{Gathering, gathering_begins, gathering_empty, gathering_without, gathering_with, gathering_ends}
+use Rattle.expression_sets.specs.Laws.Gathering.{Gathering}
 use Rattle.expression_sets.proofs.sets.gather.Given as goal
 
 abbrev pub invariant-loop-i : goal.invariant-loop-i

@@ -1,9 +1,6 @@
-use borrow.Author.Rules.{rules}
-use native.Mathlib.Omega.{arith}
 use Prim.Native.Nat.{◌-◌}
-use mathlib.Core.Path.{refl}
 use Rattle.theory_grammar.specs.Offends.{most_occurrences}
-use Rattle.expression_sets.specs.Laws.Gathering.{Marking, marking_begins, marking_without, marking_with, marking_ends}
+use Rattle.expression_sets.specs.Laws.Gathering.{Marking}
 use Rattle.expression_sets.proofs.sets.marks_of.Given as goal
 
 abbrev pub invariant-loop-i : goal.invariant-loop-i

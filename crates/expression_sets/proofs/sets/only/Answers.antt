@@ -1,4 +1,3 @@
-use borrow.Author.Rules.{rules}
 use mathlib.Core.Path.{sym}
 use Rattle.expression_sets.specs.Laws.Linking.{only_shift, only_none}
 use Rattle.expression_sets.proofs.sets.only.Goals as goal

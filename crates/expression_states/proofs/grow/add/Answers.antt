@@ -2,7 +2,6 @@ use native.Mathlib.Omega.{arith}
 use mathlib.Core.Path.{sym, ◌∙◌}
 use lib.Seq.{length-take-le}
 use Rattle.expression_states.specs.Laws.Growing.{adds_empty, adds_old, adds_new}
-use borrow.Author.Rules.{rules}
 use Rattle.expression_states.proofs.grow.add.Goals as goal
 
 pub returns-then-set-eq0 : goal.returns-then-set-eq0

@@ -1,8 +1,5 @@
-use borrow.Author.Rules.{rules}
 use native.Mathlib.Omega.{arith}
-use Prim.Native.Nat.{◌-◌}
-use Rattle.tables.specs.Limits.{most_messages}
-use Rattle.expression_states.specs.Laws.Growing.{Marked, marked_begin, marked_next, marked_end}
+use Rattle.expression_states.specs.Laws.Growing.{marked_begin, marked_next, marked_end}
 use Rattle.expression_states.proofs.grow.add_next.Goals as goal
 
 pub loop-m-init : goal.loop-m-init

@@ -1,8 +1,6 @@
-use borrow.Author.Rules.{rules}
-use native.Mathlib.Omega.{arith}
 use Prim.Native.Nat.{◌+◌, ◌-◌}
 use Rattle.tables.specs.Limits.{most_pool}
-use Rattle.expression_states.specs.Laws.Growing.{Finding, finding_begin, finding_next, all_found, more_found}
+use Rattle.expression_states.specs.Laws.Growing.{Finding}
 use Rattle.expression_states.proofs.grow.grow.Given as goal
 
 abbrev pub invariant-loop-at : goal.invariant-loop-at

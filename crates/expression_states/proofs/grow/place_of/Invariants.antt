@@ -1,10 +1,7 @@
-use borrow.Author.Rules.{rules}
-use native.Mathlib.Omega.{arith}
 use Prim.Native.Nat.{◌≤◌, ◌-◌}
-use mathlib.Core.Path.{◌≡◌, refl, sym, ◌∙◌}
+use mathlib.Core.Path.{◌≡◌}
 use lib.ListN.{length, drop}
 use Rattle.expression_states.specs.States.{place_from}
-use Rattle.expression_states.specs.Laws.Places.{place_here, place_on, place_none}
 use Rattle.expression_states.proofs.grow.place_of.Given as goal
 
 abbrev pub invariant-loop-i : goal.invariant-loop-i

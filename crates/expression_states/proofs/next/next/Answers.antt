@@ -1,6 +1,5 @@
 use mathlib.Core.Path.{◌∙◌}
 use Rattle.expression_states.specs.Laws.Places.{next_start, next_set_lem}
-use borrow.Author.Rules.{rules}
 use Rattle.expression_states.proofs.next.next.Goals as goal
 
 pub returns-then-state-eq0 : goal.returns-then-state-eq0

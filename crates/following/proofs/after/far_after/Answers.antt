@@ -5,15 +5,14 @@ use Rattle.theory_model.specs.Model.{Between}
 use Rattle.following.specs.Laws.Words.{word_small}
 use Rattle.following.specs.Laws.Standing.{word_standing, word_ring}
 use Rattle.following.specs.Laws.After.{contents_ring, first_ring, kept_most, front_between, end_between, behind_less, both_most, part_most, far_without, far_with}
-use borrow.Author.Rules.{rules}
 use Rattle.following.proofs.after.far_after.Goals as goal
 
 pub follow_part-front-requires : goal.follow_part-front-requires
-follow_part-front-requires c =     let p = c.requires in
+follow_part-front-requires c = let p = c.requires in
     record { arcs_small = p.arcs_small; from_le_most_pool = p.target_le_most_pool; ring_at = first_ring p.contents_at; between = front_between p.contents_at c.front_of-kept.ensures }
 
 pub follow_part-word-requires : goal.follow_part-word-requires
-follow_part-word-requires c =     let p = c.requires in
+follow_part-word-requires c = let p = c.requires in
     let a = c.args in
     let word = word_standing a.rows.now a.x.word a.x.into p.word_within in
     record { arcs_small = p.arcs_small; from_le_most_pool = c.follow_part-front.ensures.leads.most; ring_at = word_ring p.word_within; between = subst (Between 0 most_messages) (sym word) (word_small a.rows.now a.x.word a.x.into p.word_within) }
@@ -32,7 +31,7 @@ returns-then-shown-kept c =
     far_without p.contents_at c.front_of-kept.ensures p.word_within c.args.x.out c.follow_part-front.ensures c.follow_part-word.ensures c.if-shown-kept.true
 
 pub follow_part-rest-requires : goal.follow_part-rest-requires
-follow_part-rest-requires c =     let p = c.requires in
+follow_part-rest-requires c = let p = c.requires in
     let less = behind_less p.contents_at c.front_of-kept.ensures c.args.x.out c.if-shown-kept.false in
     record { arcs_small = p.arcs_small; from_le_most_pool = c.follow_part-word.ensures.leads.most; ring_at = contents_ring p.contents_at (omega (arith, less)); between = end_between p.contents_at _ (omega (arith, less)) }
 

@@ -1,8 +1,5 @@
-use borrow.Author.Rules.{rules}
-use Prim.Native.Nat.{◌-◌, ◌≤◌}
-use lib.ListN.{take}
 use native.Mathlib.Omega.{arith}
-use Rattle.following.specs.Laws.Front.{Fronting, left_of, front_begin, front_next, front_stops, front_ends}
+use Rattle.following.specs.Laws.Front.{front_begin, front_next, front_stops, front_ends}
 use Rattle.following.proofs.after.front_of.Goals as goal
 
 pub loop-i-init : goal.loop-i-init

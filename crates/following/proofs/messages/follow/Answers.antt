@@ -1,16 +1,12 @@
-use borrow.Author.Rules.{rules}
 use mathlib.Core.Path.{refl, sym, ap, ◌∙◌}
 use mathlib.Core.Option.{some}
-use Prim.Native.Nat.{◌-◌, ◌≤◌, ◌<◌}
 use native.Mathlib.Omega.{arith}
 use Rattle.tables.specs.Said.{said_arc}
 use Rattle.tables.specs.Laws.Lookup.{arc_small, along_missing, along_arc_lem}
-use Rattle.following.specs.Rows.{state_at, StateRow}
-use Rattle.following.specs.Standing.{standing}
 use Rattle.following.specs.Laws.Rows.{row_arc}
 use Rattle.following.specs.Laws.Standing.{standing_first, standing_none, next_placed}
-use Rattle.following.specs.Laws.Follow.{Following, follow_begin, state_some, message_small, follow_message, follow_end, follow_lost}
-use Rattle.following.specs.Laws.Far.{Counting, count_begin, count_message, count_missing}
+use Rattle.following.specs.Laws.Follow.{follow_begin, state_some, message_small, follow_message, follow_end, follow_lost}
+use Rattle.following.specs.Laws.Far.{count_begin, count_message, count_missing}
 use Rattle.following.proofs.messages.follow.Goals as goal
 
 pub loop-left-init : goal.loop-left-init

@@ -7,7 +7,6 @@ use Rattle.following.specs.Laws.Rows.{followed_at, followed_lost}
 use Rattle.following.specs.Laws.Follow.{follow_begin, follow_lost, follows_as, follows_word}
 use Rattle.following.specs.Laws.Words.{word_small}
 use Rattle.following.specs.Laws.Standing.{word_standing, word_ring}
-use borrow.Author.Rules.{rules}
 use Rattle.following.proofs.messages.follow_word.Goals as goal
 
 pub returns-then-is_nowhere : goal.returns-then-is_nowhere
@@ -23,7 +22,7 @@ pub row_of-row-requires : goal.row_of-row-requires
 row_of-row-requires c = omega (arith, c.state.ensures, state_below c.requires.from_le_most_pool (nowhere_false _ c.is_nowhere.ensures c.if-is_nowhere.false))
 
 pub follow-requires : goal.follow-requires
-follow-requires c =     let a = c.args in
+follow-requires c = let a = c.args in
     let p = c.requires in
     let word = word_standing a.table.now a.at a.n p.word_within in
     record { arcs_small = p.arcs_small; state_row = c.row_of-row.ensures.begins; ring_at = word_ring p.word_within; between = subst (Between 0 most_messages) (sym word) (word_small a.table.now a.at a.n p.word_within) }

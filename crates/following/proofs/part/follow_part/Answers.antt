@@ -4,7 +4,6 @@ use Rattle.tables.specs.Laws.Lookup.{nowhere_true, nowhere_false, state_below}
 use Rattle.following.specs.Laws.Rows.{followed_at, followed_lost}
 use Rattle.following.specs.Laws.Standing.{standing_length}
 use Rattle.following.specs.Laws.Part.{goes_nowhere, goes_whole, goes_lost}
-use borrow.Author.Rules.{rules}
 use Rattle.following.proofs.part.follow_part.Goals as goal
 
 pub returns-then-is_nowhere : goal.returns-then-is_nowhere

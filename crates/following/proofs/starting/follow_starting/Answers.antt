@@ -1,5 +1,4 @@
-use borrow.Author.Rules.{rules}
-use Prim.Native.Nat.{◌-◌, ◌*◌, ◌≤◌, ◌<◌}
+use Prim.Native.Nat.{◌*◌, ◌<◌}
 use mathlib.Core.Path.{refl, sym, ap, subst, ◌∙◌}
 use native.Mathlib.Omega.{arith}
 use Rattle.tables.specs.Limits.{most_messages, most_starting}
@@ -7,8 +6,8 @@ use Rattle.tables.specs.Starting.{each, starting_at}
 use Rattle.theory_model.specs.Model.{Between}
 use Rattle.theory_model.specs.Diagram.{word}
 use Rattle.following.specs.Standing.{standing}
-use Rattle.following.specs.Laws.Follow.{Following, follow_begin, front_small, follow_front, follow_end, follows_word}
-use Rattle.following.specs.Laws.Starting.{starting_standing, starting_ring, starting_small, starting_from, starting_begin, starting_next, starting_end}
+use Rattle.following.specs.Laws.Follow.{follow_begin, front_small, follow_front, follow_end, follows_word}
+use Rattle.following.specs.Laws.Starting.{starting_standing, starting_ring, starting_small, starting_begin, starting_next, starting_end}
 use Rattle.following.proofs.starting.follow_starting.Goals as goal
 
 pub loop-i-init : goal.loop-i-init
@@ -26,7 +25,7 @@ pub bounds-lengths-i : goal.bounds-lengths-i
 bounds-lengths-i c = omega (arith, c.wide-count.ensures, c.loop-i-test.true, c.requires.queues_valid.most)
 
 pub follow_part-part-requires : goal.follow_part-part-requires
-follow_part-part-requires c =     let p = c.requires in
+follow_part-part-requires c = let p = c.requires in
     let q = c.args.q in
     let i = c.loop-i.i in
     let below : i < q.count = omega (arith, c.wide-count.ensures, c.loop-i-test.true) in

@@ -2,7 +2,6 @@ use native.Mathlib.Omega.{arith}
 use Rattle.tables.specs.Laws.Kinds.{control_made}
 use mathlib.Core.Path.{sym, ◌∙◌}
 use Rattle.membership.specs.Laws.Asking.{ask_unknown, ask_judged}
-use borrow.Author.Rules.{rules}
 use Rattle.membership.proofs.member.ask.Goals as goal
 
 pub returns-then-machines-control : goal.returns-then-machines-control
@@ -14,7 +13,7 @@ pub root_of-start-requires : goal.root_of-start-requires
 root_of-start-requires c = omega (arith, c.requires.map.roots c.new.result.0, c.requires.pool.most)
 
 pub judge-requires : goal.judge-requires
-judge-requires c =  record { queues_valid = c.requires.queues; pool_valid = c.requires.pool; start_le_most_pool = c.root_of-start.ensures.most }
+judge-requires c = record { queues_valid = c.requires.queues; pool_valid = c.requires.pool; start_le_most_pool = c.root_of-start.ensures.most }
 
 pub returns : goal.returns
 returns c =

@@ -1,4 +1,3 @@
-use borrow.Author.Rules.{rules}
 use mathlib.Core.Path.{sym, ◌∙◌}
 use Rattle.membership.specs.Laws.Judging.{none_more, some_more}
 use Rattle.membership.proofs.member.followed.Goals as goal

@@ -1,14 +1,9 @@
-use borrow.Author.Rules.{rules}
-use Prim.Native.Nat.{◌-◌}
 use mathlib.Core.Path.{refl, sym, ◌∙◌}
-use lib.ListN.{length}
 use native.Mathlib.Omega.{arith}
-use Prim.Native.Nat.{◌≤◌}
-use Rattle.tables.specs.Limits.{most_pool}
 use Rattle.tables.specs.Kinds.{reached_of}
 use Rattle.tables.specs.Laws.Lookup.{arcs_small}
 use Rattle.tables.specs.Laws.Kinds.{message_made}
-use Rattle.membership.specs.Laws.Judging.{Judging, far_over, one_at_most_lem, judging_begin, judging_unknown, judging_earlier, judging_on, judging_end}
+use Rattle.membership.specs.Laws.Judging.{far_over, one_at_most_lem, judging_begin, judging_unknown, judging_earlier, judging_on, judging_end}
 use Rattle.membership.proofs.member.judge.Goals as goal
 
 pub loop-i-init : goal.loop-i-init
@@ -30,7 +25,7 @@ returns-then-own-queue c =
     (far_over a.pool.finals a.pool.arcs a.pool.count (reached_of a.start.0) a.contents.now)
 
 pub along-at-requires : goal.along-at-requires
-along-at-requires c =     let p = c.requires in
+along-at-requires c = let p = c.requires in
     let made = message_made p.queues_valid c.if-q-raw.false c.wide.ensures.same c.new-m.ensures in
     record { arcs_small = arcs_small p.pool_valid; from_le_most_pool = c.loop-i.invariant.1; m_lt_most_messages = omega (arith, made, c.if-q-raw.false, p.queues_valid.sum_most) }
 
@@ -43,7 +38,7 @@ loop-i-preserved c =
     (judging_on c.requires.queues_valid c.loop-i.invariant.0 c.loop-i-test.true refl c.if-q-raw.false made c.queue_of-own.ensures c.if-own-queue.false c.along-at.ensures.is (omega (arith, c.followed-far.ensures)), c.along-at.ensures.most)
 
 pub is_final-requires : goal.is_final-requires
-is_final-requires c =  record { finals_len = c.requires.pool_valid.finals_long; at_le_most_pool = c.loop-i.invariant.1 }
+is_final-requires c = record { finals_len = c.requires.pool_valid.finals_long; at_le_most_pool = c.loop-i.invariant.1 }
 
 pub returns-then-is_final : goal.returns-then-is_final
 returns-then-is_final c = judging_end c.requires.queues_valid c.loop-i.invariant.0 c.loop-i-test.false (sym c.if-is_final.true ∙ c.is_final.ensures) c.args.pool.count

@@ -1,7 +1,6 @@
 use mathlib.Core.Path.{sym, ap, ◌∙◌}
 use Rattle.reading_file.specs.Said.{said_answer}
 use Rattle.membership.specs.Laws.Asking.{read_valid, reply_unread, reply_asked}
-use borrow.Author.Rules.{rules}
 use Rattle.membership.proofs.member.member.Goals as goal
 
 pub ask-requires : goal.ask-requires

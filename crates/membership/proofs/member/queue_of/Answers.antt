@@ -1,9 +1,5 @@
-use borrow.Author.Rules.{rules}
-use Prim.Native.Nat.{◌+◌, ◌-◌, ◌≤◌}
-use mathlib.Core.Path.{◌≡◌, sym, ◌∙◌}
-use lib.ListN.{take, drop}
+use mathlib.Core.Path.{sym, ◌∙◌}
 use native.Mathlib.Omega.{arith}
-use Rattle.theory_model.specs.Model.{queue_of}
 use Rattle.membership.specs.Laws.Queues.{queue_found, queue_passed, queues_passed}
 use Rattle.membership.proofs.member.queue_of.Goals as goal
 

@@ -1,16 +1,10 @@
-use borrow.Author.Rules.{rules}
 use Prim.Native.Nat.{◌≤◌, ◌-◌}
-use mathlib.Core.Path.{◌≡◌, sym, ap, ◌∙◌}
-use native.Mathlib.Omega.{arith}
-use native.Mathlib.Nat.{sub-zero, sub-eq-zero_of_le}
-use Rattle.numbers.specs.Said.{said_pair}
-use Rattle.numbers.specs.Laws.Parts.{one_more_lem}
+use mathlib.Core.Path.{◌≡◌}
 use Rattle.reading_file.specs.Bad.{read_entries}
 use Rattle.reading_file.proofs.bad.read_entries.Given as goal
 
 abbrev pub invariant-loop-b : goal.invariant-loop-b
 invariant-loop-b l = (read_entries l.s l.place l.product l.n (l.count - l.b) l.b l.rows ≡ read_entries l.s l.at l.product l.n l.count 0 l.initial.rows) × (l.b ≤ l.count)
-
 
 abbrev pub decreases-loop-b : goal.decreases-loop-b
 decreases-loop-b l = l.count - l.b

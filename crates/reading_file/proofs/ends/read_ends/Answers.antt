@@ -1,15 +1,14 @@
 use native.Mathlib.Omega.{arith}
 use mathlib.Core.Path.{refl, sym, ◌∙◌}
-use borrow.Author.Tests.{le-leb, lt-leb, not-true, not-false}
+use borrow.Author.Tests.{le-leb, lt-leb}
 use Rattle.tables.specs.Laws.Lookup.{arcs_small}
 use Rattle.reading_pool.specs.Lent.{lent_pool}
 use Rattle.reading_file.specs.Ends.{read_ends}
 use Rattle.reading_file.specs.Laws.Valid.{sets_valid, roots_small, bad_small}
-use borrow.Author.Rules.{rules}
 use Rattle.reading_file.proofs.ends.read_ends.Goals as goal
 
 pub in_queue_order-requires : goal.in_queue_order-requires
-in_queue_order-requires c =     let g = rw c.in-To.is at c.read_sets-read.ensures in
+in_queue_order-requires c = let g = rw c.in-To.is at c.read_sets-read.ensures in
     let q = c.requires.queues_valid in
     let pool = c.requires.pool_valid in
     let sets = sets_valid _ _ _ _ c.requires.product_le_most_controls (sym g) in

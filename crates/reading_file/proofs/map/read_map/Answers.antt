@@ -1,6 +1,5 @@
 use Rattle.numbers.specs.Laws.Parts.{filled_into}
 use Rattle.reading_file.specs.Map.{read_map}
-use borrow.Author.Rules.{rules}
 use Rattle.reading_file.proofs.map.read_map.Goals as goal
 
 pub returns : goal.returns

@@ -1,4 +1,3 @@
-use borrow.Author.Rules.{rules}
 use Rattle.reading_file.proofs.reading.read_into.Goals as goal
 
 pub returns-in-Read : goal.returns-in-Read

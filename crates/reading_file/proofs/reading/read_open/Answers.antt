@@ -3,7 +3,6 @@ use borrow.Author.Tests.{le-leb, lt-leb}
 use Rattle.reading_file.specs.File.{read_with, read_file}
 use Rattle.reading_pool.specs.Laws.Pool.{pool_valid}
 use Rattle.reading_model.specs.Laws.Model.{model_valid}
-use borrow.Author.Rules.{rules}
 use Rattle.reading_file.proofs.reading.read_open.Goals as goal
 
 pub returns-then-s-gt-MOST_BYTES : goal.returns-then-s-gt-MOST_BYTES
@@ -11,11 +10,11 @@ unfolding read_file read_with
 returns-then-s-gt-MOST_BYTES c = rw (lt-leb _ _ c.if-s-gt-MOST_BYTES.true) (c.refused.ensures _ _ _)
 
 pub read_pool-second-requires : goal.read_pool-second-requires
-read_pool-second-requires c =     let e = rw c.in-To.is at c.read_model-first.ensures in
+read_pool-second-requires c = let e = rw c.in-To.is at c.read_model-first.ensures in
     record { sum_le_most_messages = (model_valid _ _ (sym e)).queues.sum_most; finals_value = c.requires.1.0; arcs_value = c.requires.1.1 }
 
 pub read_ends-third-requires : goal.read_ends-third-requires
-read_ends-third-requires c =     let e = rw c.in-To.is at c.read_model-first.ensures in
+read_ends-third-requires c = let e = rw c.in-To.is at c.read_model-first.ensures in
     let f = rw c.in-To-after_pool.is at c.read_pool-second.ensures in
     let model = model_valid _ _ (sym e) in
     record { product_le_most_controls = model.machines.product_most; queues_valid = model.queues; pool_valid = pool_valid _ _ _ model.queues.sum_most (sym f) }

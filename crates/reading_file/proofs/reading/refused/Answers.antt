@@ -1,6 +1,5 @@
 use mathlib.Core.Path.{refl, ap₂}
 use Rattle.reading_file.specs.File.{joined, empty}
-use borrow.Author.Rules.{rules}
 use Rattle.reading_file.proofs.reading.refused.Goals as goal
 
 pub returns : goal.returns

@@ -1,6 +1,5 @@
 use Rattle.reading_file.specs.Sets.{read_sets}
 use Rattle.numbers.specs.Laws.Parts.{filled_into}
-use borrow.Author.Rules.{rules}
 use Rattle.reading_file.proofs.sets.read_sets.Goals as goal
 
 pub returns-in-Refused : goal.returns-in-Refused

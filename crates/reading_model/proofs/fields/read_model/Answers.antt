@@ -1,6 +1,5 @@
 use Rattle.reading_model.specs.Model.{read_model}
 use Rattle.numbers.specs.Laws.Parts.{filled_into}
-use borrow.Author.Rules.{rules}
 use Rattle.reading_model.proofs.fields.read_model.Goals as goal
 
 pub returns-in-Refused : goal.returns-in-Refused

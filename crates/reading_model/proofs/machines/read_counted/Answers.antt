@@ -2,7 +2,6 @@ use Rattle.tables.specs.declared.tables.Machines.{Machines}
 use Rattle.numbers.specs.Laws.Parts.{filled_into}
 use Rattle.reading_model.specs.Machines.{counted_machines}
 use Rattle.reading_model.specs.Lent.{resuming}
-use borrow.Author.Rules.{rules}
 use Rattle.reading_model.proofs.machines.read_counted.Goals as goal
 
 pub returns-in-Refused : goal.returns-in-Refused

@@ -4,7 +4,6 @@ use native.Mathlib.Nat.{mul-le-mul, le_of_lt}
 use borrow.Author.Tests.{le-leb, lt-leb}
 use Rattle.numbers.specs.Said.{said_field}
 use Rattle.reading_model.specs.Machines.{read_factor}
-use borrow.Author.Rules.{rules}
 use Rattle.reading_model.proofs.machines.read_factor.Goals as goal
 
 pub overflow_mul-product : goal.overflow_mul-product

@@ -4,7 +4,6 @@ use borrow.Author.Tests.{lt-ltb, le-ltb}
 use Rattle.numbers.specs.Said.{said_field}
 use Rattle.numbers.specs.Laws.Ranges.{within_range}
 use Rattle.reading_model.specs.Machines.{read_machines}
-use borrow.Author.Rules.{rules}
 use Rattle.reading_model.proofs.machines.read_machines.Goals as goal
 
 pub read_counted-requires : goal.read_counted-requires

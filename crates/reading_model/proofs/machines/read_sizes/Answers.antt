@@ -1,9 +1,8 @@
 use borrow.Author.Rules.{rules}
-use Prim.Native.Nat.{◌≤◌, ◌*◌, ◌-◌}
-use mathlib.Core.Path.{◌≡◌, sym, ap, subst, ◌∙◌}
+use mathlib.Core.Path.{sym, ap, ◌∙◌}
 use native.Mathlib.Omega.{arith}
 use native.Mathlib.Nat.{sub-zero, sub-eq-zero_of_le, mul-le-mul, le_of_lt}
-use Rattle.numbers.specs.Said.{said_field, number_with}
+use Rattle.numbers.specs.Said.{said_field}
 use Rattle.numbers.specs.Laws.Parts.{one_more_lem}
 use Rattle.reading_model.specs.Machines.{read_sizes}
 use Rattle.reading_model.specs.Laws.Ranges.{factor_range}

@@ -1,17 +1,11 @@
-use borrow.Author.Rules.{rules}
 use Prim.Native.Nat.{◌≤◌, ◌-◌}
-use mathlib.Core.Path.{◌≡◌, sym, ap, ◌∙◌}
-use native.Mathlib.Omega.{arith}
-use native.Mathlib.Nat.{sub-zero, sub-eq-zero_of_le}
-use Rattle.numbers.specs.Said.{said_field}
-use Rattle.numbers.specs.Laws.Parts.{one_more_lem}
+use mathlib.Core.Path.{◌≡◌}
 use Rattle.reading_model.specs.Machines.{read_starts}
 use Rattle.reading_model.proofs.machines.read_starts.Given as goal
 
 abbrev pub invariant-loop-i : goal.invariant-loop-i
 invariant-loop-i l =
     (read_starts l.s l.place l.sizes (l.count - l.i) l.i l.starts ≡ read_starts l.s l.at l.sizes l.count 0 l.initial.starts) × (l.i ≤ l.count)
-
 
 abbrev pub decreases-loop-i : goal.decreases-loop-i
 decreases-loop-i l = l.count - l.i

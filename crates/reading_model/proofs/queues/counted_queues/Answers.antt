@@ -3,7 +3,6 @@ use native.Mathlib.Omega.{arith}
 use Rattle.numbers.specs.Said.{said_field}
 use Rattle.numbers.specs.Laws.Ranges.{within_range}
 use Rattle.reading_model.specs.Queues.{counted_queues}
-use borrow.Author.Rules.{rules}
 use Rattle.reading_model.proofs.queues.counted_queues.Goals as goal
 
 pub read_counts-requires : goal.read_counts-requires

@@ -9,7 +9,6 @@ use Rattle.numbers.specs.Laws.Ranges.{within_range}
 use Rattle.tables.specs.Limits.{most_queues}
 use Rattle.tables.specs.declared.tables.Queues.{Queues}
 use Rattle.reading_model.specs.Queues.{read_counts, counted_queues, read_queues}
-use borrow.Author.Rules.{rules}
 use Rattle.reading_model.proofs.queues.read_queues.Goals as goal
 
 counted-most : (s : List ℕ) (at : ℕ) {q : Queues} {next : ℕ} → counted_queues s at ≡ got q next → q.count ≤ most_queues

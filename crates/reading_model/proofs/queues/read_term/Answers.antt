@@ -2,7 +2,6 @@ use mathlib.Core.Path.{sym, ap, ◌∙◌}
 use borrow.Author.Tests.{le-leb, lt-leb}
 use Rattle.numbers.specs.Said.{said_field}
 use Rattle.reading_model.specs.Queues.{read_term}
-use borrow.Author.Rules.{rules}
 use Rattle.reading_model.proofs.queues.read_term.Goals as goal
 
 pub returns-then-sum-wide : goal.returns-then-sum-wide

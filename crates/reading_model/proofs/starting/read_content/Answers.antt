@@ -7,11 +7,10 @@ use Rattle.numbers.specs.Laws.Parts.{filled_into}
 use Rattle.numbers.specs.Laws.Ranges.{within_range}
 use Rattle.reading_model.specs.Queues.{read_content}
 use Rattle.reading_model.specs.Lent.{lent_contents}
-use borrow.Author.Rules.{rules}
 use Rattle.reading_model.proofs.starting.read_content.Goals as goal
 
 pub read_word-requires : goal.read_word-requires
-read_word-requires c =     let h = within_range _ _ 0 8 (sym c.read_within.ensures ∙ ap said_field c.in-Value.is) in record { start_le_end = omega arith; end_in_bounds = omega arith }
+read_word-requires c = let h = within_range _ _ 0 8 (sym c.read_within.ensures ∙ ap said_field c.in-Value.is) in record { start_le_end = omega arith; end_in_bounds = omega arith }
 
 pub returns-in-Refused : goal.returns-in-Refused
 unfolding read_content

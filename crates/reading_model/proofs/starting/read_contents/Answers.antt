@@ -1,11 +1,8 @@
 use borrow.Author.Rules.{rules}
-use Prim.Native.Nat.{◌≤◌, ◌-◌}
-use mathlib.Core.Path.{◌≡◌}
 use native.Mathlib.Omega.{arith}
 use native.Mathlib.Nat.{sub-zero, sub-eq-zero_of_le}
 use Rattle.numbers.specs.Laws.Parts.{one_more_lem}
 use Rattle.reading_model.specs.Queues.{read_contents}
-use Rattle.reading_model.specs.Lent.{lent_contents}
 use Rattle.reading_model.proofs.starting.read_contents.Goals as goal
 
 pub loop-i-init : goal.loop-i-init

@@ -1,9 +1,5 @@
-use borrow.Author.Rules.{rules}
 use Prim.Native.Nat.{◌≤◌, ◌-◌}
 use mathlib.Core.Path.{◌≡◌}
-use native.Mathlib.Omega.{arith}
-use native.Mathlib.Nat.{sub-zero, sub-eq-zero_of_le}
-use Rattle.numbers.specs.Laws.Parts.{one_more_lem}
 use Rattle.reading_model.specs.Queues.{read_contents}
 use Rattle.reading_model.specs.Lent.{lent_contents}
 use Rattle.reading_model.proofs.starting.read_contents.Given as goal
@@ -12,7 +8,6 @@ abbrev pub invariant-loop-i : goal.invariant-loop-i
 invariant-loop-i l =
     (read_contents l.s l.place l.q (l.q.count - l.i) l.i (lent_contents l.lengths l.contents) ≡ read_contents l.s l.at l.q l.q.count 0 (lent_contents l.initial.lengths l.initial.contents))
     × (l.i ≤ l.q.count)
-
 
 abbrev pub decreases-loop-i : goal.decreases-loop-i
 decreases-loop-i l = l.q.count - l.i

@@ -1,6 +1,4 @@
-use borrow.Author.Tests.{not-true, not-false}
 use Rattle.reading_model.specs.Queues.{read_starting}
-use borrow.Author.Rules.{rules}
 use Rattle.reading_model.proofs.starting.read_starting.Goals as goal
 
 pub returns-then-not-waits : goal.returns-then-not-waits

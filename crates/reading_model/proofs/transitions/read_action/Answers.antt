@@ -6,11 +6,10 @@ use Rattle.numbers.specs.Laws.Ranges.{below_number, within_number, within_range}
 use Rattle.numbers.specs.Laws.Reader.{two_first_below, two_second_within, two_place}
 use Rattle.tables.specs.Limits.{most_word}
 use Rattle.reading_model.specs.Transitions.{read_action}
-use borrow.Author.Rules.{rules}
 use Rattle.reading_model.proofs.transitions.read_action.Goals as goal
 
 pub read_word-requires : goal.read_word-requires
-read_word-requires c =     let two = c.two_at-two.ensures in
+read_word-requires c = let two = c.two_at-two.ensures in
     let x = two_first_below two _ (sym c.below.ensures ∙ ap said_field c.in-Value.is) in
     let y = two_second_within two (below_number _ _ _ x) 0 most_word (sym c.within.ensures ∙ ap said_field c.in-Value-within.is) in
     let h = within_range _ _ 0 most_word y in

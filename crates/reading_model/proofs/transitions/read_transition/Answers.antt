@@ -1,9 +1,8 @@
-use mathlib.Core.Path.{◌≡◌, sym, ap, ◌∙◌}
+use mathlib.Core.Path.{sym, ap, ◌∙◌}
 use Rattle.numbers.specs.Said.{said_field}
 use borrow.Author.Tests.{eq-eqb, ne_eqb}
 use Rattle.numbers.specs.Said.{said_pair}
 use Rattle.reading_model.specs.Transitions.{read_transition}
-use borrow.Author.Rules.{rules}
 use Rattle.reading_model.proofs.transitions.read_transition.Goals as goal
 
 pub returns-then-kind-eq0 : goal.returns-then-kind-eq0

@@ -1,11 +1,10 @@
-use mathlib.Core.Path.{◌≡◌, sym, ap, ◌∙◌}
+use mathlib.Core.Path.{sym, ap, ◌∙◌}
 use native.Mathlib.Omega.{arith}
 use Rattle.numbers.specs.Said.{said_field}
 use Rattle.numbers.specs.Laws.Parts.{filled_into}
 use Rattle.reading_model.specs.Transitions.{read_transitions}
 use Rattle.reading_model.specs.Lent.{lent_transitions}
 use Rattle.numbers.specs.Laws.Ranges.{within_range}
-use borrow.Author.Rules.{rules}
 use Rattle.reading_model.proofs.transitions.read_transitions.Goals as goal
 
 pub read_rows-filled-requires : goal.read_rows-filled-requires

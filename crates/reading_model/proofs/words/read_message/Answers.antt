@@ -2,7 +2,6 @@ use mathlib.Core.Path.{sym, ap, ◌∙◌}
 use borrow.Author.Tests.{le-leb, lt-leb, lt-ltb, le-ltb}
 use Rattle.numbers.specs.Said.{said_field}
 use Rattle.reading_model.specs.Words.{read_message}
-use borrow.Author.Rules.{rules}
 use Rattle.reading_model.proofs.words.read_message.Goals as goal
 
 pub returns-then-raw-lo : goal.returns-then-raw-lo

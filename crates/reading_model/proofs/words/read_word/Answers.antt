@@ -1,9 +1,7 @@
 use borrow.Author.Rules.{rules}
-use Prim.Native.Nat.{◌≤◌, ◌-◌}
-use mathlib.Core.Path.{◌≡◌, sym, ap, ◌∙◌}
+use mathlib.Core.Path.{sym, ap, ◌∙◌}
 use native.Mathlib.Omega.{arith}
 use native.Mathlib.Nat.{sub-eq-zero_of_le}
-use lib.ListN.{length}
 use Rattle.numbers.specs.Said.{said_field}
 use Rattle.numbers.specs.Laws.Parts.{one_more_lem}
 use Rattle.reading_model.specs.Words.{read_word}
@@ -19,7 +17,7 @@ loop-j-preserved c = (
   rw (← c.loop-j.invariant.0, one_more_lem c.loop-j-test.true, sym c.read_message.ensures ∙ ap said_field c.in-Value.is),
   omega arith,
   search rules,
- )
+)
 
 pub returns : goal.returns
 unfolding read_word

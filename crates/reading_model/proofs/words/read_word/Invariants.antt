@@ -1,18 +1,12 @@
-use borrow.Author.Rules.{rules}
 use Prim.Native.Nat.{◌≤◌, ◌-◌}
-use mathlib.Core.Path.{◌≡◌, sym, ap, ◌∙◌}
-use native.Mathlib.Omega.{arith}
-use native.Mathlib.Nat.{sub-eq-zero_of_le}
+use mathlib.Core.Path.{◌≡◌}
 use lib.ListN.{length}
-use Rattle.numbers.specs.Said.{said_field}
-use Rattle.numbers.specs.Laws.Parts.{one_more_lem}
 use Rattle.reading_model.specs.Words.{read_word}
 use Rattle.reading_model.proofs.words.read_word.Given as goal
 
 abbrev pub invariant-loop-j : goal.invariant-loop-j
 invariant-loop-j l =
     (read_word l.s l.place l.sum l.lo l.hi (l.end - l.j) l.j l.table ≡ read_word l.s l.at l.sum l.lo l.hi (l.end - l.start) l.start l.initial.table) × (l.j ≤ l.end) × (length l.table ≡ length l.initial.table)
-
 
 abbrev pub decreases-loop-j : goal.decreases-loop-j
 decreases-loop-j l = l.end - l.j

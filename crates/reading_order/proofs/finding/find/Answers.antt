@@ -1,6 +1,5 @@
 use native.Mathlib.Omega.{arith}
 use Rattle.reading_order.specs.Laws.Finding.{found_most, found_room, found_old, found_new}
-use borrow.Author.Rules.{rules}
 use Rattle.reading_order.proofs.finding.find.Goals as goal
 
 pub returns-then-seen-node-ne0 : goal.returns-then-seen-node-ne0

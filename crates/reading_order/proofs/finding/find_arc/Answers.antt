@@ -3,7 +3,6 @@ use native.Mathlib.Omega.{arith}
 use Rattle.tables.specs.Said.{said_arc}
 use Rattle.tables.specs.Laws.Lookup.{arc_small}
 use Rattle.reading_order.specs.Laws.Finding.{adds_node, adds_none, grows_as, grows_none}
-use borrow.Author.Rules.{rules}
 use Rattle.reading_order.proofs.finding.find_arc.Goals as goal
 
 pub returns-in_default : goal.returns-in_default
@@ -16,7 +15,7 @@ pub overflow_add-s : goal.overflow_add-s
 overflow_add-s c = omega (arith, arc_small _ _ c.requires.arcs_small (sym c.arc_from.ensures ∙ ap said_arc c.in-Target.is))
 
 pub find-requires : goal.find-requires
-find-requires c =     let below = arc_small _ _ c.requires.arcs_small (sym c.arc_from.ensures ∙ ap said_arc c.in-Target.is) in
+find-requires c = let below = arc_small _ _ c.requires.arcs_small (sym c.arc_from.ensures ∙ ap said_arc c.in-Target.is) in
     record { found = c.requires.found; node_lt_most_nodes = omega (arith, below, c.wide.ensures.same, c.requires.rank_lt_ranks) }
 
 pub returns : goal.returns

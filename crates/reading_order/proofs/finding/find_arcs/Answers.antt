@@ -1,10 +1,6 @@
-use borrow.Author.Rules.{rules}
 use native.Mathlib.Omega.{arith}
-use Prim.Native.Nat.{◌≤◌, ◌-◌}
-use Rattle.theory_exploration.specs.Growing.{gather}
 use Rattle.theory_exploration.specs.Laws.Gather.{gather_end}
-use Rattle.reading_order.specs.Found.{arc_node}
-use Rattle.reading_order.specs.Laws.Finding.{Finding, finding_begin, finding_part, finding_end, gather_step}
+use Rattle.reading_order.specs.Laws.Finding.{finding_begin, finding_part, finding_end, gather_step}
 use Rattle.reading_order.proofs.finding.find_arcs.Goals as goal
 
 pub overflow_mul-row : goal.overflow_mul-row
@@ -14,7 +10,7 @@ pub loop-m-init : goal.loop-m-init
 loop-m-init c = (finding_begin c.requires.found, c.requires.first_le_end)
 
 pub find_arc-found-requires : goal.find_arc-found-requires
-find_arc-found-requires c =     let p = c.requires in
+find_arc-found-requires c = let p = c.requires in
     record { arcs_small = p.arcs_small; m_bound = omega (arith, c.loop-m-test.true, c.wide-row.ensures.same, p.s_lt_most_pool, p.end_le_most_messages); rank_lt_ranks = p.rank_lt_ranks; found = c.loop-m.invariant.0.holds }
 
 pub loop-m-preserved : goal.loop-m-preserved

@@ -1,16 +1,12 @@
-use borrow.Author.Rules.{rules}
-use native.Mathlib.Omega.{arith}
 use Prim.Native.Nat.{◌≤◌, ◌-◌}
 use Rattle.theory_exploration.specs.Growing.{gather}
-use Rattle.theory_exploration.specs.Laws.Gather.{gather_end}
 use Rattle.reading_order.specs.Found.{arc_node}
-use Rattle.reading_order.specs.Laws.Finding.{Finding, finding_begin, finding_part, finding_end, gather_step}
+use Rattle.reading_order.specs.Laws.Finding.{Finding}
 use Rattle.reading_order.proofs.finding.find_arcs.Given as goal
 
 abbrev pub invariant-loop-m : goal.invariant-loop-m
 invariant-loop-m l =
     Finding l.initial.nodes l.count (gather (arc_node l.arcs l.row l.rank) (l.end - l.first) l.first) l.seen l.nodes l.found (gather (arc_node l.arcs l.row l.rank) (l.end - l.m) l.m) × (l.m ≤ l.end)
-
 
 abbrev pub decreases-loop-m : goal.decreases-loop-m
 decreases-loop-m l = l.end - l.m

@@ -1,13 +1,10 @@
-use borrow.Author.Rules.{rules}
 use native.Mathlib.Omega.{arith}
-use Prim.Native.Nat.{◌≤◌, ◌-◌, ◌/◌, ◌%◌}
-use mathlib.Core.Path.{◌≡◌, refl}
+use mathlib.Core.Path.{refl}
 use native.Mathlib.Nat.{sub-zero}
 use native.Mathlib.Numerals.{add-one}
 use Rattle.tables.specs.Queues.{first_message}
 use Rattle.tables.specs.Laws.Queues.{end_within, first_step}
-use Rattle.reading_order.specs.Nodes.{ranks, queue_nodes}
-use Rattle.reading_order.specs.Laws.Finding.{Finding, finding_begin, finding_part, finding_end, rank_small, queues_on, queues_end}
+use Rattle.reading_order.specs.Laws.Finding.{finding_begin, finding_part, finding_end, rank_small, queues_on, queues_end}
 use Rattle.reading_order.proofs.finding.find_next.Goals as goal
 
 pub overflow_cast-s : goal.overflow_cast-s
@@ -24,7 +21,7 @@ pub overflow_add-end : goal.overflow_add-end
 overflow_add-end c = omega (arith, end_within _ c.loop-queue.invariant.2 c.loop-queue-test.true c.requires.queues_bound)
 
 pub find_arcs-found-requires : goal.find_arcs-found-requires
-find_arcs-found-requires c =     let p = c.requires in
+find_arcs-found-requires c = let p = c.requires in
     let test = c.loop-queue-test.true in
     record { arcs_small = p.arcs_small; s_lt_most_pool = omega (arith, p.node_lt_most_nodes); rank_lt_ranks = rank_small _ test p.queues_le_most_queues c.rank_after-after.ensures; first_le_end = omega arith; end_le_most_messages = end_within _ c.loop-queue.invariant.2 test p.queues_bound; found = c.loop-queue.invariant.0.holds }
 

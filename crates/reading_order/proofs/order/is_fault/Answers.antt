@@ -1,5 +1,4 @@
 use Rattle.reading_order.specs.Laws.Testing.{fails_wrong, fails_not}
-use borrow.Author.Rules.{rules}
 use Rattle.reading_order.proofs.order.is_fault.Goals as goal
 
 pub returns-then-node-eq-WRONG : goal.returns-then-node-eq-WRONG

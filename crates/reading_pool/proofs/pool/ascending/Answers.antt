@@ -1,7 +1,6 @@
-use mathlib.Core.Path.{◌≡◌, sym, ap, ◌∙◌}
+use mathlib.Core.Path.{sym, ap, ◌∙◌}
 use Rattle.numbers.specs.Said.{said_field}
 use borrow.Author.Tests.{le-leb, lt-leb}
-use borrow.Author.Rules.{rules}
 use Rattle.reading_pool.proofs.pool.ascending.Goals as goal
 
 pub returns-then-wide-least : goal.returns-then-wide-least

@@ -4,7 +4,6 @@ use Rattle.numbers.specs.Laws.Ranges.{below_number}
 use Rattle.numbers.specs.Laws.Reader.{two_second_below, two_place}
 use Rattle.reading_pool.specs.Pool.{read_arc}
 use Rattle.reading_pool.specs.Laws.Ranges.{ascending_number, two_first_ascending}
-use borrow.Author.Rules.{rules}
 use Rattle.reading_pool.proofs.pool.read_arc.Goals as goal
 
 pub returns-in-Refused : goal.returns-in-Refused

@@ -1,17 +1,10 @@
-use borrow.Author.Rules.{rules}
 use Prim.Native.Nat.{◌≤◌, ◌-◌}
-use mathlib.Core.Path.{◌≡◌, sym, ap, ◌∙◌}
-use native.Mathlib.Omega.{arith}
-use native.Mathlib.Nat.{sub-zero, sub-eq-zero_of_le}
-use Rattle.numbers.specs.Said.{said_pair}
-use Rattle.numbers.specs.Laws.Parts.{one_more_lem}
+use mathlib.Core.Path.{◌≡◌}
 use Rattle.reading_pool.specs.Pool.{read_arcs}
-use Rattle.reading_pool.specs.Laws.Ranges.{arc_range}
 use Rattle.reading_pool.proofs.pool.read_arcs.Given as goal
 
 abbrev pub invariant-loop-i : goal.invariant-loop-i
 invariant-loop-i l = (read_arcs l.s l.place l.n l.sum l.least l.row (l.count - l.i) l.arcs ≡ read_arcs l.s l.at l.n l.sum 0 l.row l.count l.initial.arcs) × (l.i ≤ l.count)
-
 
 abbrev pub decreases-loop-i : goal.decreases-loop-i
 decreases-loop-i l = l.count - l.i

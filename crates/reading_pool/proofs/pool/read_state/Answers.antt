@@ -3,7 +3,6 @@ use Rattle.numbers.specs.Said.{said_field}
 use Rattle.numbers.specs.Laws.Ranges.{below_number, within_number}
 use Rattle.numbers.specs.Laws.Reader.{two_first_below, two_second_within, two_place}
 use Rattle.reading_pool.specs.Pool.{read_state}
-use borrow.Author.Rules.{rules}
 use Rattle.reading_pool.proofs.pool.read_state.Goals as goal
 
 pub returns-in-Refused : goal.returns-in-Refused

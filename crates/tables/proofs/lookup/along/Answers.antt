@@ -2,7 +2,6 @@ use mathlib.Core.Path.{sym, ap, ◌∙◌}
 use native.Mathlib.Omega.{arith}
 use Rattle.tables.specs.Said.{said_arc}
 use Rattle.tables.specs.Laws.Lookup.{nowhere_true, nowhere_false, state_below, entry_within, along_nowhere, along_missing, along_arc_lem}
-use borrow.Author.Rules.{rules}
 use Rattle.tables.proofs.lookup.along.Goals as goal
 
 pub returns-then-is_nowhere : goal.returns-then-is_nowhere

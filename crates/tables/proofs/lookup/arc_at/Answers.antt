@@ -2,7 +2,6 @@ use mathlib.Core.Path.{ap, ◌∙◌}
 use Prim.Native.Nat.{◌*◌}
 use Rattle.tables.specs.Limits.{most_messages}
 use Rattle.tables.specs.Pool.{arc_from}
-use borrow.Author.Rules.{rules}
 use Rattle.tables.proofs.lookup.arc_at.Goals as goal
 
 pub returns : goal.returns

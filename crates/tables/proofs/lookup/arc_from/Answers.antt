@@ -1,5 +1,4 @@
 use Rattle.tables.specs.Laws.Lookup.{part_none, part_some}
-use borrow.Author.Rules.{rules}
 use Rattle.tables.proofs.lookup.arc_from.Goals as goal
 
 pub returns-then-target-eq0 : goal.returns-then-target-eq0

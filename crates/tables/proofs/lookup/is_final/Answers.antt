@@ -1,6 +1,5 @@
 use native.Mathlib.Omega.{arith}
 use Rattle.tables.specs.Laws.Lookup.{nowhere_true, nowhere_false, state_below, final_nowhere, final_state}
-use borrow.Author.Rules.{rules}
 use Rattle.tables.proofs.lookup.is_final.Goals as goal
 
 pub returns-then-is_nowhere : goal.returns-then-is_nowhere

@@ -1,6 +1,5 @@
 use native.Mathlib.Omega.{arith}
 use Rattle.tables.specs.Laws.Lookup.{root_missing, root_there}
-use borrow.Author.Rules.{rules}
 use Rattle.tables.proofs.lookup.root_of.Goals as goal
 
 pub returns-then-root-eq0 : goal.returns-then-root-eq0

@@ -1,5 +1,4 @@
 use borrow.Author.Tests.{lt-ltb, le-ltb}
-use borrow.Author.Rules.{rules}
 use Rattle.tables.proofs.kinds.Message.new.Goals as goal
 
 pub returns-then-raw-lt-LIMIT : goal.returns-then-raw-lt-LIMIT
