@@ -7,6 +7,7 @@
 status=0
 records=$top/target/commands
 rust=$records/rust
+outputs='crates/[^/]*/out'
 
 # ---- speaking: standard output has answers alone
 
@@ -91,7 +92,7 @@ is_installed() {
 # Sets `program` to the proved program.
 need_checker() {
     program=$top/programs/swarmbanner
-    is_installed || { program=$top/target/bin/swarmbanner && need_proved "$program" check swarmbanner; }
+    is_installed || { program=$top/target/bin/swarmbanner && need_proved "$program" run swarmbanner; }
     [ -x "$program" ] || die "$program is not there"
 }
 
@@ -107,11 +108,11 @@ digest() {
 }
 
 # files_in FOLDER PART..: each file with its digest, in a fixed order. Names are there too, so a moved file counts. A link would say
-# nothing of what it leads to, and rt does not look there either.
+# nothing of what it leads to, and rt refuses it. What rt makes lies in crates/NAME/out, and is no source.
 files_in() {
-    odd=$(cd "$1" && shift && find "$@" ! -type f ! -type d 2> /dev/null) || die "the source in $1 cannot be read"
+    odd=$(cd "$1" && shift && find "$@" -regex "$outputs" -prune -o ! -type f ! -type d -print 2> /dev/null) || die "the source in $1 cannot be read"
     [ -z "$odd" ] || die "$1/$odd is neither a file nor a folder, so no proof is of what it has"
-    found=$(cd "$1" && shift && find "$@" -type f -exec sha256sum {} + 2> /dev/null) || die "the source in $1 cannot be read"
+    found=$(cd "$1" && shift && find "$@" -regex "$outputs" -prune -o -type f -exec sha256sum {} + 2> /dev/null) || die "the source in $1 cannot be read"
     printf '%s\n' "$found" | LC_ALL=C sort
 }
 
@@ -139,41 +140,38 @@ note_made() {
     printf '%s %s\n' "$2" "$(digest < "$1")" > "$records/${1##*/}.made"
 }
 
-# need_proved FILE WORD..: rt WORD.. makes the file, unless it was made from the source as it is
+# need_proved FILE WORD CRATE: rt WORD, in the crate's folder, makes the file, unless it was made from the source as it is. `run` makes
+# a program, which then runs on an empty input; `lib` a static library.
 need_proved() {
     source=$(source_digest) || exit 3
     is_made "$1" "$source" || locked prove "$@"
     is_made "$1" "$source" || die "$1 was not made from the source as it is"
 }
 
-# Called with the lock, which another build may have held until now.
+# Called with the lock, which another build may have held until now. rt goes by the source alone, so what it made before, which
+# someone may have changed, goes first.
 prove() {
-    file=$1
-    shift
+    file=$1 made=$top/crates/$3/out/${1##*/}
     ! is_made "$file" "$source" || return 0
-    forget "$file"
+    rm -f "$made" "$made.stamp"
     complain 'proving what is not proved yet, some minutes the first time'
-    progress "$@" || die "not proved; $records/log has what rt said"
+    progress "$2" "$3" || die "not proved; $records/log has what rt said"
     [ "$(source_digest)" = "$source" ] || die 'the source changed while it was proved: call again'
-    [ -f "$file" ] || die "rt made no $file"
+    [ -f "$made" ] || die "rt made no $made"
+    mkdir -p "${file%/*}" && cp "$made" "$file.new" && mv "$file.new" "$file" || die "$file cannot be written"
     note_made "$file" "$source"
 }
 
-# A file that is not the one noted for this very source was changed by someone else. rt goes by the source alone, so it has to
-# forget that it made one.
-forget() {
-    case $(cat "$records/${1##*/}.made" 2> /dev/null) in
-    "$source "*) rm -f "$1" "$top/target/stamp/${1##*/}" ;;
-    esac
-}
-
-# Runs rt and says, as it goes, which crates it proved or not. Its status comes by the same pipe as its words, as the last line.
-# Standard input may be a session file, so no build gets it.
+# Runs rt and says, as it goes, which crates it proved or not: it names a crate, and on a later line says how that went. Its status
+# comes by the same pipe as its words, as the last line. Standard input may be a session file, so no build gets it.
 progress() {
-    { cd "$top" && rt "$@" < /dev/null 2>&1; echo "status $?"; } | while IFS= read -r line; do
+    crate=$2
+    { cd "$top/crates/$crate" && rt "$1" < /dev/null 2>&1; echo "status $?"; } | while IFS= read -r line; do
         printf '%s\n' "$line" >&3
         case $line in
-        'rt: '*' proved ('*' s)' | 'rt: target/staticlib/'* | 'rt: '*'NOT PROVED'* | 'rt: '*FAILED*) complain "${line#rt: }" ;;
+        'crate '*:*) crate=${line#crate } crate=${crate%%:*} ;;
+        'logic=proved'*) complain "$crate is proved" ;;
+        'logic='* | 'rt: '*'NOT PROVED'* | 'rt: '*FAILED*) complain "${line#rt: }" ;;
         esac
         [ "$line" = 'status 0' ]
     done 3> "$records/log"
@@ -192,7 +190,7 @@ need_rust() {
 build_rust() {
     ! is_made "$rust/release/$1" "$made_from" || return 0
     command -v cargo > /dev/null || die 'cargo, which this needs beside the kit, is not on the path'
-    prove "$top/target/staticlib/libcapi.a" staticlib capi
+    prove "$top/target/staticlib/libcapi.a" lib capi
     complain 'building the programs over the library'
     rm -rf "$rust"
     (cd "$top/bindings" && env -u SWARMBANNER_LIB_DIR -u CARGO_BUILD_TARGET cargo build --quiet --release --offline \

@@ -1,4 +1,4 @@
-//! Finds the proved static library: in the folder that SWARMBANNER_LIB_DIR names, else where `rt staticlib capi` writes it.
+//! Finds the proved static library: in the folder that SWARMBANNER_LIB_DIR names, else where `bindings/library capi` writes it.
 
 use std::env;
 use std::path::{Path, PathBuf};
@@ -30,7 +30,7 @@ fn folder() -> PathBuf {
 
 fn complain(library: &Path) -> ! {
     eprintln!("error: {} is not there.", library.display());
-    eprintln!("Run `rt staticlib capi` at the top of the repository, which proves the library and writes it,");
+    eprintln!("Run `bindings/library capi` at the top of the repository, which proves the library and writes it,");
     eprintln!("or set {VARIABLE} to the folder that has {LIBRARY}.");
     exit(1)
 }

@@ -1,5 +1,5 @@
-//! Links the proved static libraries: `rt staticlib benchmark` writes that of reading and checking, `rt staticlib capi` that
-//! of replaying, writing and drawing.
+//! Links the proved static libraries: `bindings/library benchmark` writes that of reading and checking,
+//! `bindings/library capi` that of replaying, writing and drawing.
 
 fn main() {
     let folder = concat!(env!("CARGO_MANIFEST_DIR"), "/../../target/staticlib");

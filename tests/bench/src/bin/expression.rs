@@ -1,6 +1,6 @@
 //! Times of drawing expressions, product and reference by turns. Not a test: nothing fails by being slow.
 //!
-//! The product is called as C programs call it, in the library that `rt staticlib capi` writes. It is compared with `positions`,
+//! The product is called as C programs call it, in the library that `bindings/library capi` writes. It is compared with `positions`,
 //! the product's algorithm in safe Rust, whose pool is put into the same memory. `at once` is that with arcs stored as their
 //! targets are found, `derived` the reference's own way, by derivatives. All texts are first drawn by all four, and they must
 //! leave the same.

@@ -1,6 +1,6 @@
 //! Times of replaying, product and reference by turns. Not a test: nothing fails by being slow.
 //!
-//! The product is called as C programs call it, in the library that `rt staticlib capi` writes. The reference is `rings`,
+//! The product is called as C programs call it, in the library that `bindings/library capi` writes. The reference is `rings`,
 //! the product's algorithm in safe Rust, which is given what was read with `order`, the product's test of queue order. Each
 //! trace is first replayed by both, and they must leave the same.
 

@@ -1,6 +1,6 @@
 //! Times of writing, product and reference by turns. Not a test: nothing fails by being slow.
 //!
-//! The product is called as C programs call it, in the library that `rt staticlib capi` writes. It is compared with `spelling`,
+//! The product is called as C programs call it, in the library that `bindings/library capi` writes. It is compared with `spelling`,
 //! the product's algorithm in safe Rust: the tables are spelled out, read back with `order`, the product's test of queue order,
 //! compared, and copied to the buffer. The third, `direct`, is the reference's own way, which asks each entry instead of
 //! reading back, with the same test of queue order. All tables are first written by all three, and they must leave the same.
