@@ -21,7 +21,7 @@ use Rattle.theory_model.specs.Searched.{judge_by_search}
 use Rattle.theory_model.specs.Laws.Queues.{between_wide, between_append, between_front, between_back, word_between}
 use Rattle.theory_model.specs.Laws.Items.{IsItem}
 use Rattle.theory_model.specs.Laws.Judging.{JudgedMeans}
-use Rattle.theory_model.specs.Laws.Verdicts.{judge_means}
+use Rattle.theory_model.proofs.Verdicts.{judge_means}
 use Rattle.theory_files.specs.Tables.{session_of, transition_at}
 use Rattle.theory_files.specs.Laws.Sessions.{well_formed}
 use Rattle.controls.specs.Controls.{Moved}

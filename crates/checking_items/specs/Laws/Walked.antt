@@ -10,7 +10,7 @@ use Rattle.theory_model.specs.Judge as Model
 use Rattle.theory_model.specs.Judge.{passes, fails}
 use Rattle.theory_model.specs.Searched.{judge_by_search}
 use Rattle.theory_model.specs.Laws.Items.{IsItem, is_item, at_place}
-use Rattle.theory_model.specs.Laws.Deciding.{judge_bound}
+use Rattle.theory_model.proofs.Deciding.{judge_bound}
 use Rattle.theory_files.specs.Tables.{session_of, transition_at}
 use Rattle.tables.specs.Limits.{contents_least, most_pool}
 use Rattle.theory_files.specs.Laws.Sessions.{well_formed}

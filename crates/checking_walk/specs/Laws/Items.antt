@@ -10,7 +10,7 @@ use Rattle.theory_model.specs.Judge.{Begun, judge, walk_of}
 use Rattle.theory_model.specs.Searched.{search_walk, judge_by_search}
 use Rattle.theory_model.specs.Laws.Items.{IsItem}
 use Rattle.theory_model.specs.Laws.Judging.{JudgedMeans}
-use Rattle.theory_model.specs.Laws.Verdicts.{judge_means}
+use Rattle.theory_model.proofs.Verdicts.{judge_means}
 use Rattle.theory_model.specs.Laws.Searches.{search_is}
 use Rattle.theory_model.specs.Laws.Lengths.{taken, showing, shown_bound}
 use Rattle.checking_pairs.specs.declared.pairs.Walk.{Walk}

@@ -13,7 +13,8 @@ use Rattle.theory_model.specs.Judge as Judge
 use Rattle.theory_model.specs.TwoRuns.{TwoRuns}
 use Rattle.theory_model.specs.Laws.Items.{item_is}
 use Rattle.theory_model.specs.Laws.Replies.{one_reply}
-use Rattle.theory_model.specs.Laws.Verdicts.{verdict_means, closed_is, closed_bound, two_runs}
+use Rattle.theory_model.proofs.Verdicts.{verdict_means, closed_bound}
+use Rattle.theory_model.proofs.Verdicts.{closed_is, two_runs}
 use Rattle.theory_files.specs.Tables.{session_of}
 use Rattle.theory_files.specs.Reply.{FileReply, refused, verdict, reply_to, reply_of}
 use Rattle.theory_files.specs.Claims.{Meant, TwoRunsTo, MeansOf, TwoRunsOf}

@@ -20,7 +20,7 @@ use Rattle.theory_model.specs.Judge as Judge
 use Rattle.theory_model.specs.Laws.Queues.{word_between, between_wide}
 use Rattle.theory_model.specs.Laws.Items.{IsItem, item_is, at_place}
 use Rattle.theory_model.specs.Laws.Lengths.{taken, showing, shown_bound}
-use Rattle.theory_model.specs.Laws.Verdicts.{verdict_means}
+use Rattle.theory_model.proofs.Verdicts.{verdict_means}
 use Rattle.theory_files.specs.Tables.{action_of, session_of}
 use Rattle.theory_files.specs.Reply.{FileReply, verdict, reply_to, shown_of}
 use Rattle.theory_files.specs.Checking.{most_shown, read_lent, contents_after, check_of}

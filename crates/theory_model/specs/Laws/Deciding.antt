@@ -7,10 +7,6 @@ use Rattle.theory_exploration.specs.Mem.{Mem}
 use Rattle.theory_model.specs.Session.{Session, WellFormed}
 use Rattle.theory_model.specs.Verdict.{Item, start, step, entry, items, most, Reply, closed, outside, leaves, bad}
 use Rattle.theory_model.specs.Judge.{Judged, passes, fails, judge, reply, decide}
-use Rattle.theory_model.specs.Laws.Items.{item_is}
-use Rattle.theory_model.specs.Laws.Bounds.{item_bound}
-use Rattle.theory_model.specs.Laws.Judging.{JudgedMeans}
-use Rattle.theory_model.specs.Laws.Verdicts.{judge_means}
 
 module _ (S : Session) where
   pub decide_passes : (i : Item) (is : List Item) (n k : ℕ) → judge S i ≡ passes k → decide S (i ∷ is) n ≡ decide S is (n + k)
@@ -45,6 +41,3 @@ module _ (S : Session) where
       by_judgement : (j : Judged) → judge S i ≡ j → ((k : ℕ) → decide S (is ++ js) (n + k) ≡ after (decide S is (n + k))) → decide S (i ∷ (is ++ js)) n ≡ after (decide S (i ∷ is) n)
       by_judgement (passes k) e rest = decide_passes S i (is ++ js) n k e ∙ rest k ∙ ap after (sym (decide_passes S i is n k e))
       by_judgement (fails w) e rest = decide_fails S i (is ++ js) n w e ∙ sym (failed S i w (decide S js)) ∙ ap after (sym (decide_fails S i is n w e))
-
-  pub judge_bound : WellFormed S → (i : Item) → Mem i (items S) → (k : ℕ) → judge S i ≡ passes k → k ≤ most S i
-  judge_bound wf i m k e = item_bound S wf i m k (subst (JudgedMeans S i) e (judge_means S wf i (item_is S i m))).1

@@ -63,7 +63,7 @@ module _ (S : Session) (wf : WellFormed S) where
         by_step none e = subst Held (sym (next_untaken S.model t γ e)) H
         by_step (some γ') e = subst Held (sym (next_taken S.model t γ γ' e)) (held_taken t γ γ' H e)
 
-    held_run : (ts : List ℕ) (γ₀ γ : Configuration) → Held γ₀ → Mem γ (run_from S.model γ₀ ts) → Held γ
+    pub held_run : (ts : List ℕ) (γ₀ γ : Configuration) → Held γ₀ → Mem γ (run_from S.model γ₀ ts) → Held γ
     held_run [] γ₀ γ H (here e) = subst Held (sym e) H
     held_run [] γ₀ γ H (there m) = absurd (Memᴰ.not-nil m)
     held_run (t ∷ ts) γ₀ γ H (here e) = subst Held (sym e) H
@@ -74,23 +74,8 @@ module _ (S : Session) (wf : WellFormed S) where
         let (b, g) = place_of m in
         passes (entry b e) (is_item S (entry b e) g) γ (record { contents = h; inside = i; listed = l })
 
-    pub passes_closed : Closed S
-    passes_closed =
-        record {
-          start = held_begin.inside;
-          steps = λ γ γ' t c i e. (held_taken t γ γ' (record { control = c.0; contents = c.1; inside = i }) e).inside;
-          bad = not_bad;
-        }
-
   pub closed_passes : Closed S → (i : Item) → IsItem S i → Passes S i
   closed_passes C start item γ (p, o) = true≢false (sym (ap (inside S) p ∙ C.start) ∙ o)
   closed_passes C (step c t τ) (l, g, a) γ L =
       true≢false (sym (C.steps γ L.after t (subst (λ d. d < controls S.model) (sym L.control) l, L.contents) L.inside L.taken) ∙ L.outside)
   closed_passes C (entry b e) g γ M = C.bad γ M.contents M.inside (e, at_place S.bad b g, M.listed)
-
-  pub means_says : (ts : List ℕ) (r : Reply) → Means S (items S) r → Says S ts r
-  means_says ts (closed n) (p, s) = λ γ m. let H = held_run p ts (begin S.model) γ (held_begin p) m in (H.inside, not_bad p γ H.contents H.inside)
-  means_says ts outside F = subst (Outside S) F.fails.against.0 F.fails.against.1
-  means_says ts (leaves c t w f) (τ, F, e) = (F.fails.shown, F.fails.against, F.fails.contents, e)
-  means_says ts (bad b w) (e, F) =
-      (e, item_is S (entry b e) (first_is_member S (items S) (entry b e) w F), F.fails.shown, F.fails.against, F.fails.contents)

@@ -1,4 +1,4 @@
--- Document 01's file R is well formed, so the theorems speak of something: whatever numbers its run is fed, every configuration is inside.
+-- Document 01's file R is well formed, so the theorems speak of something; what follows for its runs is in proofs/Witness.antt.
 use Rattle.std.specs.Prelude.{◌≡◌, refl, Bool, true, false, List, [], ◌∷◌, ◌++◌, ℕ, ◌<◌, eqb, get_or}
 use Rattle.std.proofs.Common.{sym, ap, subst, zero-le, arith, eqb-true}
 use Rattle.std.proofs.Math.Option.{Option, none, some}
@@ -11,9 +11,8 @@ use Rattle.theory_model.specs.TwoRuns.{Says}
 use Rattle.theory_model.specs.Examples.{sender, receiver, model_r, session_r, any_number, r_closed}
 use Rattle.theory_model.specs.Laws.Basics.{none_not_some}
 use Rattle.theory_model.specs.Laws.Ordered.{in_order, accepted_between}
-use Rattle.theory_model.specs.Laws.Verdicts.{two_runs}
 
-abbrev R : Session
+abbrev pub R : Session
 R = session_r any_number []
 
 -- the pool has arcs for message 0 alone, and one state
@@ -52,6 +51,3 @@ r_well_formed =
         let z = first o.before o.later (o.between ++ (o.earlier ∷ o.after)) (subst (Between 0 1) o.is b) in
         let n : queue_of (1 ∷ []) o.later ≡ 0 = ap (queue_of (1 ∷ [])) z in
         omega (arith, o.back)
-
-pub r_never_leaves : (ts : List ℕ) (γ : Configuration) → Mem γ (run model_r ts) → Inside R γ
-r_never_leaves ts γ m = (subst (Says R ts) r_closed (two_runs R r_well_formed ts).says γ m).0
