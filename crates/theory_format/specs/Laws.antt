@@ -9,11 +9,8 @@ pub mod Machines
 pub mod Queues
 pub mod Starting
 pub mod Transitions
-pub mod Model
 pub mod Arcs
 pub mod Pool
 pub mod Map
 pub mod Bad
-pub mod Sets
 pub mod Fits
-pub mod Whole

@@ -1,9 +1,9 @@
 -- What holds of every run of a proposal whose items pass, and what a reply therefore says of two runs. These stand here and not in specs/ because
 -- a must-fail edit of where a run begins takes their ground away.
-use Rattle.std.specs.Prelude.{ℕ, List, ◌<◌}
+use Rattle.std.specs.Prelude.{ℕ, List}
 use Rattle.std.proofs.Common.{subst}
 use Rattle.theory_exploration.specs.Mem.{Mem}
-use Rattle.theory_model.specs.Model.{begin, controls}
+use Rattle.theory_model.specs.Model.{begin}
 use Rattle.theory_model.specs.Session.{Session, Outside, WellFormed}
 use Rattle.theory_model.specs.Verdict.{Item, entry, items, Passes, Means, Closed, Reply, closed, outside, leaves, bad}
 use Rattle.theory_model.specs.TwoRuns.{Says}

@@ -1,27 +1,23 @@
 -- What the verdict means: the judgement of an item, the verdict, when it is closed, and the two runs. These stand here and not in specs/ because
 -- a must-fail edit of where a run begins takes their ground away.
-use Rattle.std.specs.Prelude.{◌≡◌, Bool, true, false, ◌⊎◌, ◌↔◌, ℕ, ◌+◌, ◌≤◌}
+use Rattle.std.specs.Prelude.{◌≡◌, false, ◌⊎◌, ◌↔◌, ℕ, ◌+◌, ◌≤◌}
 use Rattle.std.proofs.Math.Path.{refl, subst}
-use Rattle.std.proofs.Common.{sym, ap, ◌∙◌, inl, inr, ⊎_elim, arith}
-use Rattle.std.proofs.Math.Option.{Option, none, some, map-eq-none_iff}
+use Rattle.std.proofs.Common.{sym, ap, ◌∙◌, inl, inr, ⊎_elim}
+use Rattle.std.proofs.Math.Option.{none, some, map-eq-none_iff}
 use mathlib.Core.List.Memᴰ
 use mathlib.Core.List.{List, [], ◌∷◌, ◌++◌, append-nil}
 use Rattle.std.proofs.Math.Seq.{append_snoc}
 use Rattle.theory_exploration.specs.Mem.{Mem, here}
 use Rattle.theory_exploration.specs.Size.{Size}
-use Rattle.theory_model.specs.Model.{Action, local, send, receive, controls, moved, begin}
-use Rattle.theory_model.specs.Diagram.{follow, is_final, accepts, word}
+use Rattle.theory_model.specs.Model.{controls, moved, begin}
+use Rattle.theory_model.specs.Diagram.{word}
 use Rattle.theory_model.specs.Session.{Session, inside, Outside, WellFormed}
-use Rattle.theory_model.specs.Verdict.{Item, start, step, entry, items, Pair, before, after, StepPair, BadPair, Visited, Passes, Sum, First, Means}
+use Rattle.theory_model.specs.Verdict.{Item, start, step, entry, items, Visited, Passes, Sum, First, Means}
 use Rattle.theory_model.specs.Verdict.{Reply, closed, outside, Closed, most_in_all, steps_from, entries_from}
-use Rattle.theory_model.specs.Judge.{Judged, passes, fails, Begun, begin_step, begin_entry, walk_of, judge_walk, judge, reply, decide, verdict}
+use Rattle.theory_model.specs.Judge.{Judged, passes, fails, begin_step, begin_entry, walk_of, judge, reply, decide, verdict}
 use Rattle.theory_model.specs.Laws.Items.{IsItem, item_is}
-use Rattle.theory_model.specs.Laws.Basics.{none_not_some, false_not_true}
-use Rattle.theory_model.specs.Laws.Walks.{follow_none}
-use Rattle.theory_model.specs.Laws.After.{far_after_lem}
 use Rattle.theory_model.specs.Laws.Bounds.{item_bound, Within, file_bound}
-use Rattle.theory_model.specs.Laws.Judging.{JudgedMeans, faithful_judges}
-use Rattle.theory_model.specs.Laws.Faithful.{item_faithful}
+use Rattle.theory_model.specs.Laws.Judging.{JudgedMeans}
 use Rattle.theory_model.specs.Laws.Replies.{one_reply, means_cases, Closing, Failing, failing_not_passing}
 use Rattle.theory_model.specs.TwoRuns.{TwoRuns}
 use Rattle.theory_model.specs.Laws.Runs.{closed_passes}

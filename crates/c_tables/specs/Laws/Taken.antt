@@ -12,7 +12,7 @@ use Rattle.tables.specs.Valid.{product_of}
 use Rattle.tables.specs.declared.tables.Tables.{Tables}
 use Rattle.reading_file.specs.Valid.{Valid}
 use Rattle.theory_format.specs.Readable.{Readable}
-use Rattle.theory_format.specs.Laws.Whole.{readable_exactly}
+use Rattle.theory_format.proofs.Whole.{readable_exactly}
 use Rattle.c_tables.specs.Flat.{counts_of, small, starting, large, flat, counts_long, small_long, starting_long, large_long, tables_least}
 use Rattle.c_tables.specs.Taken.{part, states_place, starts_place, messages_place, lengths_place, contents_place}
 use Rattle.c_tables.specs.Taken.{rows_place, finals_place, arcs_place, roots_place, entries_place, tables_at}

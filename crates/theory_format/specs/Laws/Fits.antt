@@ -15,11 +15,9 @@ use Rattle.tables.specs.declared.tables.Transitions.{Transitions}
 use Rattle.tables.specs.declared.tables.Pool.{Pool}
 use Rattle.tables.specs.declared.tables.Map.{Map}
 use Rattle.tables.specs.declared.tables.BadList.{BadList}
-use Rattle.tables.specs.declared.tables.Tables.{Tables}
 use Rattle.reading_pool.specs.Laws.Arcs.{Ascends}
-use Rattle.reading_file.specs.Valid.{Valid}
 use Rattle.theory_format.specs.Spelled.{number, each, entries, first_number, machines, content, contents, queues, action, transition, transitions}
-use Rattle.theory_format.specs.Spelled.{arcs_of, arcs, state, pool, mapped, bad, spelled}
+use Rattle.theory_format.specs.Spelled.{arcs_of, arcs, state, pool, mapped, bad}
 use Rattle.theory_format.specs.Readable.{Bytes}
 use Rattle.theory_format.specs.Laws.Arcs.{ascends_few, pool_ascending}
 
@@ -86,7 +84,7 @@ fits_first : (resumes : Bool) {m : Machines} → MachinesValid m → Fits 1 (num
 fits_first true z = fits_one _ (omega (arith, z.most))
 fits_first false z = fits_one _ (omega (arith, z.most))
 
-fits_machines : (resumes : Bool) {m : Machines} → MachinesValid m → Fits 9 (machines resumes m)
+pub fits_machines : (resumes : Bool) {m : Machines} → MachinesValid m → Fits 9 (machines resumes m)
 unfolding machines
 fits_machines resumes {m} z =
     fits_then (omega (arith, z.most)) (fits_first resumes z)
@@ -120,7 +118,7 @@ module _ {q : Queues} (z : QueuesValid q) where
       fits_wider (omega (arith, z.most))
       (fits_each (content q.lengths q.contents) 9 q.count 0 (λ i h g. fits_content i (omega arith)))
 
-  fits_queues : Fits 41 (queues q)
+  pub fits_queues : Fits 41 (queues q)
   unfolding queues
   fits_queues =
       fits_then {n = 40} (omega arith) (fits_one q.count (omega (arith, z.most)))
@@ -155,7 +153,7 @@ module _ {m : Machines} {q : Queues} (vm : MachinesValid m) (vq : QueuesValid q)
       go true = fits_none 18
       go false = fits_action row z.action
 
-fits_transitions : {m : Machines} {q : Queues} {τ : Transitions} → MachinesValid m → QueuesValid q → TransitionsValid m q τ
+pub fits_transitions : {m : Machines} {q : Queues} {τ : Transitions} → MachinesValid m → QueuesValid q → TransitionsValid m q τ
     → Fits 2818 (transitions τ)
 unfolding transitions
 fits_transitions {τ = τ} vm vq z =
@@ -182,18 +180,18 @@ module _ {sum : ℕ} {P : Pool} (few : sum ≤ most_messages) (z : PoolValid sum
       (fits_then (omega arith) (fits_one (length l) (omega arith))
       (fits_arcs P.count sum 0 l (omega (arith, z.most)) (omega arith) up))
 
-  fits_pool : Fits 8383 (pool sum P)
+  pub fits_pool : Fits 8383 (pool sum P)
   unfolding pool
   fits_pool =
       fits_then (omega (arith, z.most)) (fits_one P.count (omega (arith, z.most)))
       (fits_each (state P.finals P.arcs sum) 66 P.count 0 (λ i h g. fits_state i (omega arith)))
 
-fits_map : {product n : ℕ} {R : Map} → product ≤ most_controls → n < 128 → MapValid product n R → Fits 256 (mapped product R)
+pub fits_map : {product n : ℕ} {R : Map} → product ≤ most_controls → n < 128 → MapValid product n R → Fits 256 (mapped product R)
 unfolding mapped
 fits_map {product} {R = R} h g z =
     fits_wider (omega arith) (fits_entries R.roots product 0 (λ k _ _. omega (arith, z.roots k)))
 
-fits_bad : {product n : ℕ} {B : BadList} → product ≤ most_controls → n < 128 → BadValid product n B → Fits 193 (bad B)
+pub fits_bad : {product n : ℕ} {B : BadList} → product ≤ most_controls → n < 128 → BadValid product n B → Fits 193 (bad B)
 unfolding bad
 fits_bad {B = B} h g z =
     fits_then (omega (arith, z.most)) (fits_one B.count (omega (arith, z.most)))
@@ -201,14 +199,3 @@ fits_bad {B = B} h g z =
     (λ b _ l.
     fits_then (omega arith) (fits_two (get_or B.rows (b * 2) 0) (omega (arith, z.control b (omega arith))))
     (fits_one (get_or B.rows (b * 2 + 1) 0) (omega (arith, z.root b (omega arith))))))
-
--- THE FILE
-pub fits_spelled : (T : Tables) → Valid T → Fits 11700 (spelled T)
-unfolding spelled
-fits_spelled T z =
-    fits_then {n = 11691} (omega arith) (fits_machines (waits T.queues.lengths) z.machines)
-    (fits_then {n = 11650} (omega arith) (fits_queues z.queues)
-    (fits_then {n = 8832} (omega arith) (fits_transitions z.machines z.queues z.transitions)
-    (fits_then {n = 449} (omega arith) (fits_pool z.queues.sum_most z.pool)
-    (fits_then (omega arith) (fits_map z.machines.product_most (omega (arith, z.pool.most)) z.map)
-    (fits_bad z.machines.product_most (omega (arith, z.pool.most)) z.bad)))))

@@ -15,30 +15,30 @@ use Rattle.numbers.specs.Part.{got}
 use Rattle.numbers.specs.Number.{read_within}
 use Rattle.numbers.specs.Laws.Parts.{and_then_got, same_value}
 use Rattle.numbers.specs.Laws.Ranges.{tested_got}
-use Rattle.reading_model.specs.Machines.{read_factor, read_sizes, read_starts, counted_machines, most_first, resumes_by, machines_by, read_machines}
-use Rattle.reading_model.specs.Laws.Machines.{sizes_rounds, starts_rounds, machines_valid}
+use Rattle.reading_model.specs.Machines.{read_factor, read_sizes, read_starts, counted_machines, most_first, resumes_by, machines_by}
+use Rattle.reading_model.specs.Laws.Machines.{sizes_rounds, starts_rounds}
 use Rattle.theory_format.specs.Readable.{Bytes}
-use Rattle.theory_format.specs.Spelled.{number, entries, first_number, machines}
-use Rattle.theory_format.specs.Laws.Here.{Here, here_then, here_part}
+use Rattle.theory_format.specs.Spelled.{number, entries, first_number}
+use Rattle.theory_format.specs.Laws.Here.{Here, here_then}
 use Rattle.theory_format.specs.Laws.Fronts.{begun_all, front_none, front_whole}
 use Rattle.theory_format.specs.Laws.Numbers.{here_got, within_forth, within_back, below_forth, below_back}
 use Rattle.theory_format.specs.Laws.Loops.{entries_forth, entries_back, table_forth, table_back}
 
 -- THE FIRST NUMBER says whether the file resumes, and how many machines there are
-first_by_lem : (first : ℕ) → first_number (resumes_by first) (machines_by first) ≡ first
+pub first_by_lem : (first : ℕ) → first_number (resumes_by first) (machines_by first) ≡ first
 first_by_lem first = go (resumes_by first) refl
   where
     go : (b : Bool) → resumes_by first ≡ b → first_number b (cond b (first - most_machines) first) ≡ first
     go true e = let h = ltb-true most_machines first e in omega arith
     go false e = refl
 
-record FirstSays (resumes : Bool) (count : ℕ) : Type 0 where
-  least : 1 ≤ first_number resumes count
-  most : first_number resumes count ≤ most_first
-  resumed : resumes_by (first_number resumes count) ≡ resumes
-  counted : cond resumes (first_number resumes count - most_machines) (first_number resumes count) ≡ count
+pub record FirstSays (resumes : Bool) (count : ℕ) : Type 0 where
+  pub least : 1 ≤ first_number resumes count
+  pub most : first_number resumes count ≤ most_first
+  pub resumed : resumes_by (first_number resumes count) ≡ resumes
+  pub counted : cond resumes (first_number resumes count - most_machines) (first_number resumes count) ≡ count
 
-first_says : (resumes : Bool) (count : ℕ) → 1 ≤ count → count ≤ most_machines → FirstSays resumes count
+pub first_says : (resumes : Bool) (count : ℕ) → 1 ≤ count → count ≤ most_machines → FirstSays resumes count
 first_says true count l h =
     record { least = omega arith; most = omega arith; resumed = lt-ltb most_machines (count + most_machines) (omega arith); counted = omega arith }
 first_says false count l h = record { least = l; most = omega arith; resumed = le-ltb most_machines count h; counted = refl }
@@ -74,7 +74,7 @@ module _ (s : List ℕ) (bytes : Bytes s) where
   starts_forth sizes count at =
       table_forth s (starts_rounds s sizes) count at (λ i a z v p. below_forth s bytes a (get_or sizes i 0)) (replicate most_machines 0)
 
-  counted_forth : (at count : ℕ) {m : Machines} {next : ℕ} → MachinesValid m → counted_machines s at count ≡ got m next
+  pub counted_forth : (at count : ℕ) {m : Machines} {next : ℕ} → MachinesValid m → counted_machines s at count ≡ got m next
       → (count ≡ m.count) × Here s at (entries m.states m.count 0 ++ entries m.starts m.count 0) next
   unfolding counted_machines
   counted_forth at count {m} {next} valid e =
@@ -94,18 +94,6 @@ module _ (s : List ℕ) (bytes : Bytes s) where
                 (starts_forth sized.1 count p₁ (omega (arith, v.most, v.starts_long)) g)),
           )
 
-  pub machines_forth : (at : ℕ) {x : Bool × Machines} {next : ℕ} → read_machines s at ≡ got x next → Here s at (machines x.0 x.1) next
-  unfolding read_machines machines
-  machines_forth at {x} e =
-      let t = and_then_got (read_within s at 1 most_first) e in
-      let m = and_then_got (counted_machines s t.place (machines_by t.value)) t.then in
-      let valid = subst (λ y. MachinesValid y.1) (sym (same_value m.then)) (machines_valid s at e) in
-      let c = counted_forth t.place (machines_by t.value) valid m.first in
-      let first : t.value ≡ first_number (resumes_by t.value) m.value.count =
-      sym (first_by_lem t.value) ∙ ap (first_number (resumes_by t.value)) c.0 in
-      here_got (λ y. machines y.0 y.1) m.then
-      (here_then (subst (λ n. Here s at (number n) t.place) first (within_forth s bytes at 1 most_first t.first)) c.1)
-
 module _ (s : List ℕ) where
   factor_back : (at product v : ℕ) {next : ℕ} → 1 ≤ v → v ≤ most_states → product * v ≤ most_controls → Here s at (number v) next
       → read_factor s at product ≡ got v next
@@ -114,7 +102,7 @@ module _ (s : List ℕ) where
       rw (within_back s at 1 most_states v a b (omega arith) h, le-leb (product * v) most_controls c)
 
   module _ (m : Machines) (valid : MachinesValid m) where
-    sizes_back : (at : ℕ) {next : ℕ} → Here s at (entries m.states m.count 0) next
+    pub sizes_back : (at : ℕ) {next : ℕ} → Here s at (entries m.states m.count 0) next
         → read_sizes s at 1 m.count 0 (replicate most_machines 0) ≡ got (m.product, m.states) next
     unfolding product_of
     sizes_back at {next} h =
@@ -147,24 +135,9 @@ module _ (s : List ℕ) where
             ap (λ x. x * get_or m.states i 0) e ∙ sym (product_next m.states i) in
             (factor_back a z.0 (get_or m.states i 0) v.0 v.1 (omega (arith, n, within i g)) f, n)
 
-    starts_back : (at : ℕ) {next : ℕ} → Here s at (entries m.starts m.count 0) next
+    pub starts_back : (at : ℕ) {next : ℕ} → Here s at (entries m.starts m.count 0) next
         → read_starts s at m.states m.count 0 (replicate most_machines 0) ≡ got m.starts next
     starts_back at =
         table_back s (starts_rounds s m.states) m.count at m.starts most_machines valid.starts_long valid.most
         valid.starts_rest (λ i a z p g.
         below_back s a (get_or m.states i 0) (get_or m.starts i 0) (valid.starts i g) (omega (arith, (valid.states i g).1)))
-
-  pub machines_back : (at : ℕ) (resumes : Bool) (m : Machines) {next : ℕ} → MachinesValid m → Here s at (machines resumes m) next
-      → read_machines s at ≡ got (resumes, m) next
-  unfolding read_machines counted_machines machines
-  machines_back at resumes m valid h =
-      let p = here_part (number (first_number resumes m.count)) h in
-      let q = here_part (entries m.states m.count 0) p.second in
-      let f = first_says resumes m.count valid.least valid.most in
-      rw (
-        within_back s at 1 most_first (first_number resumes m.count) f.least f.most (omega arith) p.first,
-        f.resumed,
-        f.counted,
-        sizes_back m valid p.middle q.first,
-        starts_back m valid q.middle q.second,
-      )

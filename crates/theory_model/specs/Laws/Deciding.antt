@@ -1,11 +1,10 @@
 -- The items one after the other: what one judgement does to the verdict, and that a list may be judged part by part.
-use Rattle.std.specs.Prelude.{◌≡◌, ℕ, ◌+◌, ◌≤◌}
+use Rattle.std.specs.Prelude.{◌≡◌, ℕ, ◌+◌}
 use Rattle.std.proofs.Math.Path.{refl}
-use Rattle.std.proofs.Common.{sym, ap, subst, ◌∙◌}
+use Rattle.std.proofs.Common.{sym, ap, ◌∙◌}
 use mathlib.Core.List.{List, [], ◌∷◌, ◌++◌}
-use Rattle.theory_exploration.specs.Mem.{Mem}
-use Rattle.theory_model.specs.Session.{Session, WellFormed}
-use Rattle.theory_model.specs.Verdict.{Item, start, step, entry, items, most, Reply, closed, outside, leaves, bad}
+use Rattle.theory_model.specs.Session.{Session}
+use Rattle.theory_model.specs.Verdict.{Item, start, step, entry, Reply, closed, outside, leaves, bad}
 use Rattle.theory_model.specs.Judge.{Judged, passes, fails, judge, reply, decide}
 
 module _ (S : Session) where

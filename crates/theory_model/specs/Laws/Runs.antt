@@ -6,13 +6,11 @@ use mathlib.Core.List.Memᴰ
 use Rattle.theory_exploration.specs.Mem.{Mem, here, there}
 use Rattle.theory_model.specs.Model.{Model, Configuration, Contents, controls, take?, next, begin, run_from}
 use Rattle.theory_model.specs.Session.{Session, inside, Inside, Outside, ListedBad, WellFormed}
-use Rattle.theory_model.specs.Verdict.{Item, start, step, entry, items, Leaves, Passes, Means, Closed, Reply, closed, outside, leaves, bad}
-use Rattle.theory_model.specs.TwoRuns.{Says}
+use Rattle.theory_model.specs.Verdict.{Item, start, step, entry, items, Leaves, Passes, Closed}
 use Rattle.theory_model.specs.Laws.Controls.{number_below}
 use Rattle.theory_model.specs.Laws.Basics.{by_test}
-use Rattle.theory_model.specs.Laws.Items.{IsItem, place_of, at_place, item_is, is_item}
+use Rattle.theory_model.specs.Laws.Items.{IsItem, place_of, at_place, is_item}
 use Rattle.theory_model.specs.Laws.Steps.{taken_is, contents_step, moved_below}
-use Rattle.theory_model.specs.Laws.Replies.{first_is_member}
 
 -- THE RUN goes on where a step is taken, and stays where none is; it has the start and one configuration after each number
 module _ (M : Model) where

@@ -1,27 +1,22 @@
 -- The parts of what a judgement and the verdict mean; the theorems made of them are in proofs/Verdicts.antt.
-use Rattle.std.specs.Prelude.{◌≡◌, Bool, true, false, ◌⊎◌, ◌↔◌, ℕ, ◌+◌, ◌≤◌}
+use Rattle.std.specs.Prelude.{◌≡◌, Bool, true, false, ℕ, ◌+◌}
 use Rattle.std.proofs.Math.Path.{refl, subst}
-use Rattle.std.proofs.Common.{sym, ap, ◌∙◌, inl, inr, ⊎_elim, arith}
-use Rattle.std.proofs.Math.Option.{Option, none, some, map-eq-none_iff}
+use Rattle.std.proofs.Common.{sym, ap, ◌∙◌, inr, arith}
+use Rattle.std.proofs.Math.Option.{Option, none, some}
 use mathlib.Core.List.Memᴰ
-use mathlib.Core.List.{List, [], ◌∷◌, ◌++◌, append-nil}
-use Rattle.std.proofs.Math.Seq.{append_snoc}
-use Rattle.theory_exploration.specs.Mem.{Mem, here}
+use mathlib.Core.List.{List, [], ◌∷◌, ◌++◌}
 use Rattle.theory_exploration.specs.Size.{Size}
-use Rattle.theory_model.specs.Model.{Action, local, send, receive, controls, moved, begin}
+use Rattle.theory_model.specs.Model.{Action, local, send, receive, begin}
 use Rattle.theory_model.specs.Diagram.{follow, is_final, accepts, word}
-use Rattle.theory_model.specs.Session.{Session, inside, Outside, WellFormed}
-use Rattle.theory_model.specs.Verdict.{Item, start, step, entry, items, Pair, before, after, StepPair, BadPair, Visited, Passes, Sum, First, Means}
-use Rattle.theory_model.specs.Verdict.{Reply, closed, outside, Closed, most_in_all, steps_from, entries_from}
-use Rattle.theory_model.specs.Judge.{Judged, passes, fails, Begun, begin_step, begin_entry, walk_of, judge_walk, judge, reply, decide, verdict}
-use Rattle.theory_model.specs.Laws.Items.{IsItem, item_is}
+use Rattle.theory_model.specs.Session.{Session, inside, WellFormed}
+use Rattle.theory_model.specs.Verdict.{Item, start, step, entry, Pair, before, after, StepPair, BadPair, Visited, Sum, First, Means}
+use Rattle.theory_model.specs.Judge.{passes, fails, Begun, walk_of, judge_walk, reply}
+use Rattle.theory_model.specs.Laws.Items.{IsItem}
 use Rattle.theory_model.specs.Laws.Basics.{none_not_some, false_not_true}
 use Rattle.theory_model.specs.Laws.Walks.{follow_none}
 use Rattle.theory_model.specs.Laws.After.{far_after_lem}
-use Rattle.theory_model.specs.Laws.Bounds.{item_bound, Within, file_bound}
 use Rattle.theory_model.specs.Laws.Judging.{JudgedMeans, faithful_judges}
 use Rattle.theory_model.specs.Laws.Faithful.{item_faithful}
-use Rattle.theory_model.specs.Laws.Replies.{one_reply, means_cases, Closing, Failing, failing_not_passing}
 
 -- WITHOUT A ROOT there is nothing to visit, and nothing inside
 pub size_none : {A : Type 0} (P : A → Type 0) → ((x : A) → P x → ⊥) → Size P 0

@@ -4,11 +4,10 @@ use Rattle.std.proofs.Common.{sym, ap, subst, zero-le, arith, eqb-true}
 use Rattle.std.proofs.Math.Option.{Option, none, some}
 use mathlib.Core.List.Memᴰ
 use Rattle.theory_exploration.specs.Mem.{Mem, here, there}
-use Rattle.theory_model.specs.Model.{Configuration, Between, nothing, message, none_left, queue, queue_of, run}
+use Rattle.theory_model.specs.Model.{Between, nothing, message, none_left, queue, queue_of}
 use Rattle.theory_model.specs.Diagram.{OutOfOrder}
-use Rattle.theory_model.specs.Session.{Session, OwnWord, WellFormed, Inside}
-use Rattle.theory_model.specs.TwoRuns.{Says}
-use Rattle.theory_model.specs.Examples.{sender, receiver, model_r, session_r, any_number, r_closed}
+use Rattle.theory_model.specs.Session.{Session, OwnWord, WellFormed}
+use Rattle.theory_model.specs.Examples.{sender, receiver, model_r, session_r, any_number}
 use Rattle.theory_model.specs.Laws.Basics.{none_not_some}
 use Rattle.theory_model.specs.Laws.Ordered.{in_order, accepted_between}
 

@@ -6,7 +6,7 @@ use Rattle.theory_model.specs.Laws.Basics.{by_test, false_not_true}
 use Rattle.reading_file.specs.Laws.Valid.{valid}
 use Rattle.theory_format.specs.Spelled.{spelled}
 use Rattle.theory_format.specs.Readable.{Readable}
-use Rattle.theory_format.specs.Laws.Whole.{readable_exactly, written_then_read}
+use Rattle.theory_format.proofs.Whole.{readable_exactly, written_then_read}
 use Rattle.comparison.specs.Laws.{tables_same}
 use Rattle.writing_file.specs.Write.{gives, restored}
 use Rattle.writing_file.specs.Laws.Writing.{restored_read}

@@ -8,7 +8,7 @@ use Rattle.tables.specs.declared.tables.Tables.{Tables}
 use Rattle.reading_file.specs.File.{read_file}
 use Rattle.theory_format.specs.Spelled.{spelled}
 use Rattle.theory_format.specs.Readable.{Bytes}
-use Rattle.theory_format.specs.Laws.Whole.{read_then_written, readable_exactly, written_then_read}
+use Rattle.theory_format.proofs.Whole.{read_then_written, readable_exactly, written_then_read}
 use Rattle.writing_file.specs.Write.{WriteReply, wrote, refusal, restored, write_reply, buffer_after, said_written, Writes}
 use Rattle.writing_file.specs.Laws.Restored.{restored_exactly}
 use Rattle.writing_file.specs.declared.write.Written.{Written}

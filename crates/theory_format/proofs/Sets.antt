@@ -1,4 +1,5 @@
 -- Fields 5 and 6 together: the sets.
+-- These stand here and not in specs/ because a must-fail edit of what is spelled takes their ground away.
 use Rattle.std.specs.Prelude.{ℕ, ◌≤◌, ◌≡◌, List, ◌++◌}
 use Rattle.tables.specs.Limits.{most_controls, most_pool}
 use Rattle.tables.specs.Valid.{SetsValid}

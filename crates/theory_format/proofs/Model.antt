@@ -1,4 +1,5 @@
 -- The model that is read is the model that stands there (fields 1 to 3).
+-- These stand here and not in specs/ because a must-fail edit of what is spelled takes their ground away.
 use Rattle.std.specs.Prelude.{ℕ, ◌≡◌, Bool, List, ◌++◌}
 use Rattle.std.proofs.Common.{sym, subst}
 use Rattle.tables.specs.Starting.{waits}
@@ -16,7 +17,7 @@ use Rattle.theory_format.specs.Readable.{Bytes}
 use Rattle.theory_format.specs.Spelled.{machines, queues, transitions}
 use Rattle.theory_format.specs.Laws.Here.{Here, here_then, here_part}
 use Rattle.theory_format.specs.Laws.Numbers.{here_got}
-use Rattle.theory_format.specs.Laws.Machines.{machines_forth, machines_back}
+use Rattle.theory_format.proofs.Machines.{machines_forth, machines_back}
 use Rattle.theory_format.specs.Laws.Starting.{queues_forth, queues_back}
 use Rattle.theory_format.specs.Laws.Transitions.{transitions_forth, transitions_back}
 

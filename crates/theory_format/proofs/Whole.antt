@@ -1,4 +1,5 @@
 -- READING AND SPELLING UNDO EACH OTHER, for the whole file.
+-- These stand here and not in specs/ because a must-fail edit of what is spelled takes their ground away.
 use Rattle.std.specs.Prelude.{ℕ, ◌≤◌, ◌≡◌, refl, ◌↔◌, true, List, ◌++◌, length}
 use Rattle.std.proofs.Common.{sym, ap, subst, ◌∙◌, append_assoc, arith}
 use Rattle.numbers.specs.Limits.{most_bytes}
@@ -13,10 +14,10 @@ use Rattle.reading_file.specs.Laws.Valid.{FieldsValid, fields_valid, valid}
 use Rattle.theory_format.specs.Spelled.{machines, queues, transitions, pool, mapped, bad, spelled}
 use Rattle.theory_format.specs.Readable.{Bytes, Readable}
 use Rattle.theory_format.specs.Laws.Here.{Here, here_then, here_part, whole_here, here_whole}
-use Rattle.theory_format.specs.Laws.Model.{model_text, model_forth, model_back}
+use Rattle.theory_format.proofs.Model.{model_text, model_forth, model_back}
 use Rattle.theory_format.specs.Laws.Pool.{pool_forth, pool_back}
-use Rattle.theory_format.specs.Laws.Sets.{sets_forth, sets_back}
-use Rattle.theory_format.specs.Laws.Fits.{fits_spelled}
+use Rattle.theory_format.proofs.Sets.{sets_forth, sets_back}
+use Rattle.theory_format.proofs.Fits.{fits_spelled}
 
 -- the three parts that are read one after the other
 abbrev model_bytes : Tables → List ℕ
