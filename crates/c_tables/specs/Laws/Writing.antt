@@ -15,7 +15,8 @@ use Rattle.tables.specs.declared.head.Head.{Head}
 use Rattle.writing_file.specs.Write.{restored, write_reply, buffer_after, said_written, Writes}
 use Rattle.writing_file.specs.Laws.Writing.{unread_machines}
 use Rattle.writing_file.specs.Laws.Restored.{restored_exactly}
-use Rattle.writing_file.specs.Laws.Promises.{sixteen_exactly, writes_unread}
+use Rattle.writing_file.specs.Laws.Promises.{sixteen_exactly}
+use Rattle.writing_file.proofs.Promises.{writes_unread}
 use Rattle.writing_file.specs.declared.write.Written.{Written}
 use Rattle.writing_file.specs.declared.write.Written.TheVariants.{NotReadable}
 use Rattle.c_tables.specs.Flat.{flat, tables_least}

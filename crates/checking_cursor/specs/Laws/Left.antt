@@ -74,18 +74,6 @@ module _ (S : Session) where
   pub from_none : (c i : ℕ) → controls S.model ≤ c → from_step S c i ≡ from_entry S 0
   from_none c i h = ap (λ l. l ++ entries_from 0 S.bad) (controls_none S.model c i h)
 
-  -- as the steps of the control state go, so do all
-  module _ (c i : ℕ) (h : c < controls S.model) where
-    pub from_same : (r : ℕ) → steps_on S.model c i ≡ steps_on S.model c r → from_step S c i ≡ from_step S c r
-    from_same r e = from_split c i h ∙ ap (λ l. l ++ from_step S (c + 1) 0) e ∙ sym (from_split c r h)
-
-    pub from_here : (τ : Transition) → steps_on S.model c i ≡ step c i τ ∷ steps_on S.model c (i + 1)
-        → from_step S c i ≡ step c i τ ∷ from_step S c (i + 1)
-    from_here τ e = from_split c i h ∙ ap (λ l. l ++ from_step S (c + 1) 0) e ∙ ap (λ l. step c i τ ∷ l) (sym (from_split c (i + 1) h))
-
-    pub from_next : steps_on S.model c i ≡ [] → from_step S c i ≡ from_step S (c + 1) 0
-    from_next e = from_split c i h ∙ ap (λ l. l ++ from_step S (c + 1) 0) e
-
   -- THE BAD ENTRIES from b on
   pub entry_here : (b : ℕ) {e : ℕ × ℕ} → get_elem? S.bad b ≡ some e → from_entry S b ≡ entry b e ∷ from_entry S (b + 1)
   entry_here b {e} g = ap (entries_from b) (drop_here S.bad b g) ∙ ap (λ n. entry b e ∷ from_entry S n) (sym (add-one b))

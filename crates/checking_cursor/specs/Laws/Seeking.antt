@@ -1,22 +1,20 @@
 -- Finding the next item: what is passed over holds none.
-use Rattle.std.specs.Prelude.{ℕ, ◌+◌, ◌*◌, ◌≤◌, ◌<◌, ◌≡◌, refl, false, List, []}
+use Rattle.std.specs.Prelude.{ℕ, ◌+◌, ◌*◌, ◌≤◌, ◌<◌, ◌≡◌, refl, false, List}
 use Rattle.std.proofs.Common.{sym, ap, subst, ◌∙◌, arith}
 use Rattle.tables.specs.Limits.{most_transitions, most_bad}
 use Rattle.tables.specs.Rows.{row_length}
 use Rattle.tables.specs.Valid.{MachinesValid}
 use Rattle.tables.specs.declared.head.Head.{Head}
-use Rattle.tables.specs.declared.kinds.ControlState.{ControlState}
 use Rattle.theory_model.specs.Model.{controls, is_at}
 use Rattle.theory_model.specs.Session.{Session}
 use Rattle.theory_files.specs.Tables.{transition_at}
 use Rattle.theory_files.specs.Laws.Lookup.{controls_are}
-use Rattle.theory_files.specs.Laws.Rows.{transitions_length}
 use Rattle.checking_cursor.specs.Left.{steps_on, from_step, from_entry, later, model_in, Over, most_steps, past_of}
-use Rattle.checking_cursor.specs.Next.{Movable, Sought, Found}
-use Rattle.checking_cursor.specs.Laws.Left.{steps_over, steps_none, from_same, from_next, from_none, entry_none}
+use Rattle.checking_cursor.specs.Next.{Movable, Found}
+use Rattle.checking_cursor.specs.Laws.Left.{steps_over, entry_none}
 use Rattle.checking_cursor.specs.Laws.Standing.{transition_in}
 use Rattle.checking_cursor.specs.declared.cursor.Cursor.{Cursor}
-use Rattle.checking_cursor.specs.declared.cursor.Cursor.TheVariants.{Step, Entry, End}
+use Rattle.checking_cursor.specs.declared.cursor.Cursor.TheVariants.{Entry, End}
 
 -- TRANSITIONS of one control state: a transition is passed over
 pub passes_over : (h : Head) (rows : List ℕ) (c first i : ℕ) → i < h.transitions
@@ -25,7 +23,7 @@ pub passes_over : (h : Head) (rows : List ℕ) (c first i : ℕ) → i < h.trans
 passes_over h rows c first i l a e = e ∙ steps_over (model_in h rows) c i (transition_in h rows i l) a
 
 -- how many control states such a session has
-over_controls : {h : Head} {rows : List ℕ} {S : Session} → MachinesValid h.machines → Over h rows S → controls S.model ≡ h.machines.product
+pub over_controls : {h : Head} {rows : List ℕ} {S : Session} → MachinesValid h.machines → Over h rows S → controls S.model ≡ h.machines.product
 over_controls m o = ap controls o.model ∙ controls_are m
 
 -- SEEKING: the items from here on are those from the first place on, and it has come as far
@@ -39,47 +37,6 @@ pub seek_begins : {h : Head} {rows : List ℕ} → Movable h rows → (from firs
     → Seeking h rows from first from first
 seek_begins m from first l k =
     record { is = λ S o. refl; most = k; place = omega (arith, m.machines.product_most, m.transitions.most); further = omega arith }
-
-module _ {h : Head} {rows : List ℕ} (m : Movable h rows) {from first c i : ℕ} (k : Seeking h rows from first c i) where
-  module _ (d : ControlState) {t : ℕ} (s : Sought h rows d.0 i t) (e : d.0 ≡ c) (l : c < h.machines.product) where
-    -- up to the transition that was sought
-    sought_at : (S : Session) → Over h rows S → from_step S from first ≡ from_step S c t
-    sought_at S o =
-        k.is S o
-        ∙ from_same S c i (subst (λ n. c < n) (sym (over_controls m.machines o)) l) t
-        (subst (λ M. steps_on M c i ≡ steps_on M c t) (sym o.model) (subst (λ n. steps_on (model_in h rows) n i ≡ steps_on (model_in h rows) n t) e s.passed))
-
-    pub seek_step : t < h.transitions → Found h rows (λ S. from_step S from first) (1 + (from * most_transitions + first)) (Step d t)
-    seek_step j =
-        record {
-          is = λ S o. sought_at S o ∙ ap (λ n. from_step S n t) (sym e);
-          stands = record { stands = (subst (λ n. n < h.machines.product) (sym e) l, j, s.at j) };
-          further = omega (arith, k.further, s.least);
-        }
-
-    -- no step is left in this control state
-    pub seek_on : h.transitions ≤ t → Seeking h rows from first (c + 1) 0
-    seek_on j =
-        record {
-          is =
-              λ S o.
-              sought_at S o
-              ∙ from_next S c t (subst (λ n. c < n) (sym (over_controls m.machines o)) l)
-              (subst (λ M. steps_on M c t ≡ []) (sym o.model) (steps_none (model_in h rows) c t (omega (arith, transitions_length rows h.transitions 0))));
-          most = omega arith;
-          place = omega (arith, m.machines.product_most);
-          further = omega (arith, k.further, k.most, m.transitions.most);
-        }
-
-  -- no step is left at all
-  pub seek_entries : h.machines.product ≤ c → {r : Cursor} → Found h rows (λ S. from_entry S 0) (1 + most_steps) r
-      → Found h rows (λ S. from_step S from first) (1 + (from * most_transitions + first)) r
-  seek_entries l f =
-      record {
-        is = λ S o. k.is S o ∙ from_none S c i (subst (λ n. n ≤ c) (sym (over_controls m.machines o)) l) ∙ f.is S o;
-        stands = f.stands;
-        further = omega (arith, f.further, k.further, k.place);
-      }
 
 -- BAD ENTRIES: one, or the end
 pub entry_found : (h : Head) (b : ℕ) → b < h.bad → (rows : List ℕ) → Found h rows (λ S. from_entry S b) (1 + most_steps + b) (Entry b)

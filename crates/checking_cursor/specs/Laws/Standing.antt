@@ -1,5 +1,5 @@
 -- A cursor that stands: the item there and the items after it are those from it on; and how far it has come.
-use Rattle.std.specs.Prelude.{ℕ, ◌+◌, ◌*◌, ◌≤◌, ◌<◌, ◌≡◌, refl, true, false, List, [], ◌++◌}
+use Rattle.std.specs.Prelude.{ℕ, ◌+◌, ◌*◌, ◌≤◌, ◌<◌, ◌≡◌, refl, true, false, List, []}
 use Rattle.std.proofs.Common.{sym, ap, subst, ◌∙◌, arith, zero-add}
 use Rattle.std.proofs.Math.Option.{some}
 use Rattle.std.proofs.Math.ListN.{get_elem?}
@@ -16,9 +16,8 @@ use Rattle.theory_model.specs.Laws.Items.{IsItem}
 use Rattle.theory_files.specs.Tables.{transition_at, entry_at, session_of}
 use Rattle.theory_files.specs.Laws.Lookup.{controls_are}
 use Rattle.theory_files.specs.Laws.Rows.{transition_at_lem, entry_at_lem, entries_length}
-use Rattle.checking_cursor.specs.Left.{left, later, here, goes, model_in, Over, StandsAt, Stands, most_items, place_of, past_of}
+use Rattle.checking_cursor.specs.Left.{left, goes, model_in, Over, StandsAt, Stands, most_items, place_of, past_of}
 use Rattle.checking_cursor.specs.Next.{Movable}
-use Rattle.checking_cursor.specs.Laws.Left.{steps_here, items_are, from_here, entry_here}
 use Rattle.checking_cursor.specs.declared.cursor.Cursor.{Cursor}
 use Rattle.checking_cursor.specs.declared.cursor.Cursor.TheVariants.{Start, Step, Entry, End}
 
@@ -29,7 +28,7 @@ transition_in h rows i l = transition_at_lem rows h.transitions 0 i l ∙ ap (λ
 
 -- THE SESSION of tables in parts
 module _ (h : Head) (rows finals arcs roots entries : List ℕ) where
-  abbrev session : Session
+  abbrev pub session : Session
   session = session_of (tables_of h rows finals arcs roots entries)
 
   pub over_tables : Over h rows session
@@ -47,15 +46,6 @@ module _ (h : Head) (rows finals arcs roots entries : List ℕ) where
     step_item c i s =
         let (l, k, a) = s.stands in
         (subst (λ n. c.0 < n) (sym (controls_are m)) l, transition_in h rows i k, a)
-
-    -- THE ITEM at the cursor comes first, and then the later ones
-    pub left_split : (at : Cursor) → Stands h rows at → left session at ≡ here rows entries at ++ later session at
-    left_split Start s = items_are session
-    left_split (Step c i) s =
-        let (l, e, a) = step_item c i s in
-        from_here session c.0 i l (transition_at rows (i * row_length)) (steps_here session.model c.0 i e a)
-    left_split (Entry b) s = entry_here session b (entry_item b s.stands)
-    left_split End s = refl
 
 -- at the end nothing is left
 pub left_end : (S : Session) (at : Cursor) → goes at ≡ false → left S at ≡ []

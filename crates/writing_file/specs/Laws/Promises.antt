@@ -1,16 +1,7 @@
--- What writing promises in each case.
-use Rattle.std.specs.Prelude.{ℕ, ◌≤◌, ◌<◌, ◌≡◌, refl, ◌↔◌, Bool, true, false, cond, List, length, leb}
-use Rattle.std.proofs.Common.{sym, ap, subst, ◌∙◌, le-leb, arith}
-use Rattle.std.proofs.lemmas.Bool.{lt-leb}
-use Rattle.numbers.specs.Put.{Put}
-use Rattle.numbers.specs.Laws.Put.{put_front}
-use Rattle.tables.specs.declared.tables.Tables.{Tables}
-use Rattle.theory_format.specs.Spelled.{spelled}
-use Rattle.writing_file.specs.Write.{WriteReply, wrote, refusal, restored, write_reply, buffer_after, said_written, Writes}
-use Rattle.writing_file.specs.Laws.Writing.{Fronted}
-use Rattle.writing_file.specs.Laws.Restored.{unrestored_exactly}
-use Rattle.writing_file.specs.declared.write.Written.{Written}
-use Rattle.writing_file.specs.declared.write.Written.TheVariants.{Length, NotReadable, TooShort}
+-- When 16 is replied; what writing promises in each case is in proofs/Promises.antt.
+use Rattle.std.specs.Prelude.{ℕ, ◌≡◌, refl, ◌↔◌, Bool, true, false, cond, List, length, leb}
+use Rattle.std.proofs.Common.{ap, arith}
+use Rattle.writing_file.specs.Write.{WriteReply, wrote, refusal, write_reply}
 
 -- the number of a refusal, 0 where the bytes were written
 abbrev numbered : WriteReply → ℕ
@@ -25,45 +16,3 @@ sixteen_exactly b w buffer = (only b (leb (length w) (length buffer)), λ e. ap 
     only true true e = let z : ◌≡◌ {A = ℕ} 0 16 = ap numbered e in absurd (omega arith)
     only true false e = let z : ◌≡◌ {A = ℕ} 17 16 = ap numbered e in absurd (omega arith)
     only false c e = refl
-
-module _ (T : Tables) (buffer : List ℕ) where
-  abbrev reply_if : Bool → WriteReply
-  reply_if b = write_reply b (spelled T) buffer
-
-  -- reply and buffer are all there is to show
-  promised : {r : Written} {exit : List ℕ} → said_written r ≡ reply_if (restored T) → exit ≡ buffer_after (reply_if (restored T)) (spelled T) buffer
-      → Writes T buffer r exit
-  promised e f =
-      record {
-        reply = e;
-        buffer = f;
-        unread = (
-          λ g. (unrestored_exactly T).0 ((sixteen_exactly (restored T) (spelled T) buffer).0 (sym e ∙ g)),
-          λ h. e ∙ (sixteen_exactly (restored T) (spelled T) buffer).1 ((unrestored_exactly T).1 h),
-        );
-      }
-
-  pub writes_unread : restored T ≡ false → Writes T buffer NotReadable buffer
-  writes_unread e = promised (sym (ap reply_if e)) (sym (ap (λ b. buffer_after (reply_if b) (spelled T) buffer) e))
-
-  abbrev fits_if : Bool → WriteReply
-  fits_if b = cond b (wrote (length (spelled T))) (refusal 17 0)
-
-  short_reply : restored T ≡ true → length buffer < length (spelled T) → reply_if (restored T) ≡ refusal 17 0
-  short_reply e h = ap reply_if e ∙ ap fits_if (lt-leb (length (spelled T)) (length buffer) h)
-
-  pub writes_short : {n : ℕ} {front : List ℕ} → Fronted T n front → restored T ≡ true → length buffer < n → Writes T buffer TooShort buffer
-  writes_short f e h =
-      let r = short_reply e (omega (arith, f.size)) in promised (sym r) (sym (ap (λ x. buffer_after x (spelled T) buffer) r))
-
-  long_reply : restored T ≡ true → length (spelled T) ≤ length buffer → reply_if (restored T) ≡ wrote (length (spelled T))
-  long_reply e h = ap reply_if e ∙ ap fits_if (le-leb (length (spelled T)) (length buffer) h)
-
-  pub writes_whole : {n : ℕ} {front exit : List ℕ} {most r : ℕ} → Fronted T n front → restored T ≡ true → n ≤ length buffer
-      → Put buffer 0 most front exit r → Writes T buffer (Length r) exit
-  writes_whole {front = front} {exit} {most} {r} f e h p =
-      let l : length (spelled T) ≤ length buffer = omega (arith, f.size) in
-      let w : Put buffer 0 most (spelled T) exit r = subst (λ u. Put buffer 0 most u exit r) f.is p in
-      let x = long_reply e l in
-      let n : r ≡ length (spelled T) = omega (arith, w.next) in
-      promised (ap wrote n ∙ sym x) (put_front w l ∙ sym (ap (λ y. buffer_after y (spelled T) buffer) x))

@@ -2,7 +2,8 @@ use Prim.Native.Nat.{◌<◌}
 use mathlib.Core.Path.{sym, subst}
 use native.Mathlib.Omega.{arith}
 use Rattle.tables.specs.Laws.Kinds.{control_made}
-use Rattle.checking_cursor.specs.Laws.Seeking.{seek_begins, seek_step, seek_on, seek_entries}
+use Rattle.checking_cursor.specs.Laws.Seeking.{seek_begins}
+use Rattle.checking_cursor.proofs.Seeking.{seek_step, seek_on, seek_entries}
 use Rattle.checking_cursor.proofs.next.seek.Goals as goal
 
 pub loop-c-init : goal.loop-c-init

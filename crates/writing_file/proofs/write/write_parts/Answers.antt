@@ -1,6 +1,6 @@
 use native.Mathlib.Omega.{arith}
 use Rattle.writing_file.specs.Laws.Writing.{fronted, unread_machines, unread_product, unread_long, restored_by}
-use Rattle.writing_file.specs.Laws.Promises.{writes_unread, writes_short, writes_whole}
+use Rattle.writing_file.proofs.Promises.{writes_unread, writes_short, writes_whole}
 use Rattle.writing_file.proofs.write.write_parts.Goals as goal
 
 pub returns-then-machines-gt-MOST_MACHINES : goal.returns-then-machines-gt-MOST_MACHINES

@@ -1,0 +1,2 @@
+-- Theorems that functions' proofs and crates above cite.
+pub mod Promises
