@@ -7,7 +7,7 @@ ghost use Rattle.numbers.specs.Reader.{place_after, number_here, advanced, TwoRe
 use crate::number::{Number, read_number};
 
 // The bytes of a file, which are not copied, and the place that reading has come to.
-#[derive(Drop)]
+#[derive(Clone, Copy)]
 pub struct Reader<'a> {
     pub bytes: &'a [u8],
     pub place: usize,

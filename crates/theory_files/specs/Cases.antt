@@ -292,10 +292,10 @@ further_as_printed = computed.further
 
 -- WORTHLESS VERSIONS, and what shuts them out (laws of Laws.Worthless)
 --
--- refuses every file                       demand 2 on case a             not-every-file-refused
--- says closed to every file                demand 2 on case b             b-not-closed
---                                          demand 3, the run of 0         b-run-not-closed
--- returns without touching what is lent    case c                         c-touches
--- checks the first step alone              demand 2 on second_leaves       second-not-closed
---                                          demand 3, the run of 1         second-run-not-closed
--- an invented number of pairs              demand 3 and demand 2, case f  f-three, f-run-three
+-- refuses every file                       demand 2 on case a             not_every_file_refused
+-- says closed to every file                demand 2 on case b             b_not_closed
+--                                          demand 3, the run of 0         b_run_not_closed
+-- returns without touching what is lent    case c                         c_touches
+-- checks the first step alone              demand 2 on second_leaves      second_not_closed
+--                                          demand 3, the run of 1         second_run_not_closed
+-- an invented number of pairs              demand 3 and demand 2, case f  f_three, f_run_three

@@ -1,4 +1,4 @@
--- Tables that some file is read into. `Laws.Whole.readable_exactly` says that these are the valid ones.
+-- Tables that some file is read into. `proofs/Whole.readable_exactly` says that these are the valid ones.
 use Rattle.std.specs.Prelude.{ℕ, ◌<◌, ◌≡◌, List, get_or}
 use Rattle.numbers.specs.Part.{got}
 use Rattle.tables.specs.declared.tables.Tables.{Tables}

@@ -1,4 +1,4 @@
--- The laws, each file over those before it. What a crate above asks for first: `two_runs`, `verdict_is`, `closed_is` (proofs/Verdicts), `accepted-in-order` (Ordered),
+-- The laws, each file over those before it. What a crate above asks for first: `two_runs`, `verdict_is`, `closed_is` (proofs/Verdicts), `accepted_in_order` (Ordered),
 -- `file_bound` (Bounds), `search_is` (Searches), `shown_bound` (Lengths), `decide_append` (Deciding).
 pub mod Basics
 pub mod Controls
