@@ -30,6 +30,6 @@ pub data Refused (file : List ℕ) (c : ℕ) (contents : List ℕ) : ℕ → ℕ
   -- reading's own
   unread : {k p : ℕ} → read_file file ≡ refused k p → Refused file c contents k p
   -- 11: the control state is not below K
-  no_control_lem : {T : Tables} {next : ℕ} → read_file file ≡ got T next → controls (session_of T).model ≤ c → Refused file c contents 11 0
+  no_control : {T : Tables} {next : ℕ} → read_file file ≡ got T next → controls (session_of T).model ≤ c → Refused file c contents 11 0
   stopped : {T : Tables} {next k p : ℕ} → read_file file ≡ got T next → c < controls (session_of T).model
       → Stopped (session_of T).model.queues contents k p → Refused file c contents k p

@@ -290,9 +290,9 @@ pub data Cause (s : List ℕ) : ℕ → ℕ → Type 0 where
   product_passed : {product v p : ℕ} → NumberAt s (machine_states product) v p → InRange (machine_states product) v → most_controls < product * v
       → Cause s 6 p
   sum_passed : {sum v p : ℕ} → NumberAt s (queue_messages sum) v p → InRange (queue_messages sum) v → most_messages < sum + v → Cause s 6 p
-  other_queue_lem : {q : Queues} {i v p : ℕ} → NumberAt s (word_message q i) v p → InRange (word_message q i) v → (OfQueue q i v → ⊥) → Cause s 7 p
-  not_ascending_lem : {sum before v p : ℕ} → NumberAt s (arc_message sum (some before)) v p → InRange (arc_message sum (some before)) v → v ≤ before
+  other_queue : {q : Queues} {i v p : ℕ} → NumberAt s (word_message q i) v p → InRange (word_message q i) v → (OfQueue q i v → ⊥) → Cause s 7 p
+  not_ascending : {sum before v p : ℕ} → NumberAt s (arc_message sum (some before)) v p → InRange (arc_message sum (some before)) v → v ≤ before
       → Cause s 8 p
   -- what waits in all queues is read, and that is nothing
-  starts_empty_lem : {q : Queues} {begins p : ℕ} {held : List ℕ × List ℕ} → Resumes s q begins → ContentsRead s q q.count begins held p
+  starts_empty : {q : Queues} {begins p : ℕ} {held : List ℕ × List ℕ} → Resumes s q begins → ContentsRead s q q.count begins held p
       → ((i : ℕ) → get_or held.0 i 0 ≡ 0) → Cause s 23 0

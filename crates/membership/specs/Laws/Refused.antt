@@ -11,7 +11,7 @@ use Rattle.theory_model.specs.Model.{total, queue_of, controls}
 use Rattle.theory_model.specs.Diagram.{Pool, along, how_far, accepts}
 use Rattle.theory_files.specs.Tables.{session_of}
 use Rattle.membership.specs.Member.{refusal, judge, ask, member_of}
-use Rattle.membership.specs.Refused.{last_queue, Stopped, Refused, unread, no_control_lem, stopped}
+use Rattle.membership.specs.Refused.{last_queue, Stopped, Refused, unread, no_control, stopped}
 use Rattle.membership.specs.Laws.Judging.{judge_unknown, judge_earlier, judge_on}
 use Rattle.membership.specs.Laws.Order.{Rises, at_last, further, contents_rise, split}
 use Rattle.membership.specs.Laws.Asking.{member_unread, member_asked}
@@ -120,7 +120,7 @@ refusal_means file c contents {k} {p} e = by_reading (read_file file) refl
         let h = ltb-false c (controls (session_of T).model) f in
         let g = sym a ∙ ask_off (session_of T) c contents h in
         subst (λ x. Refused file c contents x p) (sym (same_number g))
-        (subst (λ x. Refused file c contents 11 x) (sym (same_place_lem g)) (no_control_lem r h))
+        (subst (λ x. Refused file c contents 11 x) (sym (same_place_lem g)) (no_control r h))
     by_control {T} r true f a =
         let h = ltb-true c (controls (session_of T).model) f in
         stopped r h (judge_stops (session_of T).model.queues (session_of T).pool (how_far (session_of T).pool ((session_of T).root c) contents) ((session_of T).root c) contents (sym (ask_on (session_of T) c contents h) ∙ a))
@@ -134,7 +134,7 @@ refusal_means file c contents {k} {p} e = by_reading (read_file file) refl
 -- AND WHERE IT IS MEANT IT IS GIVEN
 pub means_refusal : (file : List ℕ) (c : ℕ) (contents : List ℕ) {k p : ℕ} → Refused file c contents k p → member_of file c contents ≡ refusal k p
 means_refusal file c contents (unread e) = member_unread file c contents e
-means_refusal file c contents (no_control_lem {T = T} r h) = member_asked file c contents r ∙ ask_off (session_of T) c contents h
+means_refusal file c contents (no_control {T = T} r h) = member_asked file c contents r ∙ ask_off (session_of T) c contents h
 means_refusal file c contents (stopped {T = T} r h S) =
     member_asked file c contents r
     ∙ ask_on (session_of T) c contents h

@@ -34,7 +34,7 @@ use Rattle.reading_file.specs.File.{read_file, joined}
 use Rattle.reading_file.specs.Causes.{FileField, machine_states, starting_state, queue_messages, word_message, InRange}
 use Rattle.reading_file.specs.Causes.{Resumes, ContentsRead, ToContent, ToTransitions, ToTransition, ToMove, ToAction, ToWord, ToState, ToArcs, least_after, ArcsRead, no_arc, one_arc_more, ToArc, ToSets, ToBad, ToEntry}
 use Rattle.reading_file.specs.Causes.{Comes, to_machine_count, to_states, to_start, to_queue_count, to_messages, to_content_length, to_content, to_transition_count, to_machine, to_from, to_to, to_kind, to_queue, to_word_length, to_word, to_pool_count, to_final, to_arc_count, to_arc, to_target, to_root, to_bad_count, to_control, to_bad_root}
-use Rattle.reading_file.specs.Causes.{NumberAt, Cause, ends, malformed, outside, product_passed, sum_passed, other_queue_lem, not_ascending_lem, starts_empty_lem}
+use Rattle.reading_file.specs.Causes.{NumberAt, Cause, ends, malformed, outside, product_passed, sum_passed, other_queue, not_ascending, starts_empty}
 use Rattle.reading_model.specs.Laws.Machines.{sizes_rounds, starts_rounds}
 use Rattle.reading_model.specs.Laws.Queues.{counts_rounds}
 use Rattle.reading_model.specs.Laws.Words.{word_rounds}
@@ -205,9 +205,9 @@ module _ (s : List ℕ) where
       let stands : NumberAt s (word_message q i) v at = record { comes = c; next = next; number = below_number s at q.sum e } in
       let range = below_range s at q.sum e in
       caused_provided (leb (first_message q.messages i) v) 7 at _
-      (λ t. other_queue_lem stands range (λ o. let b = leb-false (first_message q.messages i) v t in omega (arith, o.from)))
+      (λ t. other_queue stands range (λ o. let b = leb-false (first_message q.messages i) v t in omega (arith, o.from)))
       (λ _. caused_provided (ltb v (first_message q.messages (suc i))) 7 at (got v next)
-      (λ t. other_queue_lem stands range (λ o. let b = ltb-false v (first_message q.messages (suc i)) t in omega (arith, o.below)))
+      (λ t. other_queue stands range (λ o. let b = ltb-false v (first_message q.messages (suc i)) t in omega (arith, o.below)))
       (λ _. tt)))
 
   -- what waits in queue i at the start
@@ -234,7 +234,7 @@ module _ (s : List ℕ) where
       (subst (λ k. ToContent s q k at) same (record { begins = p; before = r; below = l; held = x; read = f })) h')
       h)
       (λ held next e h₁.
-      caused_provided (waits held.0) 23 0 (got (starting_with q held) next) (λ t. starts_empty_lem r e (waits_none held.0 t)) (λ _. tt))
+      caused_provided (waits held.0) 23 0 (got (starting_with q held) next) (λ t. starts_empty r e (waits_none held.0 t)) (λ _. tt))
 
   queues_caused : {m : Machines} {p : ℕ} (resumes : Bool) → read_machines s 0 ≡ got (resumes, m) p → p ≤ length s → Caused (read_queues s p resumes)
   unfolding read_queues
@@ -338,7 +338,7 @@ module _ (s : List ℕ) where
       late : (b : Option ℕ) → ToArc s sum n b at → (v next : ℕ) → read_below s at sum ≡ got v next → v < least_after b → Cause s 8 at
       late none c' v next e l = absurd (omega arith)
       late (some m) c' v next e l =
-          not_ascending_lem (record { comes = to_arc c'; next = next; number = below_number s at sum e }) (below_range s at sum e) (omega arith)
+          not_ascending (record { comes = to_arc c'; next = next; number = below_number s at sum e }) (below_range s at sum e) (omega arith)
 
   arc_caused : (at sum n : ℕ) (before : Option ℕ) → ToArc s sum n before at → at ≤ length s
       → Caused (read_arc s at n sum (least_after before))
@@ -509,9 +509,9 @@ module _ (s : List ℕ) where
   caused_by_nothing l (outside n r) e = absurd (omega arith)
   caused_by_nothing l (product_passed n r g) e = absurd (omega arith)
   caused_by_nothing l (sum_passed n r g) e = absurd (omega arith)
-  caused_by_nothing l (other_queue_lem n r o) e = absurd (omega arith)
-  caused_by_nothing l (not_ascending_lem n r g) e = absurd (omega arith)
-  caused_by_nothing l (starts_empty_lem {q} {begins} {p} {held} r c z) e =
+  caused_by_nothing l (other_queue n r o) e = absurd (omega arith)
+  caused_by_nothing l (not_ascending n r g) e = absurd (omega arith)
+  caused_by_nothing l (starts_empty {q} {begins} {p} {held} r c z) e =
       (refl, record { short = l; queues = q; begins = begins; before = r; held = held; ends = p; read = c; none = z })
 
   nothing_refused : StartsWithNothing s → read_model s 0 ≡ refused 23 0
