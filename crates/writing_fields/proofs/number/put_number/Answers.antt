@@ -7,4 +7,4 @@ pub returns-then-v-lt128 : goal.returns-then-v-lt128
 returns-then-v-lt128 c = put_one (omega (arith, c.if-v-lt128.true)) c.put_byte.ensures
 
 pub returns : goal.returns
-returns c = put_two c.if-v-lt128.false (search rules) c.put_byte-high.ensures c.put_byte-2.ensures
+returns c = put_two (omega (arith, c.if-v-lt128.false)) (search rules) c.put_byte-high.ensures c.put_byte-2.ensures
