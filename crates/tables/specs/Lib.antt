@@ -6,6 +6,7 @@ pub mod Pool
 pub mod Starting
 pub mod Empty
 pub mod Head
+pub mod View
 pub mod Said
 pub mod Lookup
 pub mod Valid

@@ -8,3 +8,4 @@ pub mod lookup;
 pub mod spans;
 pub mod starting;
 pub mod tables;
+pub mod view;
