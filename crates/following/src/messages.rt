@@ -10,7 +10,7 @@ ghost use Rattle.following.specs.Standing.{standing, word_over, RingAt, WordWith
 
 use crate::rows::{row_after, row_of, state_of};
 use tables::kinds::{Message, Reached};
-use tables::lookup::{Arc, arc_from};
+use tables::lookup::arc_from;
 use tables::tables::MOST_WORD;
 
 // Where messages lead: to the row of a state, or nowhere after so many of them.
@@ -41,7 +41,7 @@ pub fn follow(
     let mut i = head;
     let mut left = count;
     while 0 < left {
-        let Arc::Target(next) = arc_from(arcs, row, Message(table[base + i])) else {
+        let Some(next) = arc_from(arcs, row, Message(table[base + i])) else {
             return Followed::Lost(count - left);
         };
         row = row_after(next);

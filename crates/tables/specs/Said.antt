@@ -1,10 +1,10 @@
--- What the lookup's enum says.
-use Rattle.std.specs.Prelude.{ℕ}
-use Rattle.std.proofs.Math.Option.{Option, none, some}
-use Rattle.tables.specs.declared.lookup.Arc.{Arc}
-use Rattle.tables.specs.declared.lookup.Arc.TheVariants.{Target, Nowhere}
+-- What the answer of a lookup says.
+use Rattle.std.specs.Prelude.{ℕ, Option, Some, None}
+use Rattle.std.proofs.Math.Option.{none, some}
+use Rattle.std.proofs.Math.Option as Math
+use Rattle.tables.specs.declared.kinds.DiagramState.{DiagramState}
 
 -- arc lookup: the target, or nowhere
-abbrev pub said_arc : Arc → Option ℕ
-said_arc (Target t) = some t.0
-said_arc Nowhere = none
+abbrev pub said_arc : Option DiagramState → Math.Option ℕ
+said_arc (Some t) = some t.0
+said_arc None = none

@@ -10,13 +10,6 @@ use crate::kinds::{ControlState, DiagramState, Message, Reached};
 use crate::tables::ARCS;
 use numbers::number::{entry, wide};
 
-// Where an arc leads.
-#[derive(Clone, Copy)]
-pub enum Arc {
-    Target(DiagramState),
-    Nowhere,
-}
-
 // The root of a control state; nowhere if it has none.
 pub fn root_of(roots: &[u8], c: ControlState) -> Reached
     requires { get_or roots.now c.0 0 ≤ most_pool }
@@ -29,22 +22,22 @@ pub fn root_of(roots: &[u8], c: ControlState) -> Reached
     Reached::at(DiagramState(root - 1))
 }
 
-// The arc for a message of the state whose arcs begin at this row. The entry is in the table, so a walk makes no test for its end; it is looked up
+// Where the arc for a message leads, of the state whose arcs begin at this row, if there is one. The entry is in the table, so a walk makes no test for its end; it is looked up
 // in the table's part from the message on: the message is there before the row is, so nothing is added to a row that had to be waited for.
-pub fn arc_from(arcs: &[u8], row: usize, m: Message) -> Arc
+pub fn arc_from(arcs: &[u8], row: usize, m: Message) -> Option<DiagramState>
     requires { row + m.0 < length arcs.now }
     ensures { said_arc result ≡ arc_from arcs.now row m.0 }
 {
     let line = &arcs[m.0 as usize..];
     let target = line[row];
     if target == 0 {
-        return Arc::Nowhere;
+        return None;
     }
-    Arc::Target(DiagramState(target - 1))
+    Some(DiagramState(target - 1))
 }
 
-// The arc of a state for a message.
-pub fn arc_at(arcs: &[u8], s: DiagramState, m: Message) -> Arc
+// Where the arc of a state for a message leads, if there is one.
+pub fn arc_at(arcs: &[u8], s: DiagramState, m: Message) -> Option<DiagramState>
     requires { s.0 * most_messages + m.0 < length arcs.now }
     ensures { said_arc result ≡ arc_at arcs.now s.0 m.0 }
 {
@@ -61,7 +54,7 @@ pub fn along(arcs: &[u8], from: Reached, m: Message) -> Reached
     if from.is_nowhere() {
         return Reached::nowhere();
     }
-    let Arc::Target(next) = arc_at(arcs, from.state(), m) else {
+    let Some(next) = arc_at(arcs, from.state(), m) else {
         return Reached::nowhere();
     };
     Reached::at(next)

@@ -39,7 +39,7 @@ returns-in_default c =
     record { is = (follow_lost (follow_message inv.0.0 first (along_missing (state_some inv.0.1.0.below) refl missing refl)) refl refl, count_missing inv.1.0 inv.0.1.0.below first from missing) }
 
 pub row_after-row-requires : goal.row_after-row-requires
-row_after-row-requires c = arc_small _ _ c.requires.arcs_small (sym c.arc_from.ensures ∙ ap said_arc c.in-Target.is)
+row_after-row-requires c = arc_small _ _ c.requires.arcs_small (sym c.arc_from.ensures ∙ ap said_arc c.in-Some.is)
 
 pub overflow_add-i : goal.overflow_add-i
 overflow_add-i c = omega (arith, c.loop-left.invariant.0.1.1, c.requires.ring_at.within)
@@ -54,7 +54,7 @@ loop-left-preserved c =
     let p = c.requires in
     let a = c.args in
     let row = c.row_after-row.ensures in
-    let arc = sym (row_arc a.arcs.now _ inv.1.0) ∙ sym c.arc_from.ensures ∙ ap said_arc c.in-Target.is ∙ ap some (sym row.state) in
+    let arc = sym (row_arc a.arcs.now _ inv.1.0) ∙ sym c.arc_from.ensures ∙ ap said_arc c.in-Some.is ∙ ap some (sym row.state) in
     let first = standing_first _ _ _ _ _ inv.1.1 c.loop-left-test.true in
     let small = arc_small _ _ p.arcs_small arc in
     ((follow_message inv.0 first (along_arc_lem (state_some inv.1.0.below) refl p.arcs_small arc refl), (row.begins, next_placed inv.1.1)), (count_message whole.1.0 inv.1.0.below first arc small (omega (arith, whole.1.1, c.loop-left-test.true)), omega (arith, whole.1.1)))

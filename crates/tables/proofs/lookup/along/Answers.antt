@@ -17,4 +17,4 @@ pub returns-in_default : goal.returns-in_default
 returns-in_default c = along_missing (nowhere_false _ c.is_nowhere.ensures c.if-is_nowhere.false) c.state.ensures (sym c.arc_at.ensures ∙ ap said_arc c.in_default.is) c.nowhere-in_default.ensures
 
 pub returns : goal.returns
-returns c = along_arc_lem (nowhere_false _ c.is_nowhere.ensures c.if-is_nowhere.false) c.state.ensures c.requires.arcs_small (sym c.arc_at.ensures ∙ ap said_arc c.in-Target.is) c.at.ensures
+returns c = along_arc_lem (nowhere_false _ c.is_nowhere.ensures c.if-is_nowhere.false) c.state.ensures c.requires.arcs_small (sym c.arc_at.ensures ∙ ap said_arc c.in-Some.is) c.at.ensures
