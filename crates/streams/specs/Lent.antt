@@ -1,5 +1,5 @@
 -- Lent memory that is made from one byte of a stream, and its digest.
-use Rattle.std.specs.Prelude.{ℕ, zero, suc, ◌+◌, ◌*◌, ◌%◌, ◌<◌, ◌≡◌, List, [], ◌∷◌}
+use Rattle.std.specs.Prelude.{ℕ, zero, suc, ◌+◌, ◌*◌, ◌%◌, List, [], ◌∷◌}
 
 -- so many bytes, each 7 more than the one before, modulo 256
 unfoldable pub filled : ℕ → ℕ → List ℕ
@@ -11,10 +11,6 @@ modulus = 16777213
 
 abbrev pub mixed : ℕ → ℕ → ℕ
 mixed h byte = (h * 257 + byte + 1) % modulus
-
-pub record Mixed (h byte r : ℕ) : Type 0 where
-  pub is : r ≡ mixed h byte
-  pub small : r < modulus
 
 -- byte after byte
 unfoldable pub digest_from : ℕ → List ℕ → ℕ

@@ -1,4 +1,3 @@
--- What was read from standard input, and lent memory that is made from a byte of it.
-pub mod Counts
+-- Lent memory that is made from a byte of standard input.
 pub mod Lent
 pub mod Laws
