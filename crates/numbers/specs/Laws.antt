@@ -7,4 +7,3 @@ pub mod Written
 pub mod Asks
 pub mod Places
 pub mod Put
-pub mod Reader

@@ -3,6 +3,5 @@ pub mod Refusals
 pub mod Part
 pub mod Said
 pub mod Number
-pub mod Reader
 pub mod Put
 pub mod Laws

@@ -76,7 +76,7 @@ pub const TOO_MANY_STATES: usize = 22;
 // A file that resumes, and all its queues start empty.
 pub const STARTS_EMPTY: usize = 23;
 
-#[derive(Clone, Copy)]
+#[derive(Clone, Copy, Debug, PartialEq, Eq)]
 pub enum Refusal {
     // more bytes than an input may have
     TooLong,
@@ -100,38 +100,40 @@ pub enum Refusal {
     StartsEmpty,
 }
 
-// The refusal's number in document 01.
-pub fn number(why: Refusal) -> usize
-    ensures { result ≡ number_of why }
-{
-    match why {
-        Refusal::TooLong => TOO_LONG,
-        Refusal::Ends(_) => ENDS_EARLY,
-        Refusal::NotShortest(_) => NOT_SHORTEST,
-        Refusal::OutOfRange(_) => OUT_OF_RANGE,
-        Refusal::PassesLimit(_) => PASSES_LIMIT,
-        Refusal::OtherQueue(_) => OTHER_QUEUE,
-        Refusal::NotAscending(_) => NOT_ASCENDING,
-        Refusal::NotInQueueOrder(_) => NOT_IN_QUEUE_ORDER,
-        Refusal::Trailing(_) => TRAILING,
-        Refusal::StartsEmpty => STARTS_EMPTY,
+impl Refusal {
+    // The refusal's number in document 01.
+    pub fn number(self) -> usize
+        ensures { result ≡ number_of self }
+    {
+        match self {
+            Refusal::TooLong => TOO_LONG,
+            Refusal::Ends(_) => ENDS_EARLY,
+            Refusal::NotShortest(_) => NOT_SHORTEST,
+            Refusal::OutOfRange(_) => OUT_OF_RANGE,
+            Refusal::PassesLimit(_) => PASSES_LIMIT,
+            Refusal::OtherQueue(_) => OTHER_QUEUE,
+            Refusal::NotAscending(_) => NOT_ASCENDING,
+            Refusal::NotInQueueOrder(_) => NOT_IN_QUEUE_ORDER,
+            Refusal::Trailing(_) => TRAILING,
+            Refusal::StartsEmpty => STARTS_EMPTY,
+        }
     }
-}
 
-// And its place.
-pub fn place(why: Refusal) -> usize
-    ensures { result ≡ place_of why }
-{
-    match why {
-        Refusal::TooLong => MOST_BYTES,
-        Refusal::Ends(at) => at,
-        Refusal::NotShortest(at) => at,
-        Refusal::OutOfRange(at) => at,
-        Refusal::PassesLimit(at) => at,
-        Refusal::OtherQueue(at) => at,
-        Refusal::NotAscending(at) => at,
-        Refusal::NotInQueueOrder(at) => at,
-        Refusal::Trailing(at) => at,
-        Refusal::StartsEmpty => 0,
+    // And its place.
+    pub fn place(self) -> usize
+        ensures { result ≡ place_of self }
+    {
+        match self {
+            Refusal::TooLong => MOST_BYTES,
+            Refusal::Ends(at)
+            | Refusal::NotShortest(at)
+            | Refusal::OutOfRange(at)
+            | Refusal::PassesLimit(at)
+            | Refusal::OtherQueue(at)
+            | Refusal::NotAscending(at)
+            | Refusal::NotInQueueOrder(at)
+            | Refusal::Trailing(at) => at,
+            Refusal::StartsEmpty => 0,
+        }
     }
 }

@@ -1,10 +1,9 @@
 -- Laws of parts: a part that was read went through every test on its way. And the step of a loop that counts up.
-use Rattle.std.specs.Prelude.{ℕ, suc, ◌+◌, ◌-◌, ◌<◌, ◌≡◌, refl, Bool, true, false}
+use Rattle.std.specs.Prelude.{ℕ, suc, ◌+◌, ◌-◌, ◌<◌, ◌≡◌, refl, Bool, true, false, Result, Ok, Err, IsErrAnd}
 use Rattle.std.proofs.Common.{arith}
 use Rattle.numbers.specs.Part.{Part, got, refused, provided, and_then}
-use Rattle.numbers.specs.Said.{filled_with}
-use Rattle.numbers.specs.declared.number.Filled.{Filled}
-use Rattle.numbers.specs.declared.number.Filled.TheVariants.{To, Refused as FilledRefused}
+use Rattle.numbers.specs.Said.{number_of, place_of, said, said_with}
+use Rattle.numbers.specs.declared.refusal.Refusal.{Refusal}
 
 module _ {A : Type 0} where
   -- what was read is no refusal
@@ -38,12 +37,25 @@ module _ {A B : Type 0} where
 pub one_more_lem : {i n : ℕ} → i < n → n - i ≡ suc (n - (i + 1))
 one_more_lem h = omega arith
 
--- a table that was filled goes into the struct around it
+-- a refusal that `?` hands on
+module _ {A : Type 0} where
+  pub handed_on : (r : Result A Refusal) (place : ℕ) (why : Refusal) → IsErrAnd r (λ e. e ≡ why)
+      → said r place ≡ refused (number_of why) (place_of why)
+  handed_on (Err e) place why h = rw h
+  handed_on (Ok x) place why h = absurd h
+
 module _ {A B : Type 0} where
-  pub filled_into : (f : Filled) (x : A) (g : A → B) {y : Part A}
-      → filled_with f x ≡ y → filled_with f (g x) ≡ and_then y (λ z n. got (g z) n)
-  filled_into (To next) x g e = rw (← e)
-  filled_into (FilledRefused why) x g e = rw (← e)
+  pub handed_on_with : (r : Result A Refusal) (place : ℕ) (f : A → B) (why : Refusal) → IsErrAnd r (λ e. e ≡ why)
+      → said_with f r place ≡ refused (number_of why) (place_of why)
+  handed_on_with (Err e) place f why h = rw h
+  handed_on_with (Ok x) place f why h = absurd h
+
+-- what was filled goes into the struct around it
+module _ {V A B : Type 0} where
+  pub said_into : (r : Result V Refusal) (place : ℕ) (f : V → A) (g : A → B) {y : Part A}
+      → said_with f r place ≡ y → said_with (λ v. g (f v)) r place ≡ and_then y (λ z n. got (g z) n)
+  said_into (Ok v) place f g e = rw (← e)
+  said_into (Err why) place f g e = rw (← e)
 
 module _ {A B C : Type 0} where
   -- parts in a row group either way
