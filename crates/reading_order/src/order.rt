@@ -5,10 +5,10 @@ ghost use Rattle.tables.specs.Queues.{first_message};
 ghost use Rattle.tables.specs.Lookup.{ArcsSmall};
 ghost use Rattle.tables.specs.declared.tables.Pool.{Pool};
 ghost use Rattle.reading_order.specs.Nodes.{most_nodes, fails};
-ghost use Rattle.reading_order.specs.Found.{Found, RootsSmall, BadSmall};
+ghost use Rattle.reading_order.specs.Found.{RootsSmall, BadSmall};
 ghost use Rattle.reading_order.specs.Search.{none_fails, in_queue_order};
 
-use crate::finding::{NODES, RANKS, WRONG, find_bad, find_next, find_roots};
+use crate::finding::{FoundNodes, RANKS, WRONG};
 use tables::kinds::{DiagramState, Reached};
 use tables::lookup::is_final;
 use tables::tables::{MOST_QUEUES, Queues, SetTables};
@@ -27,30 +27,21 @@ fn is_fault(finals: &[u8], node: usize) -> bool
 }
 
 // The nodes that are found are taken in turn, up to the first that fails.
-fn none_fails(
-    arcs: &[u8],
-    finals: &[u8],
-    messages: [u8; MOST_QUEUES as usize],
-    queues: u8,
-    seen: &mut [u8; NODES],
-    nodes: &mut [u16; NODES],
-    count: usize,
-) -> bool
+fn none_fails(found: &mut FoundNodes, arcs: &[u8], finals: &[u8], q: &Queues) -> bool
     requires arcs_small { ArcsSmall arcs.now }
     requires finals_len { length finals.now ≡ most_pool }
-    requires queues_le_most_queues { queues ≤ most_queues }
-    requires queues_bound { first_message messages queues ≤ most_messages }
-    requires found { Found seen.old nodes.old count }
-    ensures { result ≡ none_fails arcs.now finals.now messages queues (take count nodes.old) }
+    requires queues_le_most_queues { q.now.count ≤ most_queues }
+    requires queues_bound { first_message q.now.messages q.now.count ≤ most_messages }
+    ensures { result ≡ none_fails arcs.now finals.now q.now.messages q.now.count (take found.old.count found.old.list) }
 {
-    let mut tail = count;
     let mut k: usize = 0;
-    while k < tail {
-        let node = nodes[k] as usize;
+    // Counted by hand: the list of nodes grows while it is gone through, and an iterator would borrow it.
+    while k < found.count {
+        let node = found.list[k] as usize;
         if is_fault(finals, node) {
             return false;
         }
-        tail = find_next(arcs, messages, queues, node, seen, nodes, tail);
+        found.find_next(arcs, q, node);
         k += 1;
     }
     true
@@ -72,14 +63,8 @@ pub fn in_queue_order(
     requires bad_small { BadSmall sets.bad.rows sets.bad.count }
     ensures { (P : Pool) → P.finals ≡ finals.now → P.arcs ≡ arcs.now → result ≡ in_queue_order q P controls sets }
 {
-    let messages = q.messages;
-    let map = sets.map;
-    let roots = map.roots;
-    let bad = sets.bad;
-    let rows = bad.rows;
-    let mut seen = [0u8; NODES];
-    let mut nodes = [0u16; NODES];
-    let some = find_roots(&roots, controls, &mut seen, &mut nodes, 0);
-    let all = find_bad(&rows, bad.count, &mut seen, &mut nodes, some);
-    none_fails(arcs, finals, messages, q.count, &mut seen, &mut nodes, all)
+    let mut found = FoundNodes::none();
+    found.find_roots(&sets.map.roots, controls);
+    found.find_bad(&sets.bad.rows, sets.bad.count);
+    none_fails(&mut found, arcs, finals, &q)
 }
