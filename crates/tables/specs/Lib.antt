@@ -1,5 +1,6 @@
 pub mod Limits
 pub mod Kinds
+pub mod Kind
 pub mod Rows
 pub mod Queues
 pub mod Pool

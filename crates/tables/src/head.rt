@@ -1,7 +1,7 @@
 // What is small of a session's tables. It goes by value; the large ones, which hold what is counted here, are lent beside it.
 use crate::tables::{Machines, Queues};
 
-#[derive(Clone, Copy)]
+#[derive(Clone, Copy, Debug, PartialEq, Eq)]
 pub struct Head {
     pub machines: Machines,
     pub queues: Queues,

@@ -1,22 +1,37 @@
-// The kinds of number. Each is a struct of its own, so that none can stand where another is asked.
-ghost use Rattle.std.specs.Prelude.{◌≡◌, ◌<◌, eqb};
+// The kinds of number. Each is a struct of its own, so that none can stand where another is asked. They are not one struct with the limit as a const
+// parameter: an alias of that is no function, so `Message(m)` could not be written, and `Debug` would print one name for all three.
+ghost use Rattle.std.specs.Prelude.{◌≡◌, ◌<◌, ◌≤◌, eqb};
 ghost use Rattle.tables.specs.Limits.{most_controls, most_pool, most_messages};
 ghost use Rattle.tables.specs.Kinds.{limited};
+ghost use Rattle.tables.specs.Kind.{KindIs};
+
+// The number itself where it is below its kind's limit, else the last below it.
+fn limited<const LIMIT: usize>(raw: usize) -> u8
+    requires least { 0 < LIMIT }
+    requires most { LIMIT ≤ 256 }
+    ensures { result ≡ limited LIMIT raw }
+{
+    if raw < LIMIT {
+        raw as u8
+    } else {
+        (LIMIT - 1) as u8
+    }
+}
 
 // The joint state of all machines, machine 0 most significant.
-#[derive(Clone, Copy)]
+#[derive(Clone, Copy, Debug, PartialEq, Eq, PartialOrd, Ord)]
 pub struct ControlState(pub u8);
 
 // A state of the pool that all diagrams share.
-#[derive(Clone, Copy)]
+#[derive(Clone, Copy, Debug, PartialEq, Eq, PartialOrd, Ord)]
 pub struct DiagramState(pub u8);
 
 // Where a word has led: to a diagram state, or nowhere.
-#[derive(Clone, Copy)]
+#[derive(Clone, Copy, Debug, PartialEq, Eq)]
 pub struct Reached(pub u8);
 
 // A message, numbered through the queues.
-#[derive(Clone, Copy)]
+#[derive(Clone, Copy, Debug, PartialEq, Eq, PartialOrd, Ord)]
 pub struct Message(pub u8);
 
 impl ControlState {
@@ -26,11 +41,7 @@ impl ControlState {
     pub fn new(raw: usize) -> Self
         ensures { result.0 ≡ limited most_controls raw }
     {
-        if raw < Self::LIMIT {
-            ControlState(raw as u8)
-        } else {
-            ControlState((Self::LIMIT - 1) as u8)
-        }
+        ControlState(limited::<{ Self::LIMIT }>(raw))
     }
 }
 
@@ -41,11 +52,7 @@ impl DiagramState {
     pub fn new(raw: usize) -> Self
         ensures { result.0 ≡ limited most_pool raw }
     {
-        if raw < Self::LIMIT {
-            DiagramState(raw as u8)
-        } else {
-            DiagramState((Self::LIMIT - 1) as u8)
-        }
+        DiagramState(limited::<{ Self::LIMIT }>(raw))
     }
 }
 
@@ -87,10 +94,27 @@ impl Message {
     pub fn new(raw: usize) -> Self
         ensures { result.0 ≡ limited most_messages raw }
     {
-        if raw < Self::LIMIT {
-            Message(raw as u8)
-        } else {
-            Message((Self::LIMIT - 1) as u8)
+        Message(limited::<{ Self::LIMIT }>(raw))
+    }
+}
+
+// What a transition does to its queue, if anything.
+#[derive(Clone, Copy, Debug, PartialEq, Eq)]
+pub enum Kind {
+    Local,
+    Send,
+    Receive,
+}
+
+// By its number in the table of transitions.
+impl From<u8> for Kind {
+    ghost from_gives = { KindIs };
+
+    fn from(number: u8) -> Kind {
+        match number {
+            0 => Kind::Local,
+            1 => Kind::Send,
+            _ => Kind::Receive,
         }
     }
 }

@@ -8,12 +8,10 @@ use crate::tables::MOST_QUEUES;
 pub fn waits(lengths: [u8; MOST_QUEUES as usize]) -> bool
     ensures { result ≡ waits lengths }
 {
-    let mut i: usize = 0;
-    while i < MOST_QUEUES as usize {
-        if lengths[i] != 0 {
+    for length in lengths {
+        if length != 0 {
             return true;
         }
-        i += 1;
     }
     false
 }

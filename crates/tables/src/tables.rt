@@ -55,7 +55,7 @@ pub const ENTRIES: usize = MOST_BAD as usize * ENTRY;
 // What waits at the start: the messages of queue q from entry q * MOST_STARTING on.
 pub const STARTING: usize = MOST_QUEUES as usize * MOST_STARTING as usize;
 
-#[derive(Clone, Copy)]
+#[derive(Clone, Copy, Debug, PartialEq, Eq)]
 pub struct Machines {
     pub count: u8,
     pub product: usize,
@@ -63,7 +63,7 @@ pub struct Machines {
     pub starts: [u8; MOST_MACHINES as usize],
 }
 
-#[derive(Clone, Copy)]
+#[derive(Clone, Copy, Debug, PartialEq, Eq)]
 pub struct Queues {
     pub count: u8,
     pub sum: u8,
@@ -73,32 +73,32 @@ pub struct Queues {
     pub contents: [u8; STARTING],
 }
 
-#[derive(Clone, Copy)]
+#[derive(Clone, Copy, Debug, PartialEq, Eq)]
 pub struct Transitions {
     pub count: u8,
     pub rows: [u8; ROWS],
 }
 
-#[derive(Clone, Copy)]
+#[derive(Clone, Copy, Debug, PartialEq, Eq)]
 pub struct Pool {
     pub count: u8,
     pub finals: [u8; DiagramState::LIMIT],
     pub arcs: [u8; POOL_ARCS],
 }
 
-#[derive(Clone, Copy)]
+#[derive(Clone, Copy, Debug, PartialEq, Eq)]
 pub struct Map {
     pub roots: [u8; MOST_CONTROLS],
 }
 
-#[derive(Clone, Copy)]
+#[derive(Clone, Copy, Debug, PartialEq, Eq)]
 pub struct BadList {
     pub count: u8,
     pub rows: [u8; ENTRIES],
 }
 
 // Fields 1 to 3: what moves, and from where.
-#[derive(Clone, Copy)]
+#[derive(Clone, Copy, Debug, PartialEq, Eq)]
 pub struct ModelTables {
     pub machines: Machines,
     pub queues: Queues,
@@ -106,13 +106,13 @@ pub struct ModelTables {
 }
 
 // Fields 5 and 6: which diagrams stand for which control states.
-#[derive(Clone, Copy)]
+#[derive(Clone, Copy, Debug, PartialEq, Eq)]
 pub struct SetTables {
     pub map: Map,
     pub bad: BadList,
 }
 
-#[derive(Clone, Copy)]
+#[derive(Clone, Copy, Debug, PartialEq, Eq)]
 pub struct Tables {
     pub machines: Machines,
     pub queues: Queues,

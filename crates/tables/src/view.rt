@@ -1,7 +1,7 @@
 // The tables of a session seen where they lie: what is small by value, the five large ones lent.
 use crate::head::Head;
 
-#[derive(Clone, Copy)]
+#[derive(Clone, Copy, Debug, PartialEq, Eq)]
 pub struct TablesView<'a> {
     pub head: Head,
     pub rows: &'a [u8],

@@ -6,11 +6,11 @@ use Rattle.tables.proofs.spans.messages_of.Goals as goal
 
 pub loop-i-init : goal.loop-i-init
 unfolding first_message
-loop-i-init c = (refl, omega arith, omega arith)
+loop-i-init c = (refl, omega arith)
 
 pub loop-i-preserved : goal.loop-i-preserved
 unfolding first_message
-loop-i-preserved c = (rw (add-one, c.wide-lo.ensures.same, c.entry.ensures, c.loop-i.invariant.0), omega arith, omega arith)
+loop-i-preserved c = (rw (add-one, c.wide-lo.ensures.same, c.entry.ensures, c.loop-i.invariant.0), omega arith)
 
 pub returns : goal.returns
 unfolding first_message

@@ -1,25 +1,16 @@
-use borrow.Author.Rules.{rules}
-use mathlib.Core.Path.{◌≡◌, refl, sym, ◌∙◌}
+use mathlib.Core.Path.{sym, ◌∙◌}
 use native.Mathlib.Omega.{arith}
-use lib.ListN.{length}
 use borrow.Author.Tests.{eq-eqb, ne_eqb}
 use Rattle.tables.specs.Laws.Starting.{waits_here, waits_on, waits_end}
 use Rattle.tables.proofs.starting.waits.Goals as goal
 
-pub loop-i-init : goal.loop-i-init
-loop-i-init c = (refl, omega arith)
+pub returns-then-length-ne0 : goal.returns-then-length-ne0
+returns-then-length-ne0 c =
+    sym (waits_here c.args.lengths _ (omega arith) (ne_eqb _ _ c.if-length-ne0.true)) ∙ c.loop-length.invariant
 
-pub returns-then-lengths-i-ne0 : goal.returns-then-lengths-i-ne0
-returns-then-lengths-i-ne0 c =
-    let l : length c.args.lengths ≡ 4 = search rules in
-    sym (waits_here c.args.lengths _ (omega arith) (ne_eqb _ _ c.if-lengths-i-ne0.true)) ∙ c.loop-i.invariant.0
-
-pub loop-i-preserved : goal.loop-i-preserved
-loop-i-preserved c =
-    let l : length c.args.lengths ≡ 4 = search rules in
-    (sym (waits_on c.args.lengths _ (omega arith) (eq-eqb _ _ c.if-lengths-i-ne0.false)) ∙ c.loop-i.invariant.0, omega arith)
+pub loop-length-preserved : goal.loop-length-preserved
+loop-length-preserved c =
+    sym (waits_on c.args.lengths _ (omega arith) (eq-eqb _ _ c.if-length-ne0.false)) ∙ c.loop-length.invariant
 
 pub returns : goal.returns
-returns c =
-    let l : length c.args.lengths ≡ 4 = search rules in
-    sym (waits_end c.args.lengths c.loop-i.i (omega arith)) ∙ c.loop-i.invariant.0
+returns c = sym (waits_end c.args.lengths c.loop-length.length-index (omega arith)) ∙ c.loop-length.invariant
