@@ -14,12 +14,9 @@ pub fn put_word(s: &mut [u8], at: usize, word: &[u8]) -> usize
     requires { at + length word.now ≤ length s.old }
     ensures { Put s.old at (length word.now) word.now s.new result }
 {
-    let mut i = 0;
-    while i < word.len() {
-        s[at + i] = word[i];
-        i += 1;
-    }
-    at + i
+    let next = at + word.len();
+    s[at..next].copy_from_slice(word);
+    next
 }
 
 // Four texts, one after the other.

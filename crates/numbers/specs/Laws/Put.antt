@@ -1,6 +1,6 @@
 -- Texts that are put one after the other make one text.
-use Rattle.std.specs.Prelude.{ℕ, suc, ◌+◌, ◌≤◌, ◌<◌, ◌≡◌, refl, List, [], ◌++◌, length, get_or, drop, set}
-use Rattle.std.proofs.Common.{sym, ap, ap₂, subst, ◌∙◌, length-append, length-set, drop_of_length-le, drop-cons, arith, add-zero, zero-add}
+use Rattle.std.specs.Prelude.{ℕ, ◌+◌, ◌≤◌, ◌≡◌, refl, List, [], ◌++◌, length, drop}
+use Rattle.std.proofs.Common.{ap, ◌∙◌, length-append, arith, zero-add}
 use Rattle.std.proofs.lemmas.List.Edits.{sets, sets-eq}
 use Rattle.std.proofs.Math.Seq.{length-sets}
 use Rattle.numbers.specs.Put.{Put, four, four_long}
@@ -47,31 +47,6 @@ module _ {entry mid exit u v : List ℕ} {at p r : ℕ} where
         next = omega (arith, b.next, a.next, length-append u v);
         within = omega (arith, a.within, b.within);
       }
-
--- BYTE AFTER BYTE of a word
-module _ {entry text now : List ℕ} {at i : ℕ} where
-  pub left_byte : i < length text → Left entry at text now (at + i) (drop i text)
-      → Left entry at text (set now (at + i) (get_or text i 0)) (at + (i + 1)) (drop (i + 1) text)
-  left_byte h l =
-      let e : at + (i + 1) ≡ suc (at + i) = omega arith in
-      let n : i + 1 ≡ suc i = omega arith in
-      let split = drop-cons text i 0 h in
-      record {
-        buffer =
-            ap₂ (λ (k j : ℕ). sets (set now (at + i) (get_or text i 0)) k (drop j text)) e n
-            ∙ ap (λ (v : List ℕ). sets now (at + i) v) (sym split) ∙ l.buffer;
-        place = omega (arith, ap (λ (j : ℕ). length (drop j text)) n, ap length split, l.place);
-        long = length-set now (at + i) (get_or text i 0) ∙ l.long;
-      }
-
-  pub left_whole : i ≤ length text → length text ≤ i → Left entry at text now (at + i) (drop i text)
-      → Put entry at (length text) text now (at + i)
-  left_whole a b l =
-      let none = drop_of_length-le text b in
-      left_end (length text) (subst (Left entry at text now (at + i)) none l) (omega arith)
-
-pub left_zero : (s : List ℕ) (at : ℕ) (text : List ℕ) → Left s at text s (at + 0) text
-left_zero s at text = record { buffer = ap (λ (k : ℕ). sets s k text) (add-zero at); place = omega arith; long = refl }
 
 -- four of them
 pub put_four : {s₀ s₁ s₂ s₃ s₄ a b c d : List ℕ} {at p q r z : ℕ} → Put s₀ at (length a) a s₁ p → Put s₁ p (length b) b s₂ q

@@ -1,13 +1,15 @@
-use borrow.Author.Rules.{rules}
-use Rattle.numbers.specs.Laws.Put.{left_zero, left_byte, left_whole}
-use native.Mathlib.Omega.{arith}
+use Rattle.std.proofs.Common.{◌∙◌, arith, refl}
+use Rattle.std.proofs.Math.Seq.{take-length}
+use Rattle.std.proofs.lemmas.List.Edits.{sets-eq}
+use Rattle.std.proofs.lemmas.Slice.{put_mid-paste}
 use Rattle.numbers.proofs.put.put_word.Goals as goal
 
-pub loop-i-init : goal.loop-i-init
-loop-i-init c = (left_zero _ _ _, omega arith)
-
-pub loop-i-preserved : goal.loop-i-preserved
-loop-i-preserved c = (left_byte c.loop-i-test.true c.loop-i.invariant.0, search rules)
-
 pub returns : goal.returns
-returns c = left_whole c.loop-i.invariant.1 c.loop-i-test.false c.loop-i.invariant.0
+returns c =
+    record {
+      buffer =
+          put_mid-paste c.args.at _ c.args.s.now _ c.args.word.now _ c.copy_from_slice.ensures.after (omega arith) refl
+          ∙ rw (take-length c.args.word.now, sets-eq c.args.word.now c.args.s.now c.args.at c.requires);
+      next = refl;
+      within = omega arith;
+    }
