@@ -28,13 +28,7 @@ pub fn waiting_in(lengths: &[usize; MOST_QUEUES as usize], count: usize) -> usiz
     requires by_index { (q : ℕ) → get_or lengths.now q 0 ≤ room }
     ensures { Waits lengths.now count result }
 {
-    let mut n: usize = 0;
-    let mut q: usize = 0;
-    while q < count {
-        n += lengths[q];
-        q += 1;
-    }
-    n
+    lengths[..count].iter().sum()
 }
 
 // Where what waits in so many rings leads. Between rings, too, a state is its row. The messages before a queue are counted only where the
@@ -57,8 +51,7 @@ pub fn follow_rings(
         return Led::Lost(0);
     }
     let mut row = row_of(from.state());
-    let mut q: usize = 0;
-    while q < count {
+    for q in 0..count {
         match follow(
             arcs,
             row,
@@ -69,10 +62,7 @@ pub fn follow_rings(
             lengths[q],
         ) {
             Followed::Lost(n) => return Led::Lost(waiting_in(lengths, q) + n),
-            Followed::At(next) => {
-                row = next;
-                q += 1;
-            }
+            Followed::At(next) => row = next,
         }
     }
     Led::To(state_of(row))

@@ -3,7 +3,7 @@ ghost use Rattle.std.specs.Prelude.{◌≡◌};
 ghost use Rattle.replaying_queues.specs.Laying.{Layable, Lays};
 
 use crate::QUEUE_ROOM;
-use crate::words::put_word;
+use crate::ring::Ring;
 use numbers::number::wide;
 use tables::tables::{MOST_QUEUES, MOST_STARTING, Queues};
 
@@ -11,13 +11,7 @@ use tables::tables::{MOST_QUEUES, MOST_STARTING, Queues};
 pub fn starting_lengths(queues: Queues) -> [usize; MOST_QUEUES as usize]
     ensures { result ≡ queues.lengths }
 {
-    let lengths = queues.lengths;
-    [
-        wide(lengths[0]),
-        wide(lengths[1]),
-        wide(lengths[2]),
-        wide(lengths[3]),
-    ]
+    queues.lengths.map(wide)
 }
 
 // The bytes of a ring after its messages stay: no step reads them before it has written them.
@@ -27,12 +21,14 @@ pub fn lay_starting(memory: &mut [u8], queues: Queues)
 {
     let lengths = queues.lengths;
     let contents = queues.contents;
-    let count = wide(queues.count);
-    let mut q: usize = 0;
-    while q < count {
+    for q in 0..wide(queues.count) {
         let at = q * MOST_STARTING as usize;
         let n = wide(lengths[q]);
-        put_word(memory, q * QUEUE_ROOM, 0, &contents, at, n);
-        q += 1;
+        let ring = Ring {
+            base: q * QUEUE_ROOM,
+            head: 0,
+            count: 0,
+        };
+        ring.put(memory, &contents[at..at + n]);
     }
 }

@@ -3,6 +3,7 @@
 
 pub mod follow;
 pub mod laying;
+pub mod ring;
 pub mod settle;
 pub mod words;
 

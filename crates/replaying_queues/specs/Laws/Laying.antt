@@ -14,16 +14,6 @@ use Rattle.replaying_queues.specs.Ring.{waiting, ring_at, rings, put_round}
 use Rattle.replaying_queues.specs.Laying.{Layable, fronts, Lays}
 use Rattle.replaying_queues.specs.Laws.Waiting.{push_word, put_other, put_past, put_length}
 
--- a table of four entries, one by one
-pub four_entries : (l : List ℕ) {a b c d : ℕ} → length l ≡ most_queues → a ≡ get_or l 0 0 → b ≡ get_or l 1 0 → c ≡ get_or l 2 0 → d ≡ get_or l 3 0
-    → a ∷ b ∷ c ∷ d ∷ [] ≡ l
-four_entries [] n e f g h = absurd (omega arith)
-four_entries (_ ∷ []) n e f g h = absurd (omega arith)
-four_entries (_ ∷ _ ∷ []) n e f g h = absurd (omega arith)
-four_entries (_ ∷ _ ∷ _ ∷ []) n e f g h = absurd (omega arith)
-four_entries (_ ∷ _ ∷ _ ∷ _ ∷ []) n e f g h = rw (e, f, g, h)
-four_entries (_ ∷ _ ∷ _ ∷ _ ∷ _ ∷ l) n e f g h = absurd (omega arith)
-
 -- nothing is laid yet
 pub lay_begin : (lengths contents mem : List ℕ) → Lays lengths contents 0 mem mem
 lay_begin lengths contents mem = record { queues = refl; past = refl; long = refl }

@@ -1,7 +1,8 @@
 -- How many messages wait in the first queues, queue by queue; where all of them lead, by what is found.
-use Rattle.std.specs.Prelude.{ℕ, suc, ◌+◌, ◌≤◌, ◌<◌, ◌≡◌, refl, List, [], ◌∷◌, ◌++◌, length, get_or}
+use Rattle.std.specs.Prelude.{ℕ, zero, suc, ◌+◌, ◌≤◌, ◌<◌, ◌≡◌, refl, List, [], ◌∷◌, ◌++◌, length, get_or, sum, take}
 use Rattle.std.proofs.Common.{zero-le, sym, ap, subst, ◌∙◌, append-nil, arith, add-one, length-append}
 use Rattle.std.proofs.Math.Option.{Option, none, some}
+use Rattle.std.proofs.lemmas.List.Sums.{sum_by_more}
 use Rattle.tables.specs.Limits.{most_pool}
 use Rattle.tables.specs.Kinds.{reached_of}
 use Rattle.tables.specs.Lookup.{along_arc}
@@ -38,18 +39,19 @@ first_more mem heads lengths q =
 ring_length : (mem heads lengths : List ℕ) (q : ℕ) → length (ring_at mem heads lengths q) ≡ get_or lengths q 0
 ring_length mem heads lengths q = waiting_length mem _ (get_or heads q 0) (get_or lengths q 0)
 
-pub waits_none : (lengths : List ℕ) → Waits lengths 0 0
-waits_none lengths = record { is = λ mem heads. refl; most = omega arith }
-
-pub waits_more : {lengths : List ℕ} {q n : ℕ} → Waits lengths q n → get_or lengths q 0 ≤ room → Waits lengths (q + 1) (n + get_or lengths q 0)
-waits_more {lengths} {q} W h =
+-- as many as the sum of the first lengths
+pub waits : (lengths : List ℕ) → ((q : ℕ) → get_or lengths q 0 ≤ room) → (q : ℕ) → q ≤ length lengths → Waits lengths q (sum (take q lengths))
+waits lengths held zero h = record { is = λ mem heads. refl; most = omega arith }
+waits lengths held (suc q) h =
+    let W = waits lengths held q (omega arith) in
+    let next : sum (take (suc q) lengths) ≡ sum (take q lengths) + get_or lengths q 0 =
+    ap (λ k. sum (take k lengths)) (sym (add-one q)) ∙ sum_by_more (λ x. x) lengths q 0 (omega arith) in
     record {
-      is = λ mem heads. omega (arith, W.is mem heads, first_more mem heads lengths q, ring_length mem heads lengths q);
-      most = omega (arith, W.most);
+      is =
+          λ mem heads.
+          omega (arith, W.is mem heads, next, ap (λ k. length (word (rings mem heads lengths k))) (add-one q), first_more mem heads lengths q, ring_length mem heads lengths q);
+      most = omega (arith, W.most, next, held q);
     }
-
-pub waits_at : {lengths : List ℕ} {q k n : ℕ} → Waits lengths q n → q ≡ k → Waits lengths k n
-waits_at {lengths} {n = n} W e = subst (λ k. Waits lengths k n) e W
 
 -- no more messages of a ring are followed than it has room for
 far_most : (arcs : List ℕ) (x : Option ℕ) (u : List ℕ) → far_arcs arcs x u ≤ length u

@@ -1,11 +1,11 @@
 -- The loops over a ring, turn by turn: a word is put, and asked for.
-use Rattle.std.specs.Prelude.{ℕ, ◌+◌, ◌-◌, ◌%◌, ◌≤◌, ◌<◌, ◌≡◌, refl, Bool, true, false, List, [], ◌∷◌, eqb, length, set, take, drop}
-use Rattle.std.proofs.Common.{sym, ap₂, ◌∙◌, true≢false, add-zero, sub-eq-zero_of_le, length-drop, length-take-le, eq-eqb, ne_eqb}
+use Rattle.std.specs.Prelude.{ℕ, suc, ◌+◌, ◌-◌, ◌%◌, ◌≤◌, ◌<◌, ◌≡◌, refl, Bool, true, false, List, [], ◌∷◌, eqb, length, set, drop}
+use Rattle.std.proofs.Common.{sym, ap₂, ◌∙◌, true≢false, add-zero, sub-eq-zero_of_le, drop-cons, eq-eqb, ne_eqb}
 use Rattle.std.proofs.Math.Path.{ap}
 use Rattle.std.proofs.Math.Option.{Option, none, some}
 use native.Mathlib.Omega.{arith}
 use Rattle.std.proofs.Math.Nat.{sub-zero}
-use Rattle.std.proofs.Math.ListN.{get_or, length-set}
+use Rattle.std.proofs.Math.ListN.{get_or, length-set, drop_of_length-le}
 use Rattle.numbers.specs.Laws.Parts.{one_more_lem}
 use Rattle.theory_replay.specs.Rules.{room}
 use Rattle.theory_model.specs.Model.{strip}
@@ -32,6 +32,17 @@ module _ (mem : List ℕ) (base head n : ℕ) where
   pub waiting_end : {i : ℕ} → n ≤ i → waiting_from mem base head n i ≡ []
   unfolding standing
   waiting_end h = rw (sub-eq-zero_of_le h)
+
+-- WHAT IS LEFT of a word
+module _ (w : List ℕ) where
+  pub word_next : {i : ℕ} → i < length w → drop i w ≡ get_or w i 0 ∷ drop (i + 1) w
+  word_next {i} h = drop-cons w i 0 h ∙ ap (λ k. get_or w i 0 ∷ drop k w) (let z : suc i ≡ i + 1 = omega arith in z)
+
+  pub word_end : {i : ℕ} → length w ≤ i → drop i w ≡ []
+  word_end h = drop_of_length-le w h
+
+  pub word_one : length w ≡ 1 → w ≡ get_or w 0 0 ∷ []
+  word_one e = word_next {i = 0} (omega arith) ∙ ap (λ l. get_or w 0 0 ∷ l) (word_end {i = 1} (omega arith))
 
 -- A WORD IS PUT
 pub record Putting (mem₀ : List ℕ) (base from : ℕ) (w mem : List ℕ) (p : ℕ) (rest : List ℕ) : Type 0 where
@@ -112,13 +123,9 @@ strip_short [] q h = absurd (omega arith)
 strip_short (m ∷ w) [] h = refl
 strip_short (m ∷ w) (n ∷ q) h = by_test (eqb m n) (λ t. rw (t, strip) (strip_short w q (omega arith))) (λ f. rw (f, strip))
 
-pub ask_short : (mem : List ℕ) (base head count : ℕ) (rows : List ℕ) (at n : ℕ) → at + n ≤ length rows → count < n
-    → false ≡ began (strip (take n (drop at rows)) (waiting mem base head count))
-ask_short mem base head count rows at n within short =
-    let w = take n (drop at rows) in
-    let q = waiting mem base head count in
-    let long : length w ≡ n = length-take-le n (drop at rows) (simp length-drop (omega arith)) in
-    sym (ap began (strip_short w q (omega (arith, waiting_length mem base head count))))
+pub ask_short : (mem : List ℕ) (base head count : ℕ) (w : List ℕ) → count < length w → false ≡ began (strip w (waiting mem base head count))
+ask_short mem base head count w short =
+    sym (ap began (strip_short w (waiting mem base head count) (omega (arith, waiting_length mem base head count))))
 
 -- a queue begins with a word where what is left of it can be said
 pub began_some : (o : Option (List ℕ)) → true ≡ began o → (r : List ℕ) × (o ≡ some r)

@@ -24,7 +24,7 @@ loop-q-init c =
     let a = c.args in
     let row = c.row_of-row.ensures.begins in
     let begin = messages_begin a.memory.now a.heads.now a.lengths.now a.count in
-    (follow_begin (omega (arith, row.below)) c.requires.between begin, (count_begin refl begin, (row, omega arith)))
+    (follow_begin (omega (arith, row.below)) c.requires.between begin, (count_begin refl begin, row))
 
 pub follow-requires : goal.follow-requires
 follow-requires c = let p = c.requires in
@@ -32,7 +32,7 @@ follow-requires c = let p = c.requires in
     let inv = c.loop-q.invariant in
     let next = messages_next a.memory.now a.heads.now a.lengths.now a.count c.loop-q-test.true in
     let ring = one_ring p.rings c.loop-q-test.true in
-    record { arcs_small = p.arcs_small; state_row = inv.1.1.0; ring_at = record { within = ring.within; placed = ring.placed }; between = front_small inv.0 _ _ next }
+    record { arcs_small = p.arcs_small; state_row = inv.1.1; ring_at = record { within = ring.within; placed = ring.placed }; between = front_small inv.0 _ _ next }
 
 pub waiting_in-requires : goal.waiting_in-requires
 waiting_in-requires c = let R = c.requires.rings in record { count_le_most_queues = omega (arith, R.most, c.loop-q-test.true); by_index = R.held }
@@ -49,7 +49,7 @@ returns-in-Lost c =
     let next = messages_next a.memory.now a.heads.now a.lengths.now a.count c.loop-q-test.true in
     let inv = c.loop-q.invariant in
     let lost = followed_lost c.follow.ensures c.in-Lost.is in
-    leads_nowhere (c.row_of-row.ensures.state ∙ c.state.ensures) _ (follow_lost (follow_front inv.0 _ _ next lost.0) refl refl) (c.waiting_in.ensures.is a.memory.now a.heads.now) (count_lost inv.1.0 _ _ next inv.1.1.0.below lost.0 lost.1)
+    leads_nowhere (c.row_of-row.ensures.state ∙ c.state.ensures) _ (follow_lost (follow_front inv.0 _ _ next lost.0) refl refl) (c.waiting_in.ensures.is a.memory.now a.heads.now) (count_lost inv.1.0 _ _ next inv.1.1.below lost.0 lost.1)
 
 pub loop-q-preserved : goal.loop-q-preserved
 loop-q-preserved c =
@@ -57,14 +57,14 @@ loop-q-preserved c =
     let next = messages_next a.memory.now a.heads.now a.lengths.now a.count c.loop-q-test.true in
     let inv = c.loop-q.invariant in
     let found = followed_at c.follow.ensures c.in-At.is in
-    (follow_front inv.0 _ _ next found.1, (count_front inv.1.0 _ _ next found.1 found.0.below (first_more a.memory.now a.heads.now a.lengths.now c.loop-q.q), (found.0, omega arith)))
+    (follow_front inv.0 _ _ next found.1, (count_front inv.1.0 _ _ next found.1 found.0.below (first_more a.memory.now a.heads.now a.lengths.now c.loop-q.q), found.0))
 
 pub state_of-requires : goal.state_of-requires
-state_of-requires c = c.loop-q.invariant.1.1.0
+state_of-requires c = c.loop-q.invariant.1.1
 
 pub returns : goal.returns
 returns c =
     let a = c.args in
     let inv = c.loop-q.invariant in
     let end = messages_end a.memory.now a.heads.now a.lengths.now a.count c.loop-q-test.false in
-    leads_to_lem (c.row_of-row.ensures.state ∙ c.state.ensures) inv.1.1.0.below (follow_end inv.0 end refl) c.state_of.ensures
+    leads_to_lem (c.row_of-row.ensures.state ∙ c.state.ensures) inv.1.1.below (follow_end inv.0 end refl) c.state_of.ensures

@@ -1,4 +1,3 @@
-use Prim.Native.Nat.{◌-◌, ◌≤◌}
 use lib.ListN.{length}
 use Rattle.theory_model.specs.Diagram.{word}
 use Rattle.following.specs.Rows.{state_at, StateRow}
@@ -12,7 +11,4 @@ abbrev pub invariant-loop-q : goal.invariant-loop-q
 invariant-loop-q l =
     Following l.arcs (state_at l.initial.row) (word (rings l.memory l.heads l.lengths l.count)) (state_at l.row) (messages_from l.memory l.heads l.lengths l.count l.q)
     × (Counting l.arcs (state_at l.initial.row) (word (rings l.memory l.heads l.lengths l.count)) (length (word (rings l.memory l.heads l.lengths l.q))) (state_at l.row) (messages_from l.memory l.heads l.lengths l.count l.q)
-    × (StateRow l.row × (l.q ≤ l.count)))
-
-abbrev pub decreases-loop-q : goal.decreases-loop-q
-decreases-loop-q l = l.count - l.q
+    × StateRow l.row)

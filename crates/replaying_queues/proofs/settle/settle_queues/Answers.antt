@@ -8,25 +8,18 @@ use Rattle.replaying_queues.specs.Laws.Settle.{settled_long, settle_begin, settl
 use Rattle.replaying_queues.proofs.settle.settle_queues.Goals as goal
 
 pub loop-q-init : goal.loop-q-init
-loop-q-init c = (settle_begin c.requires, omega arith)
+loop-q-init c = settle_begin c.requires
 
-pub settle_queue-requires : goal.settle_queue-requires
-settle_queue-requires c =
+pub settle-requires : goal.settle-requires
+settle-requires c =
     let r = c.requires in
-    ring_as (one_ring r c.loop-q-test.true) (ap length c.loop-q.invariant.0 ∙ settled_long r c.loop-q.invariant.1)
+    rw c.of.ensures (ring_as (one_ring r c.loop-q-test.true) (ap length c.loop-q.invariant ∙ settled_long r (omega (arith, c.loop-q-test.true))))
 
 pub loop-q-preserved : goal.loop-q-preserved
-loop-q-preserved c =
-    let r = c.requires in
-    (settle_next r c.loop-q-test.true c.loop-q.invariant.0 c.settle_queue.ensures, omega arith)
-
-pub shape_of-memory : goal.shape_of-memory
-shape_of-memory c =
-    let r = c.requires in
-    ap length c.loop-q.invariant.0 ∙ settled_long r c.loop-q.invariant.1
+loop-q-preserved c = settle_next c.requires c.loop-q-test.true c.loop-q.invariant (rw c.of.ensures at c.settle.ensures)
 
 pub returns : goal.returns
 returns c =
     let a = c.args in
     let all : c.loop-q.q ≡ a.count = omega arith in
-    c.loop-q.invariant.0 ∙ ap (λ q. memory_after (rings a.memory.now a.heads a.lengths q) a.memory.now) all
+    c.loop-q.invariant ∙ ap (λ q. memory_after (rings a.memory.now a.heads.now a.lengths.now q) a.memory.now) all
