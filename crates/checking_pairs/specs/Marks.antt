@@ -40,13 +40,6 @@ pub record Pushed (seen queue : List ℕ) (tail h : ℕ) (o : Option Pair) (seen
 pub record Swept (seen queue : List ℕ) (tail : ℕ) (δ : Pair → ℕ → Option Pair) (x : Pair) (h left m : ℕ) (seen' queue' : List ℕ) (r : ℕ) : Type 0 where
   pub shows : Shows seen' queue' r (sweep δ same x h left m (view seen queue tail))
 
--- all entries are 0; those from k on are
-pub record Zeros (l : List ℕ) : Type 0 where
-  pub is : l ≡ replicate (length l) 0
-
-pub record ZerosFrom (l : List ℕ) (k : ℕ) : Type 0 where
-  pub each : (j : ℕ) → k ≤ j → get_or l j 0 ≡ 0
-
 -- nothing is marked
 pub record Blank (seen queue : List ℕ) : Type 0 where
   pub seen_blank : seen ≡ replicate (length seen) 0

@@ -3,4 +3,5 @@
 
 pub mod marks;
 pub mod moves;
+pub mod over;
 pub mod pairs;

@@ -2,11 +2,10 @@
 ghost use Rattle.std.specs.Prelude.{◌<◌};
 ghost use Rattle.checking_pairs.specs.Pairs.{most_codes, NodeOf, NodeFits, Coded};
 
-use numbers::number::wide;
 use tables::kinds::{DiagramState, Reached};
 
 // What a walk needs of its step or bad entry. Before it only messages below the cut are read, after it only those from the cut on.
-#[derive(Clone, Copy)]
+#[derive(Clone, Copy, Debug, PartialEq, Eq)]
 pub struct Walk {
     pub cut: u8,
     // The number of all messages.
@@ -35,28 +34,32 @@ pub const AFTER: usize = DiagramState::LIMIT * STRIDE;
 // The codes of both sides, and so the entries of a table that is lent.
 pub const CODES: usize = 2 * AFTER;
 
-pub fn code_of(x: Node) -> usize
-    requires { NodeFits x }
-    ensures { Coded x result }
-{
-    x.side + wide(x.source.0) * STRIDE + wide(x.target.0)
-}
-
-pub fn node_of(code: usize) -> Node
-    requires { code < most_codes }
-    ensures { NodeOf code result }
-{
-    if code < AFTER {
-        return Node {
-            side: 0,
-            source: DiagramState((code / STRIDE) as u8),
-            target: Reached((code % STRIDE) as u8),
-        };
+impl Node {
+    // The number of the pair that this stands for.
+    pub fn code(self) -> usize
+        requires { NodeFits self }
+        ensures { Coded self result }
+    {
+        self.side + usize::from(self.source.0) * STRIDE + usize::from(self.target.0)
     }
-    let rest = code - AFTER;
-    Node {
-        side: AFTER,
-        source: DiagramState((rest / STRIDE) as u8),
-        target: Reached((rest % STRIDE) as u8),
+
+    // The pair of this number.
+    pub fn of(code: usize) -> Self
+        requires { code < most_codes }
+        ensures { NodeOf code result }
+    {
+        if code < AFTER {
+            return Node {
+                side: 0,
+                source: DiagramState((code / STRIDE) as u8),
+                target: Reached((code % STRIDE) as u8),
+            };
+        }
+        let rest = code - AFTER;
+        Node {
+            side: AFTER,
+            source: DiagramState((rest / STRIDE) as u8),
+            target: Reached((rest % STRIDE) as u8),
+        }
     }
 }

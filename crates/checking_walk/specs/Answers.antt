@@ -1,28 +1,27 @@
 -- What the search answers.
 use Rattle.std.specs.Prelude.{◌≡◌, List, ℕ, ◌<◌}
+use Rattle.std.specs.Prelude as Code
 use Rattle.theory_exploration.specs.Search as Search
 use Rattle.theory_model.specs.Verdict.{Pair}
-use Rattle.checking_walk.specs.declared.search.Outcome.{Outcome}
-use Rattle.checking_walk.specs.declared.search.Outcome.TheVariants.{Found, Finished}
+use Rattle.checking_walk.specs.declared.search.Searched.{Searched}
 use Rattle.checking_pairs.specs.Marks.{Tables, view}
 
--- how many pairs were found
-abbrev pub tail_of : Outcome → ℕ
-tail_of (Found k tail) = tail
-tail_of (Finished tail) = tail
+-- a failing pair's place, or none, with the list of the pairs found
+abbrev pub said_failing : Code.Option ℕ → List (Search.Found Pair) → Search.Outcome Pair
+said_failing (Code.Some k) L = Search.found k L
+said_failing Code.None L = Search.finished L
 
 -- the answer over the tables that the search left
-abbrev pub said_outcome : Outcome → List ℕ → List ℕ → Search.Outcome Pair
-said_outcome (Found k tail) seen queue = Search.found k (view seen queue tail)
-said_outcome (Finished tail) seen queue = Search.finished (view seen queue tail)
+abbrev pub said_outcome : Searched → List ℕ → List ℕ → Search.Outcome Pair
+said_outcome r seen queue = said_failing r.failing (view seen queue r.found)
 
 -- a failing pair was found
-abbrev pub Within : Outcome → Type 0
-Within (Found k tail) = k < tail
-Within (Finished tail) = Unit {0}
+abbrev pub Within : Code.Option ℕ → ℕ → Type 0
+Within (Code.Some k) tail = k < tail
+Within Code.None tail = Unit {0}
 
 -- the answer is that of the definition, and the tables show the list that it speaks of
-pub record Answered (seen queue : List ℕ) (r : Outcome) (o : Search.Outcome Pair) : Type 0 where
+pub record Answered (seen queue : List ℕ) (r : Searched) (o : Search.Outcome Pair) : Type 0 where
   pub is : said_outcome r seen queue ≡ o
-  pub tables : Tables seen queue (tail_of r)
-  pub within : Within r
+  pub tables : Tables seen queue r.found
+  pub within : Within r.failing r.found

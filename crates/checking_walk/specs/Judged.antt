@@ -1,5 +1,6 @@
 -- The judgement of a walk over the tables of a session: how many pairs there are, or the contents of the first that fails.
 use Rattle.std.specs.Prelude.{◌≡◌, List, [], ◌∷◌, ◌++◌, reverse, ℕ, suc, ◌≤◌, length, take, drop}
+use Rattle.std.specs.Prelude.{Result, Ok, Err}
 use Rattle.std.proofs.Math.Option.{some}
 use Rattle.theory_exploration.specs.Search.{Outcome, found, finished, trace}
 use Rattle.theory_exploration.specs.Size.{Size}
@@ -10,8 +11,7 @@ use Rattle.theory_model.specs.Judge as Judge
 use Rattle.theory_model.specs.Judge.{same, passes, fails, walk_of}
 use Rattle.theory_model.specs.Laws.Items.{IsItem}
 use Rattle.checking_pairs.specs.declared.pairs.Walk.{Walk}
-use Rattle.checking_walk.specs.declared.judge.Judged.{Judged}
-use Rattle.checking_walk.specs.declared.judge.Judged.TheVariants.{Passes, Fails}
+use Rattle.checking_walk.specs.declared.judge.Shown.{Shown}
 use Rattle.checking_pairs.specs.Marks.{Blank}
 use Rattle.checking_pairs.specs.Over.{go_over, search_over, walk_over, Over}
 use Rattle.checking_walk.specs.Shown.{part_over}
@@ -38,17 +38,17 @@ contents_shown (passes n) = []
 contents_shown (fails u) = u
 
 -- what the code's answer says, with the contents buffer that it left
-abbrev pub said_judged : Judged → List ℕ → Judge.Judged
-said_judged (Passes n) contents = passes n
-said_judged (Fails n) contents = fails (take n contents)
+abbrev pub said_judged : Result ℕ Shown → List ℕ → Judge.Judged
+said_judged (Ok n) contents = passes n
+said_judged (Err s) contents = fails (take s.0 contents)
 
 -- how many messages are shown
-abbrev pub shown_by : Judged → ℕ
-shown_by (Passes n) = 0
-shown_by (Fails n) = n
+abbrev pub shown_by : Result ℕ Shown → ℕ
+shown_by (Ok n) = 0
+shown_by (Err s) = s.0
 
 -- THE ANSWER is the definition's, the tables are all 0 again, and the contents shown fill the front of the buffer
-pub record WalkJudged (arcs finals rows : List ℕ) (w : Walk) (root : Pair) (contents seen' queue' contents' : List ℕ) (r : Judged) : Type 0 where
+pub record WalkJudged (arcs finals rows : List ℕ) (w : Walk) (root : Pair) (contents seen' queue' contents' : List ℕ) (r : Result ℕ Shown) : Type 0 where
   pub reply : said_judged r contents' ≡ judged_over arcs finals rows w root
   pub blank : Blank seen' queue'
   pub number : shown_by r ≡ length (contents_shown (judged_over arcs finals rows w root))
@@ -64,5 +64,5 @@ pub record WalksItem (arcs finals rows : List ℕ) (w : Walk) (root : Pair) (S :
   pub begun : walk_of S i ≡ some (record { walk = walk_over rows w; root = root })
 
 -- THE NUMBER of a walk that passes is the size of the item's set of pairs
-pub record Counts (arcs finals rows : List ℕ) (w : Walk) (root : Pair) (r : Judged) : Type 0 where
-  pub size : (S : Session) (i : Item) → WalksItem arcs finals rows w root S i → (n : ℕ) → r ≡ Passes n → Size (Visited S i) n
+pub record Counts (arcs finals rows : List ℕ) (w : Walk) (root : Pair) (r : Result ℕ Shown) : Type 0 where
+  pub size : (S : Session) (i : Item) → WalksItem arcs finals rows w root S i → (n : ℕ) → r ≡ Ok n → Size (Visited S i) n

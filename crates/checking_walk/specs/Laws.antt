@@ -7,6 +7,5 @@ pub mod Valid
 pub mod Lowest
 pub mod Edges
 pub mod Shown
-pub mod Turning
 pub mod Judged
 pub mod Items

@@ -1,6 +1,8 @@
 -- THE CONTENTS SHOWN for a pair that was found: read back along the parents in the lent tables, an edge by its lowest letter, and the step
 -- as the messages that it takes out.
 use Rattle.std.specs.Prelude.{◌≡◌, true, false, List, [], ◌∷◌, ◌++◌, reverse, ℕ, zero, suc, ◌+◌, ◌-◌, ◌<◌, eqb, length, get_or, drop}
+use Rattle.std.specs.Prelude.{◌≤◌, MatchOption}
+use Rattle.std.specs.Prelude as Code
 use Rattle.std.proofs.lemmas.List.Edits.{sets}
 use Rattle.theory_exploration.specs.Search.{lowest}
 use Rattle.theory_model.specs.Judge.{same}
@@ -37,6 +39,10 @@ module _ (arcs rows : List ℕ) (w : Walk) where
     -- parents stand earlier, so a place has no more edges than its number
     abbrev pub shown_over : ℕ → List ℕ
     shown_over k = shown_from k k
+
+-- the lowest of the messages below end that leads somewhere is low; where none does that is the end, or past it
+pub record LowestBelow (end low : ℕ) (r : Code.Option ℕ) : Type 0 where
+  pub is : MatchOption r (end ≤ low) (λ m. (m ≡ low) × (m < end))
 
 -- place k of the queue has a pair
 pub record Placed (seen queue : List ℕ) (k : ℕ) : Type 0 where

@@ -1,53 +1,47 @@
 // The judgement of one walk: searched, the contents shown, and the tables cleared.
 ghost use Rattle.std.specs.Prelude.{◌≡◌, ◌≤◌, length};
-ghost use Rattle.tables.specs.Limits.{most_pool, contents_least};
+ghost use Rattle.tables.specs.Limits.{contents_least};
 ghost use Rattle.checking_pairs.specs.Pairs.{most_codes, pair_of, NodeFits};
 ghost use Rattle.checking_pairs.specs.Marks.{Blank};
-ghost use Rattle.checking_pairs.specs.Over.{Lent};
 ghost use Rattle.checking_walk.specs.Judged.{ShownFits, WalkJudged, Counts};
 
 use crate::contents::show;
-use crate::search::{Outcome, search};
+use crate::search::search;
 use checking_pairs::marks::clear;
-use checking_pairs::pairs::{Node, Walk};
+use checking_pairs::over::WalkOver;
+use checking_pairs::pairs::Node;
 
-// No pair fails, and so many there are; or so many messages are shown.
-#[derive(Clone, Copy)]
-pub enum Judged {
-    Passes(usize),
-    Fails(usize),
-}
+// A pair fails, and the contents that lead to it are shown: so many messages.
+#[derive(Clone, Copy, Debug, PartialEq, Eq)]
+pub struct Shown(pub usize);
 
+// The number of different pairs, if none fails.
 pub fn judge(
-    arcs: &[u8],
-    finals: &[u8],
-    rows: &[u8],
-    w: Walk,
+    t: &WalkOver<'_>,
     root: Node,
     seen: &mut [u16],
     queue: &mut [u16],
     contents: &mut [u8],
-) -> Judged
-    requires lent { Lent arcs.now rows.now w }
-    requires finals_len { length finals.now ≡ most_pool }
+) -> Result<usize, Shown>
     requires node_fits { NodeFits root }
     requires blank { Blank seen.old queue.old }
     requires seen_len { length seen.old ≡ most_codes }
     requires queue_len { length queue.old ≡ most_codes }
-    requires shown_fits { ShownFits arcs.now finals.now rows.now w (pair_of root) }
+    requires shown_fits { ShownFits t.now.arcs.now t.now.finals.now t.now.rows.now t.now.walk (pair_of root) }
     requires contents_least_in_bounds { contents_least ≤ length contents.old }
-    ensures walk_judged { WalkJudged arcs.now finals.now rows.now w (pair_of root) contents.old seen.new queue.new contents.new result }
-    ensures counts { Counts arcs.now finals.now rows.now w (pair_of root) result }
+    ensures walk_judged { WalkJudged t.now.arcs.now t.now.finals.now t.now.rows.now t.now.walk (pair_of root) contents.old seen.new queue.new contents.new result }
+    ensures counts { Counts t.now.arcs.now t.now.finals.now t.now.rows.now t.now.walk (pair_of root) result }
 {
-    match search(arcs, finals, rows, w, root, seen, queue) {
-        Outcome::Finished(tail) => {
-            clear(seen, queue, tail);
-            Judged::Passes(tail)
+    let s = search(t, root, seen, queue);
+    match s.failing {
+        None => {
+            clear(seen, queue, s.found);
+            Ok(s.found)
         }
-        Outcome::Found(k, tail) => {
-            let n = show(arcs, rows, w, seen, queue, k, contents);
-            clear(seen, queue, tail);
-            Judged::Fails(n)
+        Some(k) => {
+            let n = show(t, seen, queue, k, contents);
+            clear(seen, queue, s.found);
+            Err(Shown(n))
         }
     }
 }

@@ -1,89 +1,91 @@
 -- Clearing: what is still marked is in the part of the queue that is still to be visited.
-use Rattle.std.specs.Prelude.{◌≡◌, refl, ◌⊎◌, Bool, true, false, not, List, [], ◌∷◌, ℕ, zero, suc, ◌-◌, ◌≤◌, ◌<◌, eqb, length, get_or, set, take, replicate}
-use Rattle.std.proofs.Common.{sym, ap, ◌∙◌, inl, inr, ⊎_elim, true≢false, arith, length-set, get_or-set_same, get_or-set_other, ext_get_or, eqb-true}
-use Rattle.std.proofs.lemmas.List.{length-replicate, get_or-replicate}
+use Rattle.std.specs.Prelude.{◌≡◌, refl, ◌⊎◌, Bool, true, false, not, List, [], ◌∷◌, ◌++◌, ℕ, zero, suc, ◌+◌, ◌≤◌, ◌<◌, eqb, length, get_or, set, take, drop, replicate}
+use Rattle.std.proofs.Common.{sym, ap, ap₂, ◌∙◌, inl, inr, ⊎_elim, true≢false, arith, length-set, length-append, get_or-set_same, get_or-set_other, get_or-take, get_or-drop, length-take-le, ext_get_or, eqb-true}
+use Rattle.std.proofs.lemmas.List.{length-replicate, get_or-replicate, replicate-append-replicate}
 use Rattle.std.proofs.lemmas.Bool.{eqb-false}
 use Rattle.checking_pairs.specs.Pairs.{most_codes}
+use Rattle.checking_pairs.specs.Laws.Marks.{tables_most}
 use Rattle.theory_exploration.specs.Marks.{mem, count}
-use Rattle.checking_pairs.specs.Marks.{Tables, Zeros, ZerosFrom, Blank}
+use Rattle.checking_pairs.specs.Marks.{Tables, Blank}
 
 all_zero : (l : List ℕ) → ((c : ℕ) → get_or l c 0 ≡ 0) → l ≡ replicate (length l) 0
 all_zero l e =
     ext_get_or 0 l (replicate (length l) 0) (sym (length-replicate (length l) 0))
     (λ i h. e i ∙ sym (get_or-replicate (length l) i 0 0 h))
 
--- THE MARKS of the places below k are left
-pub record Unmarking (seen queue : List ℕ) (k : ℕ) : Type 0 where
+-- THE MARKS of the codes from place k on are left
+pub record Unmarking (seen codes : List ℕ) (k : ℕ) : Type 0 where
   pub long : length seen ≡ most_codes
-  pub marks : (c : ℕ) → (get_or seen c 0 ≡ 0) ⊎ ((j : ℕ) × (j < k) × (get_or queue j 0 ≡ c))
+  pub marks : (c : ℕ) → (get_or seen c 0 ≡ 0) ⊎ ((j : ℕ) × (k ≤ j) × (j < length codes) × (get_or codes j 0 ≡ c))
 
--- a member of the front has its place there
-mem_place : (c n : ℕ) (l : List ℕ) → mem c (take n l) ≡ true → (j : ℕ) × (j < n) × (get_or l j 0 ≡ c)
-mem_place c zero l e = absurd (true≢false (sym e))
-mem_place c (suc n) [] e = absurd (true≢false (sym e))
-mem_place c (suc n) (a ∷ l) e = by_test (eqb a c) refl e (mem_place c n l)
+-- a member has its place
+mem_place : (c : ℕ) (l : List ℕ) → mem c l ≡ true → (j : ℕ) × (0 ≤ j) × (j < length l) × (get_or l j 0 ≡ c)
+mem_place c [] e = absurd (true≢false (sym e))
+mem_place c (a ∷ l) e = by_test (eqb a c) refl e (mem_place c l)
   where
-    by_test : (b : Bool) → eqb a c ≡ b → elim b [ true ↦ true | false ↦ mem c (take n l) ] ≡ true
-        → (mem c (take n l) ≡ true → (j : ℕ) × (j < n) × (get_or l j 0 ≡ c)) → (j : ℕ) × (j < suc n) × (get_or (a ∷ l) j 0 ≡ c)
-    by_test true t e below = (0, omega arith, eqb-true a c t)
-    by_test false t e below = let r = below e in (suc r.0, omega (arith, r.1), r.2)
+    by_test : (b : Bool) → eqb a c ≡ b → elim b [ true ↦ true | false ↦ mem c l ] ≡ true
+        → (mem c l ≡ true → (j : ℕ) × (0 ≤ j) × (j < length l) × (get_or l j 0 ≡ c))
+        → (j : ℕ) × (0 ≤ j) × (j < length (a ∷ l)) × (get_or (a ∷ l) j 0 ≡ c)
+    by_test true t e below = (0, omega arith, omega arith, eqb-true a c t)
+    by_test false t e below =
+        let r = below e in
+        let l : r.0 < length l = r.2 in
+        (suc r.0, omega arith, omega arith, r.3)
 
-pub unmark_begin : {seen queue : List ℕ} {tail : ℕ} → Tables seen queue tail → Unmarking seen queue tail
-unmark_begin {seen} {queue} {tail} T = record { long = T.seen_long; marks = λ c. by_test c (eqb (get_or seen c 0) 0) refl }
-  where
-    by_test : (c : ℕ) (b : Bool) → eqb (get_or seen c 0) 0 ≡ b → (get_or seen c 0 ≡ 0) ⊎ ((j : ℕ) × (j < tail) × (get_or queue j 0 ≡ c))
-    by_test c true t = inl (eqb-true (get_or seen c 0) 0 t)
-    by_test c false t = inr (mem_place c tail queue (T.known c ∙ ap not t))
+module _ {seen queue : List ℕ} {tail : ℕ} (T : Tables seen queue tail) where
+  pub tail_within : tail ≤ length queue
+  tail_within = omega (arith, tables_most T, T.queue_long)
 
-module _ {seen queue : List ℕ} {k : ℕ} (U : Unmarking seen queue k) where
-  pub unmark_next : {code : ℕ} → 0 < k → code ≡ get_or queue (k - 1) 0 → code < most_codes → Unmarking (set seen code 0) queue (k - 1)
-  unmark_next {code} l e small =
+  pub front_long : tail ≡ length (take tail queue)
+  front_long = sym (length-take-le tail queue tail_within)
+
+  pub front_small : (k : ℕ) → k < length (take tail queue) → get_or (take tail queue) k 0 < most_codes
+  front_small k h = rw (get_or-take tail queue k 0 (omega (arith, front_long))) (T.codes k)
+
+  pub unmark_begin : Unmarking seen (take tail queue) 0
+  unmark_begin = record { long = T.seen_long; marks = λ c. by_test c (eqb (get_or seen c 0) 0) refl }
+    where
+      by_test : (c : ℕ) (b : Bool) → eqb (get_or seen c 0) 0 ≡ b
+          → (get_or seen c 0 ≡ 0) ⊎ ((j : ℕ) × (0 ≤ j) × (j < length (take tail queue)) × (get_or (take tail queue) j 0 ≡ c))
+      by_test c true t = inl (eqb-true (get_or seen c 0) 0 t)
+      by_test c false t = inr (mem_place c (take tail queue) (T.known c ∙ ap not t))
+
+module _ {seen codes : List ℕ} {k : ℕ} (U : Unmarking seen codes k) where
+  pub unmark_next : {code : ℕ} → code ≡ get_or codes k 0 → code < most_codes → Unmarking (set seen code 0) codes (k + 1)
+  unmark_next {code} e small =
       record { long = length-set seen code 0 ∙ U.long; marks = λ c. by_test c (eqb c code) refl }
     where
-      other : (c : ℕ) → (c ≡ code → ⊥) → (get_or seen c 0 ≡ 0) ⊎ ((j : ℕ) × (j < k) × (get_or queue j 0 ≡ c))
-          → (get_or (set seen code 0) c 0 ≡ 0) ⊎ ((j : ℕ) × (j < k - 1) × (get_or queue j 0 ≡ c))
+      other : (c : ℕ) → (c ≡ code → ⊥) → (get_or seen c 0 ≡ 0) ⊎ ((j : ℕ) × (k ≤ j) × (j < length codes) × (get_or codes j 0 ≡ c))
+          → (get_or (set seen code 0) c 0 ≡ 0) ⊎ ((j : ℕ) × (k + 1 ≤ j) × (j < length codes) × (get_or codes j 0 ≡ c))
       other c n (inl z) = inl (get_or-set_other seen code c 0 0 n ∙ z)
       other c n (inr r) =
           let j : ℕ = r.0 in
-          let below : j < k = r.1 in
-          let apart : (j ≡ k - 1 → ⊥) = λ z. n (sym r.2 ∙ ap (λ i. get_or queue i 0) z ∙ sym e) in
-          inr (j, omega arith, r.2)
+          let from : k ≤ j = r.1 in
+          let apart : (j ≡ k → ⊥) = λ z. n (sym r.3 ∙ ap (λ i. get_or codes i 0) z ∙ sym e) in
+          inr (j, omega (arith, from, apart), r.2, r.3)
 
       by_test : (c : ℕ) (b : Bool) → eqb c code ≡ b
-          → (get_or (set seen code 0) c 0 ≡ 0) ⊎ ((j : ℕ) × (j < k - 1) × (get_or queue j 0 ≡ c))
+          → (get_or (set seen code 0) c 0 ≡ 0) ⊎ ((j : ℕ) × (k + 1 ≤ j) × (j < length codes) × (get_or codes j 0 ≡ c))
       by_test c true t =
           inl (ap (λ d. get_or (set seen code 0) d 0) (eqb-true c code t) ∙ get_or-set_same seen code 0 0 (omega (arith, U.long)))
       by_test c false t = other c (eqb-false c code t) (U.marks c)
 
-  pub unmark_end : k ≤ 0 → Zeros seen
+  pub unmark_end : length codes ≤ k → seen ≡ replicate (length seen) 0
   unmark_end h =
-      record { is = all_zero seen (λ c. ⊎_elim (λ z. z) (λ r. absurd (let below : r.0 < k = r.1 in omega arith)) (U.marks c)) }
+      all_zero seen
+      (λ c. ⊎_elim (λ z. z) (λ r. absurd (let from : k ≤ r.0 = r.1 in let below : r.0 < length codes = r.2 in omega arith)) (U.marks c))
 
--- THE ENTRIES of the places below k are left
-pub record Emptying (queue : List ℕ) (n k : ℕ) : Type 0 where
-  pub long : length queue ≡ n
-  pub most : k ≤ n
-  pub zeros : ZerosFrom queue k
-
-module _ {queue : List ℕ} {n k : ℕ} (E : Emptying queue n k) where
-  pub empty_next : 0 < k → Emptying (set queue (k - 1) 0) n (k - 1)
-  empty_next l =
-      record {
-        long = length-set queue (k - 1) 0 ∙ E.long;
-        most = omega (arith, E.most);
-        zeros = record { each = λ j h. by_test j h (eqb j (k - 1)) refl };
-      }
-    where
-      by_test : (j : ℕ) → k - 1 ≤ j → (b : Bool) → eqb j (k - 1) ≡ b → get_or (set queue (k - 1) 0) j 0 ≡ 0
-      by_test j h true t =
-          ap (λ i. get_or (set queue (k - 1) 0) i 0) (eqb-true j (k - 1) t)
-          ∙ get_or-set_same queue (k - 1) 0 0 (omega (arith, E.long, E.most))
-      by_test j h false t =
-          let apart = eqb-false j (k - 1) t in
-          get_or-set_other queue (k - 1) j 0 0 apart ∙ E.zeros.each j (omega arith)
-
-  pub empty_end : k ≤ 0 → Zeros queue
-  empty_end h = record { is = all_zero queue (λ j. E.zeros.each j (omega arith)) }
+-- THE ENTRIES of the queue from its tail on are 0, and so all are when those of its front were set
+pub emptied : {seen queue front : List ℕ} {tail : ℕ} → Tables seen queue tail → front ≡ replicate (length (take tail queue)) 0
+    → front ++ drop tail queue ≡ replicate (length (front ++ drop tail queue)) 0
+emptied {seen} {queue} {front} {tail} T e =
+    let m = length (take tail queue) in
+    let n = length (drop tail queue) in
+    let rest = all_zero (drop tail queue) (λ j. get_or-drop tail queue j 0 ∙ T.rest (tail + j) (omega arith)) in
+    ap₂ ◌++◌ e rest
+    ∙ replicate-append-replicate m n 0
+    ∙ ap (λ n. replicate n 0)
+    (sym (length-append front (drop tail queue) ∙ ap (λ l. length l + n) e ∙ ap (λ k. k + n) (length-replicate m 0)))
 
 -- and tables that are all 0 show nothing
 blank_entry : (l : List ℕ) → l ≡ replicate (length l) 0 → (c : ℕ) → get_or l c 0 ≡ 0

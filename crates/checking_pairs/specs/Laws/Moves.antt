@@ -15,8 +15,7 @@ use Rattle.following.specs.Laws.Follow.{follow_is}
 use Rattle.following.specs.Laws.Words.{word_small}
 use Rattle.checking_pairs.specs.declared.pairs.Node.{Node}
 use Rattle.checking_pairs.specs.declared.pairs.Walk.{Walk}
-use Rattle.checking_pairs.specs.declared.moves.Next.{Next}
-use Rattle.checking_pairs.specs.declared.moves.Next.TheVariants as Answer
+use Rattle.std.specs.Prelude as Code
 use Rattle.tables.specs.Kinds.{reached_of}
 use Rattle.checking_pairs.specs.Pairs.{nowhere, after_side, side_of, pair_of, Coded}
 use Rattle.tables.specs.Laws.Lookup.{reached_nowhere, reached_state, reached_small}
@@ -61,13 +60,13 @@ pair_state entry y n =
     ap (λ o. some (side_of y.side y.source.0 o)) (reached_state n) ∙ sym (ap (pair entry (side_of y.side) (some y.source.0)) (reached_state n))
 
 -- what the code answers then
-pub leads_nowhere : {o : Option Pair} → o ≡ none → LeadsTo Answer.Nowhere o
+pub leads_nowhere : {o : Option Pair} → o ≡ none → LeadsTo Code.None o
 leads_nowhere e = record { is = sym e; small = tt }
 
-pub leads_pair : {y : Node} {c : ℕ} {o : Option Pair} → Coded y c → some (pair_of y) ≡ o → LeadsTo (Answer.Pair c) o
+pub leads_pair : {y : Node} {c : ℕ} {o : Option Pair} → Coded y c → some (pair_of y) ≡ o → LeadsTo (Code.Some c) o
 leads_pair k e = record { is = ap some k.is ∙ e; small = k.small }
 
-pub leads_as : {r : Next} {o o' : Option Pair} → o ≡ o' → LeadsTo r o → LeadsTo r o'
+pub leads_as : {r : Code.Option ℕ} {o o' : Option Pair} → o ≡ o' → LeadsTo r o → LeadsTo r o'
 leads_as e l = record { is = l.is ∙ e; small = l.small }
 
 -- where both read a message

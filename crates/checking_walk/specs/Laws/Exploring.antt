@@ -1,8 +1,9 @@
 -- The search in the code: the pairs before place k were taken, and what the definition says from there on is its answer.
 use Rattle.std.specs.Prelude.{◌≡◌, refl, Bool, ◌&&◌, List, [], ◌∷◌, ℕ, zero, suc, ◌+◌, ◌-◌, ◌≤◌, ◌<◌, length, get_or}
-use Rattle.std.proofs.Common.{sym, ap₂, subst, ◌∙◌, arith, add-one}
+use Rattle.std.proofs.Common.{sym, subst, ◌∙◌, arith, add-one}
 use Rattle.std.proofs.Math.Path.{ap}
 use Rattle.std.proofs.Math.Bool.{true, false, not}
+use mathlib.Core.Bool.{beq}
 use Rattle.std.proofs.Math.Option.{Option, some}
 use Rattle.std.proofs.Math.Nat.{sub-zero}
 use Rattle.std.proofs.Math.ListN.{get_elem?}
@@ -14,8 +15,8 @@ use Rattle.theory_model.specs.Verdict.{Pair}
 use Rattle.theory_model.specs.Judge.{same}
 use Rattle.tables.specs.Lookup.{final_at}
 use Rattle.checking_pairs.specs.declared.pairs.Node.{Node}
-use Rattle.checking_walk.specs.declared.search.Outcome.{Outcome}
-use Rattle.checking_walk.specs.declared.search.Outcome.TheVariants as Answer
+use Rattle.std.specs.Prelude as Code
+use Rattle.checking_walk.specs.declared.search.Searched.{Searched}
 use Rattle.tables.specs.Kinds.{reached_of}
 use Rattle.checking_pairs.specs.Pairs.{most_codes, side_of, decode, pair_of, NodeFits}
 use Rattle.tables.specs.Laws.Lookup.{reached_small}
@@ -42,7 +43,7 @@ module _ {M : ℕ} {δ : Pair → ℕ → Option Pair} {p : Pair → Bool} {seen
   exploring_begin T = record { tables = T; taken = omega arith; is = ap (λ n. search M δ same p n 0 (view seen queue tail)) (sub-zero most_codes) }
 
   module _ {k : ℕ} {o : Search.Outcome Pair} (E : Exploring M δ p seen queue tail k o) where
-    pub exploring_end : tail ≤ k → Answered seen queue (Answer.Finished tail) o
+    pub exploring_end : tail ≤ k → Answered seen queue (record { failing = Code.None; found = tail }) o
     exploring_end h =
         record {
           is =
@@ -61,7 +62,7 @@ module _ {M : ℕ} {δ : Pair → ℕ → Option Pair} {p : Pair → Bool} {seen
       fuel : most_codes - k ≡ suc (most_codes - (k + 1))
       fuel = one_more_lem (omega (arith, tables_most E.tables))
 
-      pub exploring_found : p (decode (get_or queue k 0)) ≡ true → Answered seen queue (Answer.Found k tail) o
+      pub exploring_found : p (decode (get_or queue k 0)) ≡ true → Answered seen queue (record { failing = Code.Some k; found = tail }) o
       exploring_found t =
           record {
             is =
@@ -88,9 +89,9 @@ module _ {M : ℕ} {δ : Pair → ℕ → Option Pair} {p : Pair → Bool} {seen
 
 -- WHETHER A PAIR FAILS
 module _ (finals : List ℕ) (entry : Bool) (x : Node) where
-  pub fails_before : x.side ≡ 0 → wrong_over finals entry (pair_of x) ≡ false
+  pub fails_before : x.side ≡ 0 → false ≡ wrong_over finals entry (pair_of x)
   unfolding wrong_over
-  fails_before e = ap (λ k. wrong_over finals entry (side_of k x.source.0 (reached_of x.target.0))) e
+  fails_before e = sym (ap (λ k. wrong_over finals entry (side_of k x.source.0 (reached_of x.target.0))) e)
 
   module _ (fits : NodeFits x) (far : x.side ≡ 0 → ⊥) where
     fails_after : wrong_over finals entry (pair_of x)
@@ -101,27 +102,34 @@ module _ (finals : List ℕ) (entry : Bool) (x : Node) where
         ∙ ap (λ o. final_at finals o && elim entry [ true ↦ final_at finals (reached_of x.target.0) | false ↦ not (final_at finals (reached_of x.target.0)) ])
         (sym (reached_small fits.source))
 
-    pub fails_source : final_at finals (reached_of x.source.0) ≡ false → wrong_over finals entry (pair_of x) ≡ false
+    pub fails_source : final_at finals (reached_of x.source.0) ≡ false → false ≡ wrong_over finals entry (pair_of x)
     fails_source e =
-        fails_after ∙ ap (λ b. b && elim entry [ true ↦ final_at finals (reached_of x.target.0) | false ↦ not (final_at finals (reached_of x.target.0)) ]) e
+        sym (fails_after ∙ ap (λ b. b && elim entry [ true ↦ final_at finals (reached_of x.target.0) | false ↦ not (final_at finals (reached_of x.target.0)) ]) e)
 
-    pub fails_entry : final_at finals (reached_of x.source.0) ≡ true → entry ≡ true → wrong_over finals entry (pair_of x) ≡ final_at finals (reached_of x.target.0)
-    fails_entry e t =
-        fails_after
-        ∙ ap₂ (λ b d. b && elim d [ true ↦ final_at finals (reached_of x.target.0) | false ↦ not (final_at finals (reached_of x.target.0)) ]) e t
-
-    pub fails_step : final_at finals (reached_of x.source.0) ≡ true → entry ≡ false → wrong_over finals entry (pair_of x) ≡ not (final_at finals (reached_of x.target.0))
-    fails_step e t =
-        fails_after
-        ∙ ap₂ (λ b d. b && elim d [ true ↦ final_at finals (reached_of x.target.0) | false ↦ not (final_at finals (reached_of x.target.0)) ]) e t
+    pub fails_target : final_at finals (reached_of x.source.0) ≡ true
+        → beq (final_at finals (reached_of x.target.0)) entry ≡ wrong_over finals entry (pair_of x)
+    fails_target e =
+        by_kind entry (final_at finals (reached_of x.target.0))
+        ∙ sym (fails_after ∙ ap (λ b. b && elim entry [ true ↦ final_at finals (reached_of x.target.0) | false ↦ not (final_at finals (reached_of x.target.0)) ]) e)
+      where
+        by_kind : (d b : Bool) → beq b d ≡ elim d [ true ↦ b | false ↦ not b ]
+        by_kind true true = refl
+        by_kind true false = refl
+        by_kind false true = refl
+        by_kind false false = refl
 
 -- THE FIRST PAIR is found from no other
 pub begins : {seen queue seen' queue' : List ℕ} {r : ℕ} {x y : Pair} → Pushed seen queue 0 0 (some x) seen' queue' r → x ≡ y
     → view seen' queue' r ≡ record { at = y; parent = 0 } ∷ []
 begins p e = p.shows.is ∙ ap (λ x. record { at = x; parent = 0 } ∷ []) e
 
-pub answered_as : {seen queue : List ℕ} {r : Outcome} {o o' : Search.Outcome Pair} → o ≡ o' → Answered seen queue r o → Answered seen queue r o'
+pub answered_as : {seen queue : List ℕ} {r : Searched} {o o' : Search.Outcome Pair} → o ≡ o' → Answered seen queue r o → Answered seen queue r o'
 answered_as {seen} {queue} {r} e a = subst (Answered seen queue r) e a
 
-pub answered_at : {seen queue : List ℕ} {r r' : Outcome} {o : Search.Outcome Pair} → r ≡ r' → Answered seen queue r o → Answered seen queue r' o
-answered_at {seen} {queue} {o = o} e a = subst (λ r. Answered seen queue r o) e a
+pub answered_none : {seen queue : List ℕ} {r : Searched} {o : Search.Outcome Pair} → r.failing ≡ Code.None → Answered seen queue r o
+    → Answered seen queue (record { failing = Code.None; found = r.found }) o
+answered_none {seen} {queue} {r} {o} e a = subst (λ f. Answered seen queue (record { failing = f; found = r.found }) o) e a
+
+pub answered_some : {seen queue : List ℕ} {r : Searched} {k : ℕ} {o : Search.Outcome Pair} → r.failing ≡ Code.Some k → Answered seen queue r o
+    → Answered seen queue (record { failing = Code.Some k; found = r.found }) o
+answered_some {seen} {queue} {r} {k} {o} e a = subst (λ f. Answered seen queue (record { failing = f; found = r.found }) o) e a

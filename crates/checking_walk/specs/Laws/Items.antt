@@ -14,7 +14,8 @@ use Rattle.theory_model.proofs.Verdicts.{judge_means}
 use Rattle.theory_model.specs.Laws.Searches.{search_is}
 use Rattle.theory_model.specs.Laws.Lengths.{taken, showing, shown_bound}
 use Rattle.checking_pairs.specs.declared.pairs.Walk.{Walk}
-use Rattle.checking_walk.specs.declared.judge.Judged.{Judged}
+use Rattle.std.specs.Prelude.{Result}
+use Rattle.checking_walk.specs.declared.judge.Shown.{Shown}
 use Rattle.checking_pairs.specs.Pairs.{stride, most_codes}
 use Rattle.checking_pairs.specs.Over.{walk_over, Over}
 use Rattle.checking_walk.specs.Judged.{judged_over, ShownFits, said_judged, WalkJudged, Counts}
@@ -55,12 +56,12 @@ module _ (arcs finals rows : List ℕ) (w : Walk) (root : Pair) (S : Session) (o
       }
 
   -- WHAT THE CODE'S ANSWER MEANS: it counts the different pairs of the item, or shows the least contents that speak against it
-  pub answer_means : {contents seen' queue' contents' : List ℕ} {r : Judged} → WalkJudged arcs finals rows w root contents seen' queue' contents' r
+  pub answer_means : {contents seen' queue' contents' : List ℕ} {r : Result ℕ Shown} → WalkJudged arcs finals rows w root contents seen' queue' contents' r
       → JudgedMeans S i (said_judged r contents')
   answer_means j = subst (JudgedMeans S i) (sym (j.reply ∙ judged_item)) (judge_means S wf i item)
 
 -- its number is the size of the item's set of pairs
-pub judged_counts : {arcs finals rows : List ℕ} {w : Walk} {root : Pair} {contents seen' queue' contents' : List ℕ} {r : Judged}
+pub judged_counts : {arcs finals rows : List ℕ} {w : Walk} {root : Pair} {contents seen' queue' contents' : List ℕ} {r : Result ℕ Shown}
     → WalkJudged arcs finals rows w root contents seen' queue' contents' r → Counts arcs finals rows w root r
 judged_counts {arcs} {finals} {rows} {w} {root} {contents' = contents'} j =
     record {
@@ -69,7 +70,7 @@ judged_counts {arcs} {finals} {rows} {w} {root} {contents' = contents'} j =
           (answer_means arcs finals rows w root S W.over W.formed W.few i W.item W.begun j)).1;
     }
 
-pub with_counts : {arcs finals rows : List ℕ} {w : Walk} {root : Pair} {contents seen' queue' contents' : List ℕ} {r : Judged}
+pub with_counts : {arcs finals rows : List ℕ} {w : Walk} {root : Pair} {contents seen' queue' contents' : List ℕ} {r : Result ℕ Shown}
     → WalkJudged arcs finals rows w root contents seen' queue' contents' r
     → WalkJudged arcs finals rows w root contents seen' queue' contents' r × Counts arcs finals rows w root r
 with_counts j = (j, judged_counts j)

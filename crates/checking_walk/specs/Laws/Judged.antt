@@ -13,8 +13,7 @@ use Rattle.theory_model.specs.Judge as Judge
 use Rattle.theory_model.specs.Judge.{same, contents, passes, fails}
 use Rattle.theory_model.specs.Searched.{settled, searched}
 use Rattle.checking_pairs.specs.declared.pairs.Walk.{Walk}
-use Rattle.checking_walk.specs.declared.search.Outcome.TheVariants.{Found, Finished}
-use Rattle.checking_walk.specs.declared.judge.Judged.TheVariants.{Passes, Fails}
+use Rattle.std.specs.Prelude.{Some, None, Ok, Err}
 use Rattle.checking_pairs.specs.Pairs.{most_codes}
 use Rattle.checking_pairs.specs.Marks.{found_at, view, Tables, Blank}
 use Rattle.checking_pairs.specs.Laws.Marks.{tables_most, view_length}
@@ -66,12 +65,12 @@ module _ (arcs rows : List ℕ) (w : Walk) {seen queue : List ℕ} {tail : ℕ} 
 
 -- THE JUDGEMENT, by the search's answer
 module _ (arcs finals rows : List ℕ) (w : Walk) (root : Pair) {seen queue : List ℕ} where
-  pub judged_finished : {tail : ℕ} → Answered seen queue (Finished tail) (search_over arcs finals rows w root)
+  pub judged_finished : {tail : ℕ} → Answered seen queue (record { failing = None; found = tail }) (search_over arcs finals rows w root)
       → judged_over arcs finals rows w root ≡ passes tail
   unfolding judged_over
   judged_finished a = sym (ap (settled_over arcs finals rows w) a.is) ∙ ap passes (view_length a.tables)
 
-  pub judged_found : {k tail : ℕ} → Answered seen queue (Found k tail) (search_over arcs finals rows w root)
+  pub judged_found : {k tail : ℕ} → Answered seen queue (record { failing = Some k; found = tail }) (search_over arcs finals rows w root)
       → judged_over arcs finals rows w root ≡ fails (shown_over arcs rows w seen queue k)
   unfolding judged_over
   judged_found {k} a = sym (ap (settled_over arcs finals rows w) a.is) ∙ ap fails (shown_from_lem arcs rows w a.tables k k a.within)
@@ -79,7 +78,7 @@ module _ (arcs finals rows : List ℕ) (w : Walk) (root : Pair) {seen queue : Li
 -- what the code answers then
 module _ {arcs finals rows : List ℕ} {w : Walk} {root : Pair} {contents seen queue : List ℕ} where
   pub judges_passes : {n : ℕ} → judged_over arcs finals rows w root ≡ passes n → Blank seen queue
-      → WalkJudged arcs finals rows w root contents seen queue contents (Passes n)
+      → WalkJudged arcs finals rows w root contents seen queue contents (Ok n)
   judges_passes e b =
       record {
         reply = sym e;
@@ -89,7 +88,7 @@ module _ {arcs finals rows : List ℕ} {w : Walk} {root : Pair} {contents seen q
       }
 
   pub judges_fails : {u contents' : List ℕ} {n : ℕ} → judged_over arcs finals rows w root ≡ fails u → Blank seen queue → Shown u contents contents' n
-      → WalkJudged arcs finals rows w root contents seen queue contents' (Fails n)
+      → WalkJudged arcs finals rows w root contents seen queue contents' (Err (record { 0 = n }))
   judges_fails {u} {contents'} {n} e b s =
       record {
         reply =

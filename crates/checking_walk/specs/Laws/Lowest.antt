@@ -1,5 +1,10 @@
 -- The lowest letter that leads from one pair to another: the code tries only the letters that the pair's side allows, and the others lead nowhere.
-use Rattle.std.specs.Prelude.{◌≡◌, Bool, List}
+use Rattle.std.specs.Prelude.{◌≡◌, Bool, List, eqb, MatchOption}
+use Rattle.std.specs.Prelude as Code
+use Rattle.std.specs.Option.{option_eq}
+use Rattle.std.proofs.Common.{subst}
+use Rattle.checking_pairs.specs.Laws.Pairs.{same_codes}
+use Rattle.checking_pairs.specs.Leads.{said_next, LeadsTo}
 use Rattle.std.proofs.Math.Path.{refl, ap, ap₂}
 use Rattle.std.proofs.Common.{sym, ◌∙◌, arith, sub-eq-zero_of_le, add-one}
 use Rattle.std.proofs.Math.Bool.{true, false}
@@ -16,7 +21,7 @@ use Rattle.tables.specs.Kinds.{reached_of}
 use Rattle.checking_pairs.specs.Pairs.{decode, pair_of, NodeOf}
 use Rattle.checking_pairs.specs.Over.{jump_over, go_over, read_from}
 use Rattle.checking_walk.specs.Laws.Letters.{before_read, before_none, before_step, after_low, after_read, after_high}
-use Rattle.checking_walk.specs.Shown.{letter_over}
+use Rattle.checking_walk.specs.Shown.{letter_over, LowestBelow}
 
 cases : {P : Type 0} (b : Bool) → (true ≡ b → P) → (false ≡ b → P) → P
 cases true f g = f refl
@@ -88,6 +93,21 @@ module _ (δ : Pair → ℕ → Option Pair) (x y : Pair) where
   low_same δ' (suc a) m e =
       ap₂ {C = ℕ} (λ o n. elim (leads_to same o y) [ true ↦ m | false ↦ n ]) (e m (omega arith) (omega arith))
       (low_same δ' a (suc m) (λ j p q. e j (omega arith) (omega arith)))
+
+-- WHETHER THE PAIR of a number is the one that a letter leads to, as the code asks
+pub met : {r : Code.Option ℕ} {o : Option Pair} {b : Bool} (code : ℕ) → LeadsTo r o → b ≡ option_eq eqb r (Code.Some code)
+    → b ≡ leads_to same o (decode code)
+met {r} code l e = e ∙ by_answer r ∙ ap (λ o. leads_to same o (decode code)) l.is
+  where
+    by_answer : (r : Code.Option ℕ) → option_eq eqb r (Code.Some code) ≡ leads_to same (said_next r) (decode code)
+    by_answer Code.None = refl
+    by_answer (Code.Some c) = sym (same_codes c code)
+
+pub lowest_some : {end low m : ℕ} {r : Code.Option ℕ} → LowestBelow end low r → r ≡ Code.Some m → (m ≡ low) × (m < end)
+lowest_some {end} {low} l e = subst (λ r. MatchOption r (end ≤ low) (λ m. (m ≡ low) × (m < end))) e l.is
+
+pub lowest_none : {end low : ℕ} {r : Code.Option ℕ} → LowestBelow end low r → r ≡ Code.None → end ≤ low
+lowest_none {end} {low} l e = subst (λ r. MatchOption r (end ≤ low) (λ m. (m ≡ low) × (m < end))) e l.is
 
 -- THE LETTER between two pairs, by the side of the first
 module _ (arcs rows : List ℕ) (w : Walk) (cut : w.cut ≤ w.sum) {from : ℕ} {x : Node} (N : NodeOf from x) (code : ℕ) where

@@ -1,7 +1,28 @@
-use native.Mathlib.Omega.{arith}
-use Rattle.checking_pairs.specs.Laws.Marks.{tables_most}
+use Rattle.std.proofs.Common.{arith}
+use Rattle.checking_pairs.specs.Laws.Clearing.{tail_within, front_long, front_small, unmark_begin, unmark_next, unmark_end, emptied}
 use Rattle.checking_pairs.proofs.marks.clear.Goals as goal
 
-pub empty-requires : goal.empty-requires
-empty-requires c = let T = c.requires in
-    record { tail_in_bounds = omega (arith, tables_most T, T.queue_long); zeros_from = record { each = T.rest } }
+pub slice_bounds-code-items-end : goal.slice_bounds-code-items-end
+slice_bounds-code-items-end c = tail_within c.requires
+
+pub slice_bounds-code-items-end-2 : goal.slice_bounds-code-items-end-2
+slice_bounds-code-items-end-2 c = front_long c.requires
+
+pub loop-code-init : goal.loop-code-init
+loop-code-init c = unmark_begin c.requires
+
+pub loop-code-preserved : goal.loop-code-preserved
+loop-code-preserved c = unmark_next c.loop-code.invariant c.from.ensures (omega (arith, c.from.ensures, front_small c.requires c.loop-code.code-index c.loop-code-test.true))
+
+pub slice_bounds-fill-end : goal.slice_bounds-fill-end
+slice_bounds-fill-end c = tail_within c.requires
+
+pub slice_bounds-fill-end-2 : goal.slice_bounds-fill-end-2
+slice_bounds-fill-end-2 c = front_long c.requires
+
+pub returns : goal.returns
+returns c =
+    record {
+      seen_blank = unmark_end c.loop-code.invariant c.loop-code-test.false;
+      queue_blank = emptied c.requires (c.fill.ensures.after (λ y e. e));
+    }

@@ -10,7 +10,7 @@ pub returns-then-is_nowhere : goal.returns-then-is_nowhere
 returns-then-is_nowhere c =
     let a = c.args in
     let p = c.requires in
-    leads_nowhere (jump_missing a.w p.lent p.node_fits.source c.at.ensures c.follow_word-source.ensures (reached_of a.x.target.0) (nowhere_true _ c.is_nowhere.ensures c.if-is_nowhere.true))
+    leads_nowhere (jump_missing a.t.now.walk a.t.now.lent p.source c.at.ensures c.follow_word-source.ensures (reached_of a.x.target.0) (nowhere_true _ c.is_nowhere.ensures c.if-is_nowhere.true))
 
 pub state-requires : goal.state-requires
 state-requires c = state_below c.follow_word-source.ensures.most (nowhere_false _ c.is_nowhere.ensures c.if-is_nowhere.false)
@@ -23,4 +23,4 @@ pair_to-requires c =
 pub returns : goal.returns
 returns c =
     let p = c.requires in
-    leads_as (jump_is c.args.w p.lent p.node_fits.source c.at.ensures c.follow_word-source.ensures (nowhere_false _ c.is_nowhere.ensures c.if-is_nowhere.false) c.state.ensures c.follow_word-target.ensures) c.pair_to.ensures
+    leads_as (jump_is c.args.t.now.walk c.args.t.now.lent p.source c.at.ensures c.follow_word-source.ensures (nowhere_false _ c.is_nowhere.ensures c.if-is_nowhere.false) c.state.ensures c.follow_word-target.ensures) c.pair_to.ensures

@@ -5,14 +5,14 @@ use Rattle.checking_walk.specs.Laws.Shown.{word_length_lem, part_step, part_mess
 use Rattle.checking_walk.proofs.contents.lay_part.Goals as goal
 
 pub lay_word-requires : goal.lay_word-requires
-lay_word-requires c = let a = c.args in
-    record { word_within = c.requires.word_within; out_in_bounds = omega (arith, c.requires.letter_in_bounds, ap length (part_step a.rows.now a.w c.if-letter-w.true), word_length_lem c.requires.word_within) }
+lay_word-requires c = let t = c.args.t.now in
+    record { word_within = t.lent.out; out_in_bounds = omega (arith, c.requires, ap length (part_step t.rows.now t.walk c.if-letter-w.true), word_length_lem t.lent.out) }
 
 pub returns-then-letter-w : goal.returns-then-letter-w
-returns-then-letter-w c = laid_as (sym (part_step c.args.rows.now c.args.w c.if-letter-w.true)) c.lay_word.ensures
+returns-then-letter-w c = laid_as (sym (part_step c.args.t.now.rows.now c.args.t.now.walk c.if-letter-w.true)) c.lay_word.ensures
 
 pub bounds-contents-n : goal.bounds-contents-n
-bounds-contents-n c = omega (arith, c.requires.letter_in_bounds, ap length (part_message c.args.rows.now c.args.w c.if-letter-w.false))
+bounds-contents-n c = omega (arith, c.requires, ap length (part_message c.args.t.now.rows.now c.args.t.now.walk c.if-letter-w.false))
 
 pub returns : goal.returns
-returns c = laid_as (sym (part_message c.args.rows.now c.args.w c.if-letter-w.false)) (laid_one _ _ _)
+returns c = laid_as (sym (part_message c.args.t.now.rows.now c.args.t.now.walk c.if-letter-w.false)) (laid_one _ _ _)

@@ -1,21 +1,25 @@
-use mathlib.Core.Path.{sym, ap, ◌∙◌}
-use Rattle.theory_exploration.specs.Search.{leads_to}
-use Rattle.theory_model.specs.Judge.{same}
-use Rattle.checking_pairs.specs.Pairs.{decode}
-use Rattle.checking_walk.specs.Laws.Lowest.{message_before, step_met, step_missed, message_after, none_after}
+use mathlib.Core.Path.{refl}
+use Rattle.checking_walk.specs.Laws.Lowest.{met, lowest_some, lowest_none, message_before, step_met, step_missed, message_after, none_after}
 use Rattle.checking_walk.proofs.edges.letter_of.Goals as goal
 
-pub returns-then-m-w : goal.returns-then-m-w
-returns-then-m-w c = message_before _ _ _ c.requires.lent.cut c.node_of-x.ensures _ c.if-x-eq0.true c.message_to-m.ensures c.if-m-w.true
+pub returns-in-Some : goal.returns-in-Some
+returns-in-Some c =
+    let low = lowest_some c.message_to.ensures c.in-Some.is in
+    message_before _ _ _ c.args.t.now.lent.cut c.of-x.ensures _ c.if-x-eq0.true low.0 low.1
 
-pub returns-then-meets : goal.returns-then-meets
-returns-then-meets c = step_met _ _ _ c.requires.lent.cut c.node_of-x.ensures _ c.if-x-eq0.true c.message_to-m.ensures c.if-m-w.false (sym c.if-meets.true ∙ c.meets.ensures ∙ ap (λ o. leads_to same o (decode c.args.code)) c.step.ensures.is)
+pub returns-then-eq : goal.returns-then-eq
+returns-then-eq c =
+    step_met _ _ _ c.args.t.now.lent.cut c.of-x.ensures _ c.if-x-eq0.true refl (lowest_none c.message_to.ensures c.in-None.is) (met _ c.step.ensures c.if-eq.ensures)
 
-pub returns-then-x-eq0 : goal.returns-then-x-eq0
-returns-then-x-eq0 c = step_missed _ _ _ c.requires.lent.cut c.node_of-x.ensures _ c.if-x-eq0.true c.message_to-m.ensures c.if-m-w.false (sym c.if-meets.false ∙ c.meets.ensures ∙ ap (λ o. leads_to same o (decode c.args.code)) c.step.ensures.is)
+pub returns-else-eq : goal.returns-else-eq
+returns-else-eq c =
+    step_missed _ _ _ c.args.t.now.lent.cut c.of-x.ensures _ c.if-x-eq0.true refl (lowest_none c.message_to.ensures c.in-None.is) (met _ c.step.ensures c.if-eq.ensures)
 
-pub returns-then-m-w-2 : goal.returns-then-m-w-2
-returns-then-m-w-2 c = message_after _ _ _ c.requires.lent.cut c.node_of-x.ensures _ c.if-x-eq0.false c.message_to-m-2.ensures c.if-m-w-2.true
+pub returns-in-Some-message_to : goal.returns-in-Some-message_to
+returns-in-Some-message_to c =
+    let low = lowest_some c.message_to-else-x-eq0.ensures c.in-Some-message_to.is in
+    message_after _ _ _ c.args.t.now.lent.cut c.of-x.ensures _ c.if-x-eq0.false low.0 low.1
 
-pub returns : goal.returns
-returns c = none_after _ _ _ c.requires.lent.cut c.node_of-x.ensures _ c.if-x-eq0.false c.message_to-m-2.ensures c.if-m-w-2.false
+pub returns-in-None-message_to : goal.returns-in-None-message_to
+returns-in-None-message_to c =
+    none_after _ _ _ c.args.t.now.lent.cut c.of-x.ensures _ c.if-x-eq0.false refl (lowest_none c.message_to-else-x-eq0.ensures c.in-None-message_to.is)

@@ -8,7 +8,7 @@ use Rattle.checking_walk.specs.Laws.Exploring.{Exploring}
 use Rattle.checking_walk.proofs.search.explore.Given as goal
 
 abbrev pub invariant-loop-k : goal.invariant-loop-k
-invariant-loop-k l = Exploring (suc l.w.sum) (go_over l.arcs l.rows l.w) (wrong_over l.finals l.w.entry) l.seen l.queue l.tail l.k (searched (suc l.w.sum) (go_over l.arcs l.rows l.w) same (wrong_over l.finals l.w.entry) most_codes 0 (view l.initial.seen l.initial.queue l.found))
+invariant-loop-k l = Exploring (suc l.t.walk.sum) (go_over l.t.arcs.now l.t.rows.now l.t.walk) (wrong_over l.t.finals.now l.t.walk.entry) l.seen l.queue l.tail l.k (searched (suc l.t.walk.sum) (go_over l.t.arcs.now l.t.rows.now l.t.walk) same (wrong_over l.t.finals.now l.t.walk.entry) most_codes 0 (view l.initial.seen l.initial.queue l.found))
 
 abbrev pub decreases-loop-k : goal.decreases-loop-k
 decreases-loop-k l = most_codes - l.k

@@ -1,16 +1,24 @@
 use mathlib.Core.Path.{sym, ap, ◌∙◌}
-use mathlib.Core.Bool.{not}
-use Rattle.checking_walk.specs.Laws.Exploring.{fails_before, fails_source, fails_entry, fails_step}
+use mathlib.Core.Bool.{beq, not}
+use Rattle.std.proofs.Common.{true≢false, eq-eqb}
+use Rattle.checking_walk.specs.Laws.Exploring.{fails_before, fails_source, fails_target}
+use Rattle.checking_walk.proofs.search.fails.Goals.{then-x-ne0, else-x-ne0}
 use Rattle.checking_walk.proofs.search.fails.Goals as goal
 
-pub returns-then-x-eq0 : goal.returns-then-x-eq0
-returns-then-x-eq0 c = sym (fails_before _ _ c.args.x c.if-x-eq0.true)
+pub returns-then-is_final : goal.returns-then-is_final
+returns-then-is_final c =
+    elim c.if-x-ne0.branch [
+      | then-x-ne0 w ↦
+          ap (λ b. beq b c.args.t.now.walk.entry) c.is_final-then-is_final.ensures
+          ∙ fails_target _ _ _ c.requires w.if-x-ne0.true (sym (rw w.at.ensures at w.is_final.ensures) ∙ sym w.value-is ∙ c.if-is_final.true)
+      | else-x-ne0 w ↦ absurd (true≢false (sym c.if-is_final.true ∙ w.value-is ∙ ap not (eq-eqb c.args.x.side 0 w.if-x-ne0.false)))
+    ]
 
-pub returns-then-not-is_final : goal.returns-then-not-is_final
-returns-then-not-is_final c = sym (fails_source _ _ _ c.requires.node_fits c.if-x-eq0.false (sym (rw c.at.ensures at c.is_final.ensures) ∙ c.if-not-is_final.true))
-
-pub returns-then-entry : goal.returns-then-entry
-returns-then-entry c = c.is_final-then-entry.ensures ∙ sym (fails_entry _ _ _ c.requires.node_fits c.if-x-eq0.false (sym (rw c.at.ensures at c.is_final.ensures) ∙ c.if-not-is_final.false) c.if-entry.true)
-
-pub returns : goal.returns
-returns c = ap not c.is_final-2.ensures ∙ sym (fails_step _ _ _ c.requires.node_fits c.if-x-eq0.false (sym (rw c.at.ensures at c.is_final.ensures) ∙ c.if-not-is_final.false) c.if-entry.false)
+pub returns-else-is_final : goal.returns-else-is_final
+returns-else-is_final c =
+    elim c.if-x-ne0.branch [
+      | then-x-ne0 w ↦
+          c.if-is_final.false
+          ∙ fails_source _ _ _ c.requires w.if-x-ne0.true (sym (rw w.at.ensures at w.is_final.ensures) ∙ sym w.value-is ∙ c.if-is_final.false)
+      | else-x-ne0 w ↦ c.if-is_final.false ∙ fails_before _ _ _ w.if-x-ne0.false
+    ]

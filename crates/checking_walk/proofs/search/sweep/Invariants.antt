@@ -1,4 +1,4 @@
-use Prim.Native.Nat.{◌≤◌, ◌-◌}
+use Prim.Native.Nat.{◌-◌}
 use Rattle.theory_exploration.specs.Search.{sweep}
 use Rattle.theory_model.specs.Judge.{same}
 use Rattle.checking_pairs.specs.Pairs.{pair_of}
@@ -8,7 +8,4 @@ use Rattle.checking_walk.specs.Laws.Sweeps.{Sweeping}
 use Rattle.checking_walk.proofs.search.sweep.Given as goal
 
 abbrev pub invariant-loop-m : goal.invariant-loop-m
-invariant-loop-m l = Sweeping (read_from l.arcs l.entry l.x) (pair_of l.x) l.from l.end l.m l.seen l.queue l.tail (sweep (read_from l.arcs l.entry l.x) same (pair_of l.x) l.from (l.end - l.first) l.first (view l.initial.seen l.initial.queue l.found)) × (l.m ≤ l.end)
-
-abbrev pub decreases-loop-m : goal.decreases-loop-m
-decreases-loop-m l = l.end - l.m
+invariant-loop-m l = Sweeping (read_from l.arcs l.entry l.x) (pair_of l.x) l.from l.end l.m l.seen l.queue l.tail (sweep (read_from l.arcs l.entry l.x) same (pair_of l.x) l.from (l.end - l.first) l.first (view l.initial.seen l.initial.queue l.found))
