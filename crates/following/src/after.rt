@@ -9,13 +9,14 @@ ghost use Rattle.following.specs.Follow.{far_arcs};
 ghost use Rattle.following.specs.Standing.{word_over, WordWithin};
 ghost use Rattle.following.specs.After.{ContentsAt, FrontEnds};
 
+use crate::messages::{Ring, WORD_ROOM};
 use crate::part::follow_part;
 use tables::kinds::Reached;
-use tables::tables::{CONTENTS_LEAST, MOST_WORD};
+use tables::tables::CONTENTS_LEAST;
 
 // What a step makes of contents: behind the messages below the cut so many are taken out, and the first ones of the word at this entry of the
 // table are put in.
-#[derive(Clone, Copy)]
+#[derive(Clone, Copy, Debug, PartialEq, Eq)]
 pub struct Exchange {
     pub cut: u8,
     pub out: usize,
@@ -28,14 +29,12 @@ fn front_of(contents: &[u8], shown: usize, cut: u8) -> usize
     requires { shown ≤ length contents.now }
     ensures { FrontEnds contents.now shown cut result }
 {
-    let mut i: usize = 0;
-    while i < shown {
+    for i in 0..shown {
         if cut <= contents[i] {
             return i;
         }
-        i += 1;
     }
-    i
+    shown
 }
 
 // How far the contents after the step are followed from its target's root, each message once. A target without a root follows none.
@@ -54,21 +53,30 @@ pub fn far_after(
     ensures { result ≡ far_arcs arcs.now (reached_of target.0) (exchanged x.cut x.out (word_over rows.now x.word x.into) (take shown contents.now)) }
 {
     let kept = front_of(contents, shown, x.cut);
-    let front = follow_part(arcs, target, contents, 0, CONTENTS_LEAST, 0, kept);
-    let word = follow_part(arcs, front.to, rows, x.word, MOST_WORD as usize, 0, x.into);
-    let out = x.out;
-    if shown - kept <= out {
+    let below = Ring::<CONTENTS_LEAST> {
+        table: contents,
+        base: 0,
+        head: 0,
+        count: kept,
+    };
+    let front = follow_part(arcs, target, below);
+    let put = Ring::<WORD_ROOM> {
+        table: rows,
+        base: x.word,
+        head: 0,
+        count: x.into,
+    };
+    let word = follow_part(arcs, front.to, put);
+    if shown - kept <= x.out {
         return front.far + word.far;
     }
-    let behind = kept + out;
-    let rest = follow_part(
-        arcs,
-        word.to,
-        contents,
-        0,
-        CONTENTS_LEAST,
-        behind,
-        shown - behind,
-    );
+    let behind = kept + x.out;
+    let left = Ring::<CONTENTS_LEAST> {
+        table: contents,
+        base: 0,
+        head: behind,
+        count: shown - behind,
+    };
+    let rest = follow_part(arcs, word.to, left);
     front.far + word.far + rest.far
 }

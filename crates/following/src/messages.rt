@@ -13,42 +13,45 @@ use tables::kinds::{Message, Reached};
 use tables::lookup::arc_from;
 use tables::tables::MOST_WORD;
 
-// Where messages lead: to the row of a state, or nowhere after so many of them.
-#[derive(Clone, Copy)]
-pub enum Followed {
-    At(usize),
-    Lost(usize),
+// The messages of a word lie in so many bytes of their table.
+pub const WORD_ROOM: usize = MOST_WORD as usize;
+
+// So many messages one after the other, read where they stand: in a ring of SIZE bytes of the table, from base on, the first at place head.
+#[derive(Clone, Copy, Debug, PartialEq, Eq)]
+pub struct Ring<'a, const SIZE: usize> {
+    pub table: &'a [u8],
+    pub base: usize,
+    pub head: usize,
+    pub count: usize,
 }
 
-// The row that so many messages lead to, in the ring of this size at base, from head on. The first that has nowhere to go ends it, and those
-// before it are counted by what is left then. Callers give the size as a constant, a power of two, so that no division is left of it.
-pub fn follow(
+// So many messages lead somewhere, and the next has nowhere to go.
+#[derive(Clone, Copy, Debug, PartialEq, Eq)]
+pub struct Lost(pub usize);
+
+// The row of the state that the messages of a ring lead to. The first that has nowhere to go ends it. SIZE is a power of two wherever it is called, so
+// that no division is left of it.
+pub fn follow<const SIZE: usize>(
     arcs: &[u8],
     from: usize,
-    table: &[u8],
-    base: usize,
-    size: usize,
-    head: usize,
-    count: usize,
-) -> Followed
+    ring: Ring<'_, SIZE>,
+) -> Result<usize, Lost>
     requires arcs_small { ArcsSmall arcs.now }
     requires state_row { StateRow from }
-    requires ring_at { RingAt table.now base size head }
-    requires between { Between 0 most_messages (standing size table.now base head count) }
-    ensures { RowFollows arcs.now from (standing size table.now base head count) result }
+    requires ring_at { RingAt ring.table.now ring.base SIZE ring.head }
+    requires between { Between 0 most_messages (standing SIZE ring.table.now ring.base ring.head ring.count) }
+    ensures { RowFollows arcs.now from (standing SIZE ring.entry.table.now ring.entry.base ring.entry.head ring.entry.count) result }
 {
     let mut row = from;
-    let mut i = head;
-    let mut left = count;
-    while 0 < left {
-        let Some(next) = arc_from(arcs, row, Message(table[base + i])) else {
-            return Followed::Lost(count - left);
+    let mut place = ring.head;
+    for i in 0..ring.count {
+        let Some(next) = arc_from(arcs, row, Message(ring.table[ring.base + place])) else {
+            return Err(Lost(i));
         };
         row = row_after(next);
-        i = (i + 1) % size;
-        left -= 1;
+        place = (place + 1) % SIZE;
     }
-    Followed::At(row)
+    Ok(row)
 }
 
 // Where so many messages of the word at this entry of the table lead. From nowhere there is nowhere to go.
@@ -61,9 +64,14 @@ pub fn follow_word(arcs: &[u8], from: Reached, table: &[u8], at: usize, n: usize
     if from.is_nowhere() {
         return from;
     }
-    let row = row_of(from.state());
-    let Followed::At(last) = follow(arcs, row, table, at, MOST_WORD as usize, 0, n) else {
-        return Reached::nowhere();
+    let word = Ring::<WORD_ROOM> {
+        table,
+        base: at,
+        head: 0,
+        count: n,
     };
-    Reached::at(state_of(last))
+    match follow(arcs, row_of(from.state()), word) {
+        Ok(last) => Reached::at(state_of(last)),
+        Err(_) => Reached::nowhere(),
+    }
 }

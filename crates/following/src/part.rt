@@ -6,43 +6,38 @@ ghost use Rattle.tables.specs.Lookup.{ArcsSmall};
 ghost use Rattle.following.specs.Standing.{standing, RingAt};
 ghost use Rattle.following.specs.Part.{Goes};
 
-use crate::messages::{Followed, follow};
+use crate::messages::{Lost, Ring, follow};
 use crate::rows::{row_of, state_of};
 use tables::kinds::Reached;
 
 // Where a part leads, and how many of its messages are followed.
-#[derive(Clone, Copy)]
+#[derive(Clone, Copy, Debug, PartialEq, Eq)]
 pub struct Extent {
     pub to: Reached,
     pub far: usize,
 }
 
-// So many messages of a ring, as `follow` takes them. From nowhere none is followed.
-pub(crate) fn follow_part(
+// From nowhere none is followed.
+pub(crate) fn follow_part<const SIZE: usize>(
     arcs: &[u8],
     from: Reached,
-    table: &[u8],
-    base: usize,
-    size: usize,
-    head: usize,
-    count: usize,
+    ring: Ring<'_, SIZE>,
 ) -> Extent
     requires arcs_small { ArcsSmall arcs.now }
     requires from_le_most_pool { from.0 ≤ most_pool }
-    requires ring_at { RingAt table.now base size head }
-    requires between { Between 0 most_messages (standing size table.now base head count) }
-    ensures { Goes arcs.now from.0 (standing size table.now base head count) result.to.0 result.far }
+    requires ring_at { RingAt ring.table.now ring.base SIZE ring.head }
+    requires between { Between 0 most_messages (standing SIZE ring.table.now ring.base ring.head ring.count) }
+    ensures { Goes arcs.now from.0 (standing SIZE ring.entry.table.now ring.entry.base ring.entry.head ring.entry.count) result.to.0 result.far }
 {
     if from.is_nowhere() {
         return Extent { to: from, far: 0 };
     }
-    let row = row_of(from.state());
-    match follow(arcs, row, table, base, size, head, count) {
-        Followed::At(last) => Extent {
+    match follow(arcs, row_of(from.state()), ring) {
+        Ok(last) => Extent {
             to: Reached::at(state_of(last)),
-            far: count,
+            far: ring.count,
         },
-        Followed::Lost(n) => Extent {
+        Err(Lost(n)) => Extent {
             to: Reached::nowhere(),
             far: n,
         },

@@ -7,6 +7,7 @@ ghost use Rattle.tables.specs.Valid.{QueuesValid};
 ghost use Rattle.theory_model.specs.Diagram.{word};
 ghost use Rattle.following.specs.Follow.{FollowsTo};
 
+use crate::messages::Ring;
 use crate::part::follow_part;
 use numbers::number::wide;
 use tables::kinds::Reached;
@@ -24,21 +25,15 @@ pub fn follow_starting(arcs: &[u8], from: Reached, q: Queues) -> Reached
 {
     let lengths = q.lengths;
     let contents = q.contents;
-    let count = wide(q.count);
     let mut at = from;
-    let mut i: usize = 0;
-    while i < count {
-        let part = follow_part(
-            arcs,
-            at,
-            &contents,
-            i * STARTING_ROOM,
-            STARTING_ROOM,
-            0,
-            wide(lengths[i]),
-        );
-        at = part.to;
-        i += 1;
+    for i in 0..wide(q.count) {
+        let waiting = Ring::<STARTING_ROOM> {
+            table: &contents,
+            base: i * STARTING_ROOM,
+            head: 0,
+            count: wide(lengths[i]),
+        };
+        at = follow_part(arcs, at, waiting).to;
     }
     at
 }

@@ -32,6 +32,13 @@ module _ (size : ℕ) (table : List ℕ) (base i n : ℕ) where
   unfolding standing
   standing_none h = ap (standing size table base i) (let z : n ≡ 0 = omega arith in z)
 
+-- the first of those that are left after k of them
+pub standing_next : (size : ℕ) (table : List ℕ) (base i count : ℕ) {k : ℕ} → i < size → k < count
+    → standing size table base i (count - k) ≡ get_or table (base + i) 0 ∷ standing size table base ((i + 1) % size) (count - (k + 1))
+standing_next size table base i count {k} placed waits =
+    standing_first size table base i (count - k) placed (omega arith)
+    ∙ ap (λ n. get_or table (base + i) 0 ∷ standing size table base ((i + 1) % size) n) (let z : count - k - 1 ≡ count - (k + 1) = omega arith in z)
+
 pub standing_length : (size : ℕ) (table : List ℕ) (base i n : ℕ) → length (standing size table base i n) ≡ n
 unfolding standing
 standing_length size table base i zero = refl

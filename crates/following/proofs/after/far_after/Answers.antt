@@ -9,13 +9,13 @@ use Rattle.following.proofs.after.far_after.Goals as goal
 
 pub follow_part-front-requires : goal.follow_part-front-requires
 follow_part-front-requires c = let p = c.requires in
-    record { arcs_small = p.arcs_small; from_le_most_pool = p.target_le_most_pool; ring_at = first_ring p.contents_at; between = front_between p.contents_at c.front_of-kept.ensures }
+    (omega arith, (p.arcs_small, (p.target_le_most_pool, (first_ring p.contents_at, front_between p.contents_at c.front_of-kept.ensures))))
 
 pub follow_part-word-requires : goal.follow_part-word-requires
 follow_part-word-requires c = let p = c.requires in
     let a = c.args in
     let word = word_standing a.rows.now a.x.word a.x.into p.word_within in
-    record { arcs_small = p.arcs_small; from_le_most_pool = c.follow_part-front.ensures.leads.most; ring_at = word_ring p.word_within; between = subst (Between 0 most_messages) (sym word) (word_small a.rows.now a.x.word a.x.into p.word_within) }
+    (omega arith, (p.arcs_small, (c.follow_part-front.ensures.leads.most, (word_ring p.word_within, subst (Between 0 most_messages) (sym word) (word_small a.rows.now a.x.word a.x.into p.word_within)))))
 
 pub overflow_sub-shown : goal.overflow_sub-shown
 overflow_sub-shown c = kept_most c.requires.contents_at c.front_of-kept.ensures
@@ -33,7 +33,7 @@ returns-then-shown-kept c =
 pub follow_part-rest-requires : goal.follow_part-rest-requires
 follow_part-rest-requires c = let p = c.requires in
     let less = behind_less p.contents_at c.front_of-kept.ensures c.args.x.out c.if-shown-kept.false in
-    record { arcs_small = p.arcs_small; from_le_most_pool = c.follow_part-word.ensures.leads.most; ring_at = contents_ring p.contents_at (omega (arith, less)); between = end_between p.contents_at _ (omega (arith, less)) }
+    (omega arith, (p.arcs_small, (c.follow_part-word.ensures.leads.most, (contents_ring p.contents_at (omega (arith, less)), end_between p.contents_at _ (omega (arith, less))))))
 
 pub overflow_add-result-2 : goal.overflow_add-result-2
 overflow_add-result-2 c =

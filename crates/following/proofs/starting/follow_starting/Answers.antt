@@ -14,37 +14,37 @@ pub loop-i-init : goal.loop-i-init
 loop-i-init c =
     let p = c.requires in
     let q = c.args.q in
-    let e = c.wide-count.ensures.same in
+    let e = c.wide-i-end.ensures.same in
     let small = subst (λ n. Between 0 most_messages (word (each (starting_at q.lengths q.contents) n 0))) (sym e) (starting_small p.queues_valid) in
-    (follow_begin p.from_le_most_pool small (starting_begin q.lengths q.contents c.wide-count.result), omega arith)
+    follow_begin p.from_le_most_pool small (starting_begin q.lengths q.contents c.wide-i-end.result)
 
-pub overflow_mul-i : goal.overflow_mul-i
-overflow_mul-i c = omega (arith, c.wide-count.ensures, c.loop-i-test.true, c.requires.queues_valid.most)
+pub overflow_mul-waiting : goal.overflow_mul-waiting
+overflow_mul-waiting c = omega (arith, c.wide-i-end.ensures, c.loop-i-test.true, c.requires.queues_valid.most)
 
 pub bounds-lengths-i : goal.bounds-lengths-i
-bounds-lengths-i c = omega (arith, c.wide-count.ensures, c.loop-i-test.true, c.requires.queues_valid.most)
+bounds-lengths-i c = omega (arith, c.wide-i-end.ensures, c.loop-i-test.true, c.requires.queues_valid.most)
 
-pub follow_part-part-requires : goal.follow_part-part-requires
-follow_part-part-requires c = let p = c.requires in
+pub follow_part-requires : goal.follow_part-requires
+follow_part-requires c = let p = c.requires in
     let q = c.args.q in
     let i = c.loop-i.i in
-    let below : i < q.count = omega (arith, c.wide-count.ensures, c.loop-i-test.true) in
+    let below : i < q.count = omega (arith, c.wide-i-end.ensures, c.loop-i-test.true) in
     let e = starting_standing p.queues_valid i below in
     let its = c.wide.ensures.same in
-    let small = front_small c.loop-i.invariant.0 _ _ (starting_next q.lengths q.contents c.wide-count.result c.loop-i-test.true) in record { arcs_small = p.arcs_small; from_le_most_pool = c.loop-i.invariant.0.most; ring_at = starting_ring p.queues_valid i below; between = subst (λ n. Between 0 most_messages (standing most_starting q.contents (i * most_starting) 0 n)) (sym its) (subst (Between 0 most_messages) (sym e) small) }
+    let small = front_small c.loop-i.invariant _ _ (starting_next q.lengths q.contents c.wide-i-end.result c.loop-i-test.true) in (omega arith, (p.arcs_small, (c.loop-i.invariant.most, (starting_ring p.queues_valid i below, subst (λ n. Between 0 most_messages (standing most_starting q.contents (i * most_starting) 0 n)) (sym its) (subst (Between 0 most_messages) (sym e) small)))))
 
 pub loop-i-preserved : goal.loop-i-preserved
 loop-i-preserved c =
     let p = c.requires in
     let q = c.args.q in
     let i = c.loop-i.i in
-    let below : i < q.count = omega (arith, c.wide-count.ensures, c.loop-i-test.true) in
+    let below : i < q.count = omega (arith, c.wide-i-end.ensures, c.loop-i-test.true) in
     let its = c.wide.ensures.same in
     let e = ap (standing most_starting q.contents (i * most_starting) 0) its ∙ starting_standing p.queues_valid i below in
-    (follow_front c.loop-i.invariant.0 _ _ (starting_next q.lengths q.contents c.wide-count.result c.loop-i-test.true) (follows_word e c.follow_part-part.ensures.leads), omega (arith, c.loop-i-test.true))
+    follow_front c.loop-i.invariant _ _ (starting_next q.lengths q.contents c.wide-i-end.result c.loop-i-test.true) (follows_word e c.follow_part.ensures.leads)
 
 pub returns : goal.returns
 returns c =
     let q = c.args.q in
-    let f = follow_end c.loop-i.invariant.0 (starting_end q.lengths q.contents c.wide-count.result c.loop-i-test.false) refl in
-    follows_word (ap (λ n. word (each (starting_at q.lengths q.contents) n 0)) c.wide-count.ensures.same) f
+    let f = follow_end c.loop-i.invariant (starting_end q.lengths q.contents c.wide-i-end.result c.loop-i-test.false) refl in
+    follows_word (ap (λ n. word (each (starting_at q.lengths q.contents) n 0)) c.wide-i-end.ensures.same) f

@@ -1,4 +1,3 @@
-use Prim.Native.Nat.{◌-◌, ◌≤◌}
 use Rattle.tables.specs.Starting.{each, starting_at}
 use Rattle.theory_model.specs.Diagram.{word}
 use Rattle.following.specs.Laws.Follow.{Following}
@@ -7,7 +6,4 @@ use Rattle.following.proofs.starting.follow_starting.Given as goal
 
 abbrev pub invariant-loop-i : goal.invariant-loop-i
 invariant-loop-i l =
-    Following l.arcs l.initial.at.0 (word (each (starting_at l.lengths l.contents) l.count 0)) l.at.0 (starting_from l.lengths l.contents l.count l.i) × (l.i ≤ l.count)
-
-abbrev pub decreases-loop-i : goal.decreases-loop-i
-decreases-loop-i l = l.count - l.i
+    Following l.arcs l.initial.at.0 (word (each (starting_at l.lengths l.contents) l.i-end 0)) l.at.0 (starting_from l.lengths l.contents l.i-end l.i)
