@@ -2,18 +2,21 @@
 #![tactic(auto)]
 
 use checking_answer::{MOST_LINE, whole_line};
+use numbers::refusal::MOST_BYTES;
 use std::io;
-use streams::input::{Input, read_input};
+use streams::input::read_input;
 use streams::print_front;
 
+// One byte more than a file may have.
+const ROOM: usize = MOST_BYTES + 1;
+
 fn main(rt: HostRuntime) {
-    // one byte more than a file may have
-    let mut file = [0u8; 16385];
+    let mut file = [0u8; ROOM];
     match read_input(&mut rt.stdin(), &mut file) {
-        Input::Failed => {
+        Ok(length) => answer(&rt, &file[..length]),
+        Err(_) => {
             let _ = eprintln!(rt; "swarmbanner: standard input cannot be read");
         }
-        Input::Bytes(length) => answer(&rt, &file[..length]),
     }
 }
 

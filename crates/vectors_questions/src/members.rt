@@ -2,39 +2,26 @@
 // them. Low bytes come first.
 use membership::member::member;
 use membership::reply::Member;
-use numbers::number::wide;
-use numbers::refusal::{EARLIER_QUEUE, NO_CONTROL, NO_MESSAGE, number, place};
 use std::io::{Read, Write};
 use streams::fill_front;
-use streams::lines::{refused, told, words};
-
-// Yes or no, and how many messages were followed.
-fn report<W: Write>(output: &mut W, reply: Member) {
-    match reply {
-        Member::Yes(far) => told(output, b"yes ", far),
-        Member::No(far) => told(output, b"no ", far),
-        Member::Unread(why) => refused(output, b"refused ", number(why), place(why)),
-        Member::NoControl => refused(output, b"refused ", NO_CONTROL, 0),
-        Member::NoMessage(at) => refused(output, b"refused ", NO_MESSAGE, at),
-        Member::EarlierQueue(at) => refused(output, b"refused ", EARLIER_QUEUE, at),
-    }
-}
 
 pub(crate) fn answer<R: Read, W: Write>(
     input: &mut R,
     output: &mut W,
     file: &[u8],
     contents: &mut [u8],
-) -> bool {
+) -> Option<()> {
     let mut head = [0u8; 4];
-    if !fill_front(input, &mut head, 4) {
-        return false;
-    }
-    let control = wide(head[0]) + 256 * wide(head[1]);
-    let messages = wide(head[2]) + 256 * wide(head[3]);
+    input.read_exact(&mut head).ok()?;
+    let control = u16::from_le_bytes([head[0], head[1]]) as usize;
+    let messages = u16::from_le_bytes([head[2], head[3]]) as usize;
     if !fill_front(input, contents, messages) {
-        return false;
+        return None;
     }
-    report(output, member(file, control, &contents[..messages]));
-    words(output, b"\n")
+    let told = match member(file, control, &contents[..messages]) {
+        Ok(Member::Yes(far)) => writeln!(output, "yes {far}"),
+        Ok(Member::No(far)) => writeln!(output, "no {far}"),
+        Err(why) => writeln!(output, "refused {} at {}", why.number(), why.place()),
+    };
+    told.ok()
 }

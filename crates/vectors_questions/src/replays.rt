@@ -2,11 +2,10 @@
 // bytes, low byte first; then the byte that the memory is made from and the byte that the record is made from.
 use crate::lent::record_from;
 use crate::report::report;
-use numbers::number::wide;
-use replaying_trace::run::replay_from;
+use replaying_trace::run::replay;
+use std::io;
 use std::io::{Read, Write};
-use streams::files::{NextFile, next_file};
-use streams::fill_front;
+use streams::files::next_file;
 use streams::lent::{digest, fill};
 
 // Answers the replay against this file.
@@ -16,36 +15,28 @@ pub(crate) fn answer<R: Read, W: Write>(
     file: &[u8],
     trace: &mut [u8],
     memory: &mut [u8],
-) -> bool {
-    let NextFile::File(length) = next_file(input, trace) else {
-        return false;
-    };
-    answer_of(input, output, file, &trace[..length], memory)
+) -> Option<()> {
+    let length = next_file(input, trace)?;
+    let mut head = [0u8; 4];
+    input.read_exact(&mut head).ok()?;
+    let room = u16::from_le_bytes([head[0], head[1]]) as usize;
+    if memory.len() < room {
+        return None;
+    }
+    answer_in(output, file, &trace[..length], &mut memory[..room], head[2], head[3]).ok()
 }
 
-// Answers the replay of this trace.
-fn answer_of<R: Read, W: Write>(
-    input: &mut R,
+// Answers the replay in this memory.
+fn answer_in<W: Write>(
     output: &mut W,
     file: &[u8],
     trace: &[u8],
     memory: &mut [u8],
-) -> bool {
-    let mut head = [0u8; 4];
-    if !fill_front(input, &mut head, 4) {
-        return false;
-    }
-    let length = wide(head[0]) + 256 * wide(head[1]);
-    if memory.len() < length {
-        return false;
-    }
-    answer_in(output, file, trace, &mut memory[..length], head[2], head[3]);
-    true
-}
-
-// Answers the replay in this memory.
-fn answer_in<W: Write>(output: &mut W, file: &[u8], trace: &[u8], memory: &mut [u8], m: u8, k: u8) {
+    m: u8,
+    k: u8,
+) -> io::Result<()> {
     fill(memory, m);
-    let replayed = replay_from(record_from(k), file, trace, memory);
-    report(output, replayed, digest(memory));
+    let mut record = record_from(k);
+    let reply = replay(&mut record, file, trace, memory);
+    report(output, reply, &record, digest(memory))
 }

@@ -1,14 +1,13 @@
 // Tables that are written: the reply and a digest of the buffer. Behind the file stands the question, in the same form: the length of the buffer in two
 // bytes, low byte first; the byte that it is filled from; and a mode. Mode 0 goes on with edits of the flat tables, mode 1 with the product of the tables in
-// three bytes, low byte first.
-use crate::edited::write_edited;
-use crate::product::write_with;
-use crate::written::report;
-use numbers::number::{entry, wide};
+// three bytes, low byte first. Bytes that are missing are 0.
+use crate::edited::{write_edited, write_with};
+use numbers::number::entry;
+use std::io;
 use std::io::{Read, Write};
-use streams::files::{NextFile, next_file};
+use streams::files::next_file;
 use streams::lent::{digest, fill};
-use writing_file::write::Written;
+use writing_file::write::WriteRefusal;
 
 // Where a question's parts stand.
 const FILL: usize = 2;
@@ -24,34 +23,47 @@ pub(crate) fn answer<R: Read, W: Write>(
     file: &[u8],
     question: &mut [u8],
     buffer: &mut [u8],
-) -> bool {
-    let NextFile::File(length) = next_file(input, question) else {
-        return false;
-    };
-    answer_of(output, file, &question[..length], buffer)
-}
-
-// Answers this question.
-fn answer_of<W: Write>(output: &mut W, file: &[u8], question: &[u8], buffer: &mut [u8]) -> bool {
-    let length = wide(entry(question, 0)) + 256 * wide(entry(question, 1));
-    if buffer.len() < length {
-        return false;
+) -> Option<()> {
+    let length = next_file(input, question)?;
+    let question = &question[..length];
+    let room = u16::from_le_bytes([entry(question, 0), entry(question, 1)]) as usize;
+    if buffer.len() < room {
+        return None;
     }
-    answer_in(output, file, question, &mut buffer[..length]);
-    true
+    answer_in(output, file, question, &mut buffer[..room]).ok()
 }
 
 // Answers it in this buffer.
-fn answer_in<W: Write>(output: &mut W, file: &[u8], question: &[u8], buffer: &mut [u8]) {
+fn answer_in<W: Write>(
+    output: &mut W,
+    file: &[u8],
+    question: &[u8],
+    buffer: &mut [u8],
+) -> io::Result<()> {
     fill(buffer, entry(question, FILL));
-    let written = write_asked(file, question, buffer);
-    report(output, written, digest(buffer));
+    match write_asked(file, question, buffer) {
+        Ok(length) => write!(output, "wrote {length}")?,
+        Err(why) => write!(output, "refused {} at {}", why.number(), why.place())?,
+    }
+    writeln!(output, " {}", digest(buffer))
 }
 
-fn write_asked(file: &[u8], question: &[u8], buffer: &mut [u8]) -> Written {
-    if entry(question, MODE) == 0 {
-        return write_edited(file, question, HEAD, buffer);
+fn write_asked(file: &[u8], question: &[u8], buffer: &mut [u8]) -> Result<usize, WriteRefusal> {
+    if question.len() <= HEAD {
+        return write_rest(file, entry(question, MODE), &[], buffer);
     }
-    let low = wide(entry(question, HEAD)) + 256 * wide(entry(question, HEAD + 1));
-    write_with(file, low + 65536 * wide(entry(question, HEAD + 2)), buffer)
+    write_rest(file, entry(question, MODE), &question[HEAD..], buffer)
+}
+
+fn write_rest(
+    file: &[u8],
+    mode: u8,
+    rest: &[u8],
+    buffer: &mut [u8],
+) -> Result<usize, WriteRefusal> {
+    if mode == 0 {
+        return write_edited(file, rest, buffer);
+    }
+    let product = u32::from_le_bytes([entry(rest, 0), entry(rest, 1), entry(rest, 2), 0]);
+    write_with(file, product as usize, buffer)
 }
