@@ -1,8 +1,10 @@
 -- When a buffer has room for the line of a verdict, and what writing the line promises.
-use Rattle.std.specs.Prelude.{ℕ, ◌+◌, ◌*◌, ◌≡◌, Bool, true, false, ◌&&◌, List, [], ◌++◌, length, drop, leb}
+use Rattle.std.specs.Prelude.{ℕ, ◌+◌, ◌*◌, ◌≤◌, ◌≡◌, Bool, true, false, ◌&&◌, List, [], ◌++◌, length, drop, leb, Result}
 use Rattle.theory_files.specs.Reply.{line_of}
 use Rattle.verdicts.specs.Said.{said_verdict, shown_in}
 use Rattle.verdicts.specs.declared.verdict.Verdict.{Verdict}
+use Rattle.verdicts.specs.declared.verdict.CheckRefusal.{CheckRefusal}
+use Rattle.numbers.specs.Put.{Put}
 use Rattle.tables.specs.Limits.{contents_least}
 
 -- the contents hold the messages shown, and the buffer holds any line that shows so many
@@ -26,5 +28,14 @@ pub record Lined (entry contents : List ℕ) (shown : ℕ) (text exit : List ℕ
   pub buffer : exit ≡ printed entry contents shown text ++ drop (length (printed entry contents shown text)) entry
 
 -- WHAT WRITING A LINE PROMISES
-pub record Writes (entry : List ℕ) (v : Verdict) (contents exit : List ℕ) (r : ℕ) : Type 0 where
+pub record Writes (entry : List ℕ) (v : Result Verdict CheckRefusal) (contents exit : List ℕ) (r : ℕ) : Type 0 where
   pub line : Lined entry contents (shown_in v) (line_of (said_verdict v contents)) exit r
+
+-- the buffer has room for a line that shows so many messages, and the contents hold them
+pub record Fits (buffer contents : List ℕ) (shown : ℕ) : Type 0 where
+  pub messages : shown ≤ length contents
+  pub line : 4 * shown + 52 ≤ length buffer
+
+-- the line stands at the front of a buffer that has room for it
+pub record PutsLine (entry : List ℕ) (v : Result Verdict CheckRefusal) (contents exit : List ℕ) (r : ℕ) : Type 0 where
+  pub put : Put entry 0 (4 * shown_in v + 52) (line_of (said_verdict v contents)) exit r

@@ -1,9 +1,8 @@
 // Numbers and messages in decimal, each put into a buffer from a place on. Each function answers the place after what it put.
-ghost use Rattle.std.specs.Prelude.{◌+◌, ◌*◌, ◌≤◌, ◌<◌, ◌≡◌, ◌∷◌, length, take};
+ghost use Rattle.std.specs.Prelude.{◌+◌, ◌*◌, ◌≤◌, ◌<◌, ◌≡◌, ◌∷◌, length};
 ghost use Rattle.theory_model.specs.Line.{digits, spaced_all, listed};
 ghost use Rattle.numbers.specs.Put.{Put};
 
-use numbers::number::wide;
 use numbers::put::put_byte;
 
 // The byte of a decimal digit.
@@ -11,7 +10,7 @@ pub(crate) fn digit(n: usize) -> u8
     requires { n < 10 }
     ensures { result ≡ 48 + n }
 {
-    (48 + n) as u8
+    b'0' + n as u8
 }
 
 // A number by its digits, the last so many of them.
@@ -34,29 +33,27 @@ pub(crate) fn put_spaced(s: &mut [u8], at: usize, most: usize, n: usize) -> usiz
     requires { at + (1 + most) ≤ length s.old }
     ensures { Put s.old at (1 + most) (32 ∷ digits most n) s.new result }
 {
-    let next = put_byte(s, at, 32);
+    let next = put_byte(s, at, b' ');
     put_digits(s, next, most, n)
 }
 
-// The first messages of the contents, each after a space. A byte has at most three digits.
-pub(crate) fn put_messages(s: &mut [u8], at: usize, contents: &[u8], count: usize) -> usize
-    requires { (at + 4 * count ≤ length s.old) × (count ≤ length contents.now) }
-    ensures { Put s.old at (4 * count) (spaced_all (take count contents.now)) s.new result }
+// Messages, each after a space. A byte has at most three digits.
+pub(crate) fn put_messages(s: &mut [u8], at: usize, messages: &[u8]) -> usize
+    requires { at + 4 * length messages.now ≤ length s.old }
+    ensures { Put s.old at (4 * length messages.now) (spaced_all messages.now) s.new result }
 {
     let mut next = at;
-    let mut i = 0;
-    while i < count {
-        next = put_spaced(s, next, 3, wide(contents[i]));
-        i += 1;
+    for &message in messages {
+        next = put_spaced(s, next, 3, usize::from(message));
     }
     next
 }
 
-// A colon, and the first messages of the contents.
-pub(crate) fn put_listed(s: &mut [u8], at: usize, contents: &[u8], count: usize) -> usize
-    requires { (at + (1 + 4 * count) ≤ length s.old) × (count ≤ length contents.now) }
-    ensures { Put s.old at (1 + 4 * count) (listed (take count contents.now)) s.new result }
+// A colon, and messages.
+pub(crate) fn put_listed(s: &mut [u8], at: usize, messages: &[u8]) -> usize
+    requires { at + (1 + 4 * length messages.now) ≤ length s.old }
+    ensures { Put s.old at (1 + 4 * length messages.now) (listed messages.now) s.new result }
 {
-    let colon = put_byte(s, at, 58);
-    put_messages(s, colon, contents, count)
+    let colon = put_byte(s, at, b':');
+    put_messages(s, colon, messages)
 }

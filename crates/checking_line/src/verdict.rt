@@ -1,127 +1,113 @@
-// The line of a verdict.
-ghost use Rattle.std.specs.Prelude.{[], take};
+// The line of what a check answers.
+ghost use Rattle.std.specs.Prelude.{◌≡◌, ◌+◌, ◌*◌, ◌≤◌, length};
+ghost use Rattle.numbers.specs.Put.{Put};
 ghost use Rattle.theory_model.specs.Verdict.{closed, outside, leaves, bad};
 ghost use Rattle.theory_model.specs.Line.{line, refused_line};
-ghost use Rattle.checking_line.specs.Said.{LineRoom, Lined, Writes};
+ghost use Rattle.verdicts.specs.Said.{shown_in};
+ghost use Rattle.checking_line.specs.Said.{LineRoom, Fits, PutsLine, Writes};
 
 use crate::put::{put_listed, put_spaced};
-use numbers::number::wide;
 use numbers::put::{put_byte, put_word};
-use numbers::refusal::{SHORT_MEMORY, number, place};
 use tables::tables::CONTENTS_LEAST;
-use verdicts::verdict::Verdict;
+use verdicts::verdict::{CheckRefusal, Failing, Verdict};
 
 // Whether a buffer of so many bytes has room for any line that shows so many messages of the contents.
 fn has_room(room: usize, contents: usize, shown: usize) -> bool
     ensures { LineRoom room contents shown result }
 {
-    if contents < shown {
-        return false;
-    }
-    if CONTENTS_LEAST < shown {
-        return false;
-    }
-    if room < 4 * shown + 52 {
-        return false;
-    }
-    true
+    shown <= contents && shown <= CONTENTS_LEAST && 4 * shown + 52 <= room
 }
 
-fn write_closed(buffer: &mut [u8], pairs: usize) -> usize
-    ensures { Lined buffer.old [] 0 (line (closed pairs)) buffer.new result }
+fn put_closed(s: &mut [u8], pairs: usize) -> usize
+    requires { 52 ≤ length s.old }
+    ensures { Put s.old 0 52 (line (closed pairs)) s.new result }
 {
-    if has_room(buffer.len(), 0, 0) {
-        let word = put_word(buffer, 0, b"closed");
-        let number = put_spaced(buffer, word, 10, pairs);
-        put_byte(buffer, number, 10)
-    } else {
-        0
-    }
+    let word = put_word(s, 0, b"closed");
+    let number = put_spaced(s, word, 10, pairs);
+    put_byte(s, number, b'\n')
 }
 
-fn write_outside(buffer: &mut [u8]) -> usize
-    ensures { Lined buffer.old [] 0 (line outside) buffer.new result }
+fn put_outside(s: &mut [u8]) -> usize
+    requires { 52 ≤ length s.old }
+    ensures { Put s.old 0 52 (line outside) s.new result }
 {
-    if has_room(buffer.len(), 0, 0) {
-        let word = put_word(buffer, 0, b"outside");
-        put_byte(buffer, word, 10)
-    } else {
-        0
-    }
+    let word = put_word(s, 0, b"outside");
+    put_byte(s, word, b'\n')
 }
 
-fn write_refused(buffer: &mut [u8], cause: usize, place: usize) -> usize
-    ensures { Lined buffer.old [] 0 (refused_line cause place) buffer.new result }
+fn put_refused(s: &mut [u8], cause: usize, place: usize) -> usize
+    requires { 52 ≤ length s.old }
+    ensures { Put s.old 0 52 (refused_line cause place) s.new result }
 {
-    if has_room(buffer.len(), 0, 0) {
-        let word = put_word(buffer, 0, b"refused");
-        let number = put_spaced(buffer, word, 10, cause);
-        let before = put_word(buffer, number, b" at");
-        let after = put_spaced(buffer, before, 10, place);
-        put_byte(buffer, after, 10)
-    } else {
-        0
-    }
+    let word = put_word(s, 0, b"refused");
+    let number = put_spaced(s, word, 10, cause);
+    let before = put_word(s, number, b" at");
+    let after = put_spaced(s, before, 10, place);
+    put_byte(s, after, b'\n')
 }
 
-fn write_leaves(
-    buffer: &mut [u8],
-    control: usize,
-    transition: usize,
-    contents: &[u8],
-    shown: usize,
-    far: usize,
-) -> usize
-    ensures { Lined buffer.old contents.now shown (line (leaves control transition (take shown contents.now) far)) buffer.new result }
+fn put_leaves(s: &mut [u8], control: usize, transition: usize, shown: &[u8], far: usize) -> usize
+    requires { 4 * length shown.now + 52 ≤ length s.old }
+    ensures { Put s.old 0 (4 * length shown.now + 52) (line (leaves control transition shown.now far)) s.new result }
 {
-    if has_room(buffer.len(), contents.len(), shown) {
-        let word = put_word(buffer, 0, b"leaves");
-        let from = put_spaced(buffer, word, 10, control);
-        let step = put_spaced(buffer, from, 10, transition);
-        let counted = put_spaced(buffer, step, 10, shown);
-        let followed = put_spaced(buffer, counted, 10, far);
-        let messages = put_listed(buffer, followed, contents, shown);
-        put_byte(buffer, messages, 10)
-    } else {
-        0
-    }
+    let word = put_word(s, 0, b"leaves");
+    let from = put_spaced(s, word, 10, control);
+    let step = put_spaced(s, from, 10, transition);
+    let counted = put_spaced(s, step, 10, shown.len());
+    let followed = put_spaced(s, counted, 10, far);
+    let messages = put_listed(s, followed, shown);
+    put_byte(s, messages, b'\n')
 }
 
-fn write_bad(buffer: &mut [u8], entry: usize, contents: &[u8], shown: usize) -> usize
-    ensures { Lined buffer.old contents.now shown (line (bad entry (take shown contents.now))) buffer.new result }
+fn put_bad(s: &mut [u8], entry: usize, shown: &[u8]) -> usize
+    requires { 4 * length shown.now + 52 ≤ length s.old }
+    ensures { Put s.old 0 (4 * length shown.now + 52) (line (bad entry shown.now)) s.new result }
 {
-    if has_room(buffer.len(), contents.len(), shown) {
-        let word = put_word(buffer, 0, b"bad");
-        let number = put_spaced(buffer, word, 10, entry);
-        let counted = put_spaced(buffer, number, 10, shown);
-        let messages = put_listed(buffer, counted, contents, shown);
-        put_byte(buffer, messages, 10)
-    } else {
-        0
-    }
+    let word = put_word(s, 0, b"bad");
+    let number = put_spaced(s, word, 10, entry);
+    let counted = put_spaced(s, number, 10, shown.len());
+    let messages = put_listed(s, counted, shown);
+    put_byte(s, messages, b'\n')
 }
 
-// The line of a verdict, at the front of the buffer: its length, or 0 where there is no room for it.
-pub fn write_line(buffer: &mut [u8], verdict: Verdict, contents: &[u8]) -> usize
-    ensures { Writes buffer.old verdict contents.now buffer.new result }
+// The line, which the buffer has room for.
+fn put_line(s: &mut [u8], answer: Result<Verdict, CheckRefusal>, contents: &[u8]) -> usize
+    requires { Fits s.old contents.now (shown_in answer) }
+    ensures { PutsLine s.old answer contents.now s.new result }
 {
-    match verdict {
-        Verdict::Closed(pairs) => write_closed(buffer, pairs),
-        Verdict::Outside => write_outside(buffer),
-        Verdict::Leaves(control, transition, shown, far) => write_leaves(
-            buffer,
-            wide(control.0),
-            transition,
-            contents,
-            shown,
-            far,
-        ),
-        Verdict::Bad(entry, shown) => write_bad(buffer, entry, contents, shown),
-        Verdict::Refused(why) => {
-            let cause = number(why);
-            let at = place(why);
-            write_refused(buffer, cause, at)
+    match answer {
+        Ok(Verdict::Closed(pairs)) => put_closed(s, pairs),
+        Ok(Verdict::Fails(Failing::Outside)) => put_outside(s),
+        Ok(Verdict::Fails(Failing::Leaves(control, transition, shown, far))) => {
+            let from = usize::from(control.0);
+            put_leaves(s, from, transition, &contents[..shown], far)
         }
-        Verdict::ShortMemory => write_refused(buffer, SHORT_MEMORY, 0),
+        Ok(Verdict::Fails(Failing::Bad(entry, shown))) => put_bad(s, entry, &contents[..shown]),
+        Err(why) => put_refused(s, why.number(), why.place()),
+    }
+}
+
+// The line of what a check answers, at the front of the buffer: its length, or 0 where there is no room for it.
+pub fn write_line(
+    buffer: &mut [u8],
+    answer: Result<Verdict, CheckRefusal>,
+    contents: &[u8],
+) -> usize
+    ensures { Writes buffer.old answer contents.now buffer.new result }
+{
+    if has_room(buffer.len(), contents.len(), messages_shown(answer)) {
+        put_line(buffer, answer, contents)
+    } else {
+        0
+    }
+}
+
+// How many messages the line shows.
+fn messages_shown(answer: Result<Verdict, CheckRefusal>) -> usize
+    ensures { result ≡ shown_in answer }
+{
+    match answer {
+        Ok(Verdict::Fails(failing)) => failing.shown(),
+        _ => 0,
     }
 }

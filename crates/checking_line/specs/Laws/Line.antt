@@ -1,19 +1,16 @@
 -- The words and numbers of a line, put one after the other, are the line; and what the buffer then holds.
-use Rattle.std.specs.Prelude.{ℕ, ◌+◌, ◌*◌, ◌≤◌, ◌≡◌, refl, Bool, true, false, ◌&&◌, List, [], ◌∷◌, ◌++◌, length, take, drop, leb}
-use Rattle.std.proofs.Common.{sym, ap, ap₂, subst, ◌∙◌, length-take-le, take_at, leb-true, le-leb, arith, zero-add}
+use Rattle.std.specs.Prelude.{ℕ, ◌+◌, ◌*◌, ◌≤◌, ◌≡◌, refl, Bool, true, false, ◌&&◌, List, [], ◌∷◌, ◌++◌, length, take, drop, leb, Result}
+use Rattle.std.proofs.Common.{sym, ap, subst, ◌∙◌, take_at, leb-true, le-leb, arith, zero-add}
 use Rattle.theory_model.specs.Verdict.{closed, outside, leaves, bad}
 use Rattle.theory_model.specs.Line.{spaced, spaced_all, listed, newline, closed_word, outside_word, leaves_word, bad_word, refused_word, at_word, line, refused_line}
 use Rattle.theory_model.specs.Laws.Basics.{and_is}
 use Rattle.theory_files.specs.Reply.{line_of}
 use Rattle.numbers.specs.Put.{Put}
 use Rattle.numbers.specs.Laws.Put.{put_then, put_front}
-use Rattle.numbers.specs.Said.{number_of, place_of}
-use Rattle.numbers.specs.declared.refusal.Refusal.{Refusal}
-use Rattle.tables.specs.declared.kinds.ControlState.{ControlState}
 use Rattle.verdicts.specs.Said.{said_verdict, shown_in}
 use Rattle.verdicts.specs.declared.verdict.Verdict.{Verdict}
-use Rattle.verdicts.specs.declared.verdict.Verdict.TheVariants.{Closed, Outside, Leaves, Bad, Refused, ShortMemory}
-use Rattle.checking_line.specs.Said.{holds, LineRoom, given, Lined, Writes}
+use Rattle.verdicts.specs.declared.verdict.CheckRefusal.{CheckRefusal}
+use Rattle.checking_line.specs.Said.{holds, LineRoom, given, Lined, PutsLine, Writes}
 use Rattle.tables.specs.Limits.{contents_least}
 
 -- ROOM
@@ -34,10 +31,6 @@ module _ {room contents shown : ℕ} {r : Bool} (found : LineRoom room contents 
   pub little : r ≡ false → holds room contents shown ≡ false
   little e = sym found.is ∙ e
 
--- of no message the contents need not hold any
-pub room_none : (room contents : ℕ) → holds room contents 0 ≡ holds room 0 0
-room_none room contents = ap (λ b. b && (leb 0 contents_least && leb (4 * 0 + 52) room)) (le-leb 0 contents (omega arith))
-
 module _ (contents : List ℕ) (shown : ℕ) {entry text : List ℕ} where
   pub lined : {exit : List ℕ} {r : ℕ} (most : ℕ) → holds (length entry) (length contents) shown ≡ true → Put entry 0 most text exit r
       → most ≤ length entry → Lined entry contents shown text exit r
@@ -57,97 +50,70 @@ module _ (contents : List ℕ) (shown : ℕ) {entry text : List ℕ} where
         buffer = subst (λ (t : List ℕ). entry ≡ t ++ drop (length t) entry) (sym none) refl;
       }
 
--- THE MESSAGES, and how many of them there are
-pub put_listed : (contents : List ℕ) (count : ℕ) {a b c : List ℕ} {at p r : ℕ} → Put a at 1 (58 ∷ []) b p
-    → Put b p (4 * count) (spaced_all (take count contents)) c r → Put a at (1 + 4 * count) (listed (take count contents)) c r
-put_listed contents count x y = put_then x y (omega arith)
-
-counted : (contents : List ℕ) (count : ℕ) {a b : List ℕ} {at r : ℕ} → count ≤ length contents → Put a at 11 (spaced count) b r
-    → Put a at 11 (spaced (length (take count contents))) b r
-counted contents count {a} {b} {at} {r} h x = subst (λ (n : ℕ). Put a at 11 (spaced n) b r) (sym (length-take-le count contents h)) x
+-- THE MESSAGES
+pub put_listed : (messages : List ℕ) {a b c : List ℕ} {at p r : ℕ} → Put a at 1 (58 ∷ []) b p
+    → Put b p (4 * length messages) (spaced_all messages) c r → Put a at (1 + 4 * length messages) (listed messages) c r
+put_listed messages x y = put_then x y (omega arith)
 
 -- THE LINES
 module _ {a b c d : List ℕ} {p q r : ℕ} where
-  pub put_closed : (n : ℕ) → Put a 0 6 closed_word b p → Put b p 11 (spaced n) c q → Put c q 1 newline d r → Put a 0 18 (line (closed n)) d r
+  pub put_closed : (n : ℕ) → Put a 0 6 closed_word b p → Put b p 11 (spaced n) c q → Put c q 1 newline d r → Put a 0 52 (line (closed n)) d r
   unfolding line
   put_closed n x y z = put_then x (put_then {most = 12} y z (omega arith)) (omega arith)
 
-pub put_outside : {a b c : List ℕ} {p r : ℕ} → Put a 0 7 outside_word b p → Put b p 1 newline c r → Put a 0 8 (line outside) c r
+pub put_outside : {a b c : List ℕ} {p r : ℕ} → Put a 0 7 outside_word b p → Put b p 1 newline c r → Put a 0 52 (line outside) c r
 unfolding line
 put_outside x y = put_then x y (omega arith)
 
 module _ {a b c d e f : List ℕ} {p q s t r : ℕ} where
   pub put_refused : (k n : ℕ) → Put a 0 7 refused_word b p → Put b p 11 (spaced k) c q → Put c q 3 at_word d s → Put d s 11 (spaced n) e t
-      → Put e t 1 newline f r → Put a 0 33 (refused_line k n) f r
+      → Put e t 1 newline f r → Put a 0 52 (refused_line k n) f r
   unfolding refused_line
   put_refused k n u v w x y =
       put_then u (put_then {most = 26} v (put_then {most = 15} w (put_then {most = 12} x y (omega arith)) (omega arith)) (omega arith)) (omega arith)
 
-  pub put_bad : (number : ℕ) (contents : List ℕ) (count : ℕ) → count ≤ length contents → Put a 0 3 bad_word b p
-      → Put b p 11 (spaced number) c q → Put c q 11 (spaced count) d s → Put d s (1 + 4 * count) (listed (take count contents)) e t
-      → Put e t 1 newline f r → Put a 0 (4 * count + 27) (line (bad number (take count contents))) f r
+  pub put_bad : (number : ℕ) (shown : List ℕ) → Put a 0 3 bad_word b p → Put b p 11 (spaced number) c q
+      → Put c q 11 (spaced (length shown)) d s → Put d s (1 + 4 * length shown) (listed shown) e t → Put e t 1 newline f r
+      → Put a 0 (4 * length shown + 52) (line (bad number shown)) f r
   unfolding line
-  put_bad number contents count h u v w x y =
+  put_bad number shown u v w x y =
       put_then u
-      (put_then {most = 4 * count + 24} v
-      (put_then {most = 4 * count + 13} (counted contents count h w) (put_then {most = 4 * count + 2} x y (omega arith)) (omega arith)) (omega arith))
+      (put_then {most = 4 * length shown + 24} v
+      (put_then {most = 4 * length shown + 13} w (put_then {most = 4 * length shown + 2} x y (omega arith)) (omega arith)) (omega arith))
       (omega arith)
 
 module _ {a b c d e g k l : List ℕ} {p q s t n o r : ℕ} where
-  pub put_leaves : (control transition : ℕ) (contents : List ℕ) (count far : ℕ) → count ≤ length contents → Put a 0 6 leaves_word b p
-      → Put b p 11 (spaced control) c q → Put c q 11 (spaced transition) d s → Put d s 11 (spaced count) e t → Put e t 11 (spaced far) g n
-      → Put g n (1 + 4 * count) (listed (take count contents)) k o → Put k o 1 newline l r
-      → Put a 0 (4 * count + 52) (line (leaves control transition (take count contents) far)) l r
+  pub put_leaves : (control transition : ℕ) (shown : List ℕ) (far : ℕ) → Put a 0 6 leaves_word b p
+      → Put b p 11 (spaced control) c q → Put c q 11 (spaced transition) d s → Put d s 11 (spaced (length shown)) e t
+      → Put e t 11 (spaced far) g n → Put g n (1 + 4 * length shown) (listed shown) k o → Put k o 1 newline l r
+      → Put a 0 (4 * length shown + 52) (line (leaves control transition shown far)) l r
   unfolding line
-  put_leaves control transition contents count far h u v w x y z end =
+  put_leaves control transition shown far u v w x y z end =
       put_then u
-      (put_then {most = 4 * count + 46} v
-      (put_then {most = 4 * count + 35} w
-      (put_then {most = 4 * count + 24} (counted contents count h x)
-      (put_then {most = 4 * count + 13} y (put_then {most = 4 * count + 2} z end (omega arith)) (omega arith)) (omega arith)) (omega arith)) (omega arith))
+      (put_then {most = 4 * length shown + 46} v
+      (put_then {most = 4 * length shown + 35} w
+      (put_then {most = 4 * length shown + 24} x
+      (put_then {most = 4 * length shown + 13} y (put_then {most = 4 * length shown + 2} z end (omega arith)) (omega arith)) (omega arith)) (omega arith))
+      (omega arith))
       (omega arith)
 
--- no message is shown
-bare : (contents : List ℕ) {entry text exit : List ℕ} {r : ℕ} → Lined entry [] 0 text exit r → Lined entry contents 0 text exit r
-bare contents {entry} {text} {exit} l =
-    let same = ap (λ b. given b text) (room_none (length entry) (length contents)) in
-    record {
-      reply = l.reply ∙ ap length (sym same);
-      buffer = subst (λ (t : List ℕ). exit ≡ t ++ drop (length t) entry) (sym same) l.buffer;
-    }
+-- THE LINE of what a check answers, where there is room for it and where there is none
+module _ {entry contents : List ℕ} {v : Result Verdict CheckRefusal} {n : ℕ} {t : Bool} where
+  pub writes : {exit : List ℕ} {r : ℕ} → n ≡ shown_in v → LineRoom (length entry) (length contents) n t → t ≡ true
+      → PutsLine entry v contents exit r → Writes entry v contents exit r
+  writes shown room e w =
+      let there = ap (holds (length entry) (length contents)) (sym shown) ∙ enough room e in
+      record { line = lined contents (shown_in v) (4 * shown_in v + 52) there w.put (omega (arith, shown, (bounds room e).1)) }
 
--- THE LINE of each verdict
-module _ {entry contents exit : List ℕ} {v : Verdict} {r : ℕ} where
-  writes : (w : Verdict) → v ≡ w → Lined entry contents (shown_in w) (line_of (said_verdict w contents)) exit r → Writes entry v contents exit r
-  writes w e l = subst (λ v. Writes entry v contents exit r) (sym e) (record { line = l })
-
-  pub writes_closed : {p : ℕ} → v ≡ Closed p → Lined entry [] 0 (line (closed p)) exit r → Writes entry v contents exit r
-  writes_closed {p} e l = writes (Closed p) e (bare contents l)
-
-  pub writes_outside : v ≡ Outside → Lined entry [] 0 (line outside) exit r → Writes entry v contents exit r
-  writes_outside e l = writes Outside e (bare contents l)
-
-  pub writes_leaves : {c : ControlState} {k t n f : ℕ} → v ≡ Leaves c t n f → k ≡ c.0
-      → Lined entry contents n (line (leaves k t (take n contents) f)) exit r → Writes entry v contents exit r
-  writes_leaves {c} {k} {t} {n} {f} e same l =
-      writes (Leaves c t n f) e (subst (λ (k : ℕ). Lined entry contents n (line (leaves k t (take n contents) f)) exit r) same l)
-
-  pub writes_bad : {b n : ℕ} → v ≡ Bad b n → Lined entry contents n (line (bad b (take n contents))) exit r → Writes entry v contents exit r
-  writes_bad {b} {n} e l = writes (Bad b n) e l
-
-  pub writes_refused : {why : Refusal} {k p : ℕ} → v ≡ Refused why → k ≡ number_of why → p ≡ place_of why
-      → Lined entry [] 0 (refused_line k p) exit r → Writes entry v contents exit r
-  writes_refused {why} e number place l =
-      writes (Refused why) e (bare contents (subst (λ (t : List ℕ). Lined entry [] 0 t exit r) (ap₂ refused_line number place) l))
-
-  pub writes_short : v ≡ ShortMemory → Lined entry [] 0 (refused_line 2 0) exit r → Writes entry v contents exit r
-  writes_short e l = writes ShortMemory e (bare contents l)
+  pub writes_none : n ≡ shown_in v → LineRoom (length entry) (length contents) n t → t ≡ false → Writes entry v contents entry 0
+  writes_none shown room e =
+      record { line = lined_none contents (shown_in v) (ap (holds (length entry) (length contents)) (sym shown) ∙ little room e) }
 
 -- WHAT A CALLER HAS where there is room: the front of the buffer is the line
 pub room_for : (room contents shown : ℕ) → shown ≤ contents → shown ≤ contents_least → 4 * shown + 52 ≤ room → holds room contents shown ≡ true
 room_for room contents shown a b c = rw (le-leb shown contents a, le-leb shown contents_least b, le-leb (4 * shown + 52) room c)
 
-pub written : {entry contents exit : List ℕ} {v : Verdict} {r : ℕ} → Writes entry v contents exit r
+pub written : {entry contents exit : List ℕ} {v : Result Verdict CheckRefusal} {r : ℕ} → Writes entry v contents exit r
     → holds (length entry) (length contents) (shown_in v) ≡ true
     → (r ≡ length (line_of (said_verdict v contents))) × (take r exit ≡ line_of (said_verdict v contents))
 written {entry} {contents} {exit} {v} {r} w e =

@@ -1,10 +1,9 @@
 -- Digits and messages that are put one after the other.
-use Rattle.std.specs.Prelude.{ℕ, zero, suc, ◌+◌, ◌-◌, ◌/◌, ◌%◌, ◌≤◌, ◌<◌, ◌≡◌, refl, Bool, true, false, List, [], ◌∷◌, ◌++◌, length, get_or, take, drop, ltb}
-use Rattle.std.proofs.Common.{sym, ap, subst, ◌∙◌, drop-cons, lt-ltb, le-ltb, ltb-false, arith}
-use Rattle.std.proofs.Math.Nat.{sub-zero}
+use Rattle.std.specs.Prelude.{ℕ, zero, suc, ◌+◌, ◌-◌, ◌/◌, ◌%◌, ◌≤◌, ◌<◌, ◌≡◌, refl, Bool, true, false, List, [], ◌∷◌, ◌++◌, length, get_or, drop, ltb}
+use Rattle.std.proofs.Common.{sym, ap, subst, ◌∙◌, drop-cons, drop_of_length-le, add-one, lt-ltb, le-ltb, ltb-false, arith}
 use Rattle.theory_model.specs.Line.{digits, spaced, spaced_all}
 use Rattle.numbers.specs.Put.{Put}
-use Rattle.numbers.specs.Laws.Put.{Left, left_start, left_put, left_end, put_then}
+use Rattle.numbers.specs.Laws.Put.{Left, left_put, left_end, put_then}
 
 -- DIGITS
 pub digits_none : (s : List ℕ) (at most n : ℕ) → most ≡ 0 → Put s at most (digits most n) s at
@@ -53,35 +52,21 @@ digits_three : (m : ℕ) → m < 1000 → digits 3 m ≡ digits 10 m
 digits_three m h =
     same_digits 2 9 m (λ _. same_digits 1 8 (m / 10) (λ _. same_digits 0 7 (m / 10 / 10) (λ l. absurd (omega arith))))
 
-messages_split : (contents : List ℕ) (i left : ℕ) → i < length contents
-    → spaced_all (take (suc left) (drop i contents)) ≡ spaced (get_or contents i 0) ++ spaced_all (take left (drop (suc i) contents))
+messages_split : (l : List ℕ) (i : ℕ) → i < length l → spaced_all (drop i l) ≡ spaced (get_or l i 0) ++ spaced_all (drop (i + 1) l)
 unfolding spaced_all
-messages_split contents i left h = ap (λ (l : List ℕ). spaced_all (take (suc left) l)) (drop-cons contents i 0 h)
+messages_split l i h =
+    ap spaced_all (drop-cons l i 0 h) ∙ ap (λ (k : ℕ). spaced (get_or l i 0) ++ spaced_all (drop k l)) (sym (add-one i))
 
-module _ (contents : List ℕ) {entry text now after : List ℕ} {at p q count i m : ℕ} where
-  pub left_message : i < count → count ≤ length contents → Left entry at text now p (spaced_all (take (count - i) (drop i contents)))
-      → m ≡ get_or contents i 0 → m < 256 → Put now p 4 (32 ∷ digits 3 m) after q
-      → Left entry at text after q (spaced_all (take (count - (i + 1)) (drop (i + 1) contents)))
-  left_message h long l e small w =
-      let one : count - i ≡ suc (count - (i + 1)) = omega arith in
-      let next : suc i ≡ i + 1 = omega arith in
-      let byte : 32 ∷ digits 3 m ≡ spaced (get_or contents i 0) = ap (λ (d : List ℕ). 32 ∷ d) (digits_three m (omega arith)) ∙ ap spaced e in
-      let split : spaced_all (take (count - i) (drop i contents))
-      ≡ spaced (get_or contents i 0) ++ spaced_all (take (count - (i + 1)) (drop (i + 1) contents)) =
-      ap (λ (k : ℕ). spaced_all (take k (drop i contents))) one ∙ messages_split contents i (count - (i + 1)) (omega arith)
-      ∙ ap (λ (k : ℕ). spaced (get_or contents i 0) ++ spaced_all (take (count - (i + 1)) (drop k contents))) next in
-      left_put (spaced (get_or contents i 0)) (spaced_all (take (count - (i + 1)) (drop (i + 1) contents)))
-      (subst (Left entry at text now p) split l) (subst (λ (u : List ℕ). Put now p 4 u after q) byte w)
+module _ (messages : List ℕ) {entry text now after : List ℕ} {at p q i m : ℕ} where
+  pub left_message : i < length messages → Left entry at text now p (spaced_all (drop i messages)) → m ≡ get_or messages i 0 → m < 256
+      → Put now p 4 (32 ∷ digits 3 m) after q → Left entry at text after q (spaced_all (drop (i + 1) messages))
+  left_message h l e small w =
+      let byte : 32 ∷ digits 3 m ≡ spaced (get_or messages i 0) = ap (λ (d : List ℕ). 32 ∷ d) (digits_three m (omega arith)) ∙ ap spaced e in
+      left_put (spaced (get_or messages i 0)) (spaced_all (drop (i + 1) messages))
+      (subst (Left entry at text now p) (messages_split messages i h) l) (subst (λ (u : List ℕ). Put now p 4 u after q) byte w)
 
-pub left_messages : (contents : List ℕ) {entry text now : List ℕ} {at p count i : ℕ} (most : ℕ) → count ≤ i → p ≤ at + most
-    → Left entry at text now p (spaced_all (take (count - i) (drop i contents))) → Put entry at most text now p
+pub left_messages : (messages : List ℕ) {entry text now : List ℕ} {at p i : ℕ} (most : ℕ) → length messages ≤ i → p ≤ at + most
+    → Left entry at text now p (spaced_all (drop i messages)) → Put entry at most text now p
 unfolding spaced_all
-left_messages contents {entry} {text} {now} {at} {p} {count} {i} most h w l =
-    let none : count - i ≡ 0 = omega arith in
-    left_end most (subst (λ (k : ℕ). Left entry at text now p (spaced_all (take k (drop i contents)))) none l) w
-
-pub messages_start : (contents s : List ℕ) (at count : ℕ)
-    → Left s at (spaced_all (take count contents)) s at (spaced_all (take (count - 0) (drop 0 contents)))
-messages_start contents s at count =
-    subst (λ (k : ℕ). Left s at (spaced_all (take count contents)) s at (spaced_all (take k contents))) (sym (sub-zero count))
-    (left_start s at (spaced_all (take count contents)))
+left_messages messages {entry} {text} {now} {at} {p} {i} most h w l =
+    left_end most (subst (λ (rest : List ℕ). Left entry at text now p (spaced_all rest)) (drop_of_length-le messages h) l) w
