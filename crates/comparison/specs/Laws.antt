@@ -1,8 +1,7 @@
--- Sameness entry by entry is equality; and what a loop that looks for a difference has found.
-use Rattle.std.specs.Prelude.{ℕ, ◌+◌, ◌≤◌, ◌<◌, ◌≡◌, refl, ◌↔◌, true, false, cond, List, [], ◌∷◌, length, get_or, eqb}
-use Rattle.std.proofs.Common.{sym, ap, ap₂, ◌∙◌, ext_get_or, eqb-true, eq-eqb, arith}
-use Rattle.std.proofs.lemmas.Bool.{eqb-false}
-use Rattle.numbers.specs.Laws.Written.{at_or_other}
+-- Sameness entry by entry is equality, and what a comparison of slices finds.
+use lib.Pointwise.{pointwise}
+use Rattle.std.specs.Prelude.{nat_eq, ◌&&◌, ℕ, ◌≡◌, refl, true, false, List, [], ◌∷◌, eqb}
+use Rattle.std.proofs.Common.{ap, ap₂, eqb-true, eq-eqb}
 use Rattle.tables.specs.declared.tables.Machines.{Machines}
 use Rattle.tables.specs.declared.tables.Queues.{Queues}
 use Rattle.tables.specs.declared.tables.Tables.{Tables}
@@ -26,42 +25,16 @@ is_same (a ∷ l) = is_and (eqb a a) (same l l) (eq-eqb a a refl) (is_same l)
 pub same_not : (l m : List ℕ) → (l ≡ m → ⊥) → same l m ≡ false
 same_not l m h = by_test (same l m) (λ e. absurd (h (same_is l m e))) (λ e. e)
 
--- THE LOOP: whether the first i entries differ
-pub record Comparing (a b : List ℕ) (i differ : ℕ) : Type 0 where
-  pub long : length a ≡ length b
-  pub none : (differ ≡ 0) ↔ ((k : ℕ) → k < i → get_or a k 0 ≡ get_or b k 0)
+-- a comparison of slices, place by place, is this one
+pointwise_same : (l m : List ℕ) → pointwise nat_eq l m ≡ same l m
+unfolding same
+pointwise_same [] [] = refl
+pointwise_same [] (b ∷ m) = refl
+pointwise_same (a ∷ l) [] = refl
+pointwise_same (a ∷ l) (b ∷ m) = ap (λ t. eqb a b && t) (pointwise_same l m)
 
-pub comparing_none : (a b : List ℕ) → length a ≡ length b → Comparing a b 0 0
-comparing_none a b e = record { long = e; none = (λ _ k h. absurd (omega arith), λ _. refl) }
-
-pub comparing_more : {a b : List ℕ} {i differ d : ℕ} → Comparing a b i differ → d ≡ cond (eqb (get_or a i 0) (get_or b i 0)) differ 1
-    → Comparing a b (i + 1) d
-comparing_more {a} {b} {i} {differ} {d} c e =
-    by_test (eqb (get_or a i 0) (get_or b i 0))
-    (λ f.
-    let z : d ≡ differ = e ∙ ap (λ t. cond t differ 1) f in
-    let here = eqb-true (get_or a i 0) (get_or b i 0) f in
-    record {
-      long = c.long;
-      none = (
-        λ n k h. at_or_other (λ j. j < i + 1 → get_or a j 0 ≡ get_or b j 0) i k (λ _. here) (λ o g. c.none.0 (omega arith) k (omega arith)) h,
-        λ g. let n : differ ≡ 0 = c.none.1 (λ k h. g k (omega arith)) in omega arith,
-      );
-    })
-    (λ f.
-    let z : d ≡ 1 = e ∙ ap (λ t. cond t differ 1) f in
-    record {
-      long = c.long;
-      none = (λ n. absurd (omega arith), λ g. absurd (eqb-false (get_or a i 0) (get_or b i 0) f (g i (omega arith))));
-    })
-
-pub comparing_done : {a b : List ℕ} {i differ : ℕ} → Comparing a b i differ → length a ≤ i → eqb differ 0 ≡ same a b
-comparing_done {a} {b} {i} {differ} c h =
-    by_test (eqb differ 0)
-    (λ f.
-    let e : a ≡ b = ext_get_or 0 a b c.long (λ k g. c.none.0 (eqb-true differ 0 f) k (omega arith)) in
-    f ∙ sym (ap (same a) (sym e) ∙ is_same a))
-    (λ f. f ∙ sym (same_not a b (λ e. eqb-false differ 0 f (c.none.1 (λ k g. ap (λ l. get_or l k 0) e)))))
+pub pointwise_is : pointwise nat_eq ≡ same
+pointwise_is = λ i l m. pointwise_same l m i
 
 -- TABLES ARE THE SAME exactly if they are equal
 machines_same : (m n : Machines) → same_machines m n ≡ true → m ≡ n
