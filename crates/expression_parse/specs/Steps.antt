@@ -1,13 +1,12 @@
 -- The contracts of parsing. What reading a part answers is said by what the parse does there, from any state that it may be in: so many groups
 -- open, so many alternatives and items done.
-use Rattle.std.specs.Prelude.{◌≡◌, Bool, true, false, cond, ◌&&◌, ◌||◌, List, [], ◌∷◌, ℕ, ◌+◌, ◌-◌, ◌≤◌, ◌<◌, ltb, leb, eqb, length, get_or, drop}
+use Rattle.std.specs.Prelude.{◌≡◌, Bool, true, false, cond, ◌&&◌, ◌||◌, List, [], ◌∷◌, ℕ, ◌+◌, ◌-◌, ◌≤◌, ◌<◌, ltb, leb, eqb, length, get_or, drop, Result, Ok, Err}
 use Rattle.theory_grammar.specs.Tree.{Tree, empty, size}
 use Rattle.theory_grammar.specs.Parse.{is_digit, Frame, State, state, fresh, item, chain, choice, Parsed, parsed, stuck, run, parse}
 use Rattle.theory_occurrences.specs.Sets.{joined, link}
 use Rattle.theory_occurrences.specs.Positions.{first, last, skips, follows, labels}
 use Rattle.expression_parse.specs.declared.parts.Part.{Part}
-use Rattle.expression_parse.specs.declared.parts.Step.{Step}
-use Rattle.expression_parse.specs.declared.parts.Step.TheVariants.{Read, Stuck}
+use Rattle.expression_parse.specs.declared.parts.Stuck.{Stuck}
 
 abbrev pub is_space : ℕ → Bool
 is_space b = eqb b 32
@@ -63,9 +62,9 @@ pub record Halts (s : List ℕ) (at place : ℕ) : Type 0 where
   pub halts : (fs : List Frame) (ds is : List Tree) → run_at s at (state fs ds is fresh) ≡ stuck (length s - place)
 
 -- a part was read, or the text leaves the grammar
-pub data Result (s : List ℕ) (at k : ℕ) (L F L' F' : List ℕ) (Reads : ℕ → Tree → Type 0) : Step → Type 0 where
-  went : {p : Part} → Went s at k L F L' F' Reads p.next p → Result s at k L F L' F' Reads (Read p)
-  stops : {place : ℕ} → Halts s at place → Result s at k L F L' F' Reads (Stuck place)
+pub data Reading (s : List ℕ) (at k : ℕ) (L F L' F' : List ℕ) (Reads : ℕ → Tree → Type 0) : Result Part Stuck → Type 0 where
+  went : {p : Part} → Went s at k L F L' F' Reads p.next p → Reading s at k L F L' F' Reads (Ok p)
+  stops : {e : Stuck} → Halts s at e.0 → Reading s at k L F L' F' Reads (Err e)
 
 -- a number or a group was read, and a star may follow
 pub record FactorReads (s : List ℕ) (at next : ℕ) (x : Tree) : Type 0 where
@@ -99,14 +98,14 @@ pub record AlternativesReads (s : List ℕ) (at next : ℕ) (x : Tree) : Type 0 
   pub ends : next < length s → get_or s next 0 ≡ 41
   pub goes : (fs : List Frame) (ds : List Tree) → Grouped s at next x fs ds
 
-abbrev pub Item : List ℕ → ℕ → ℕ → List ℕ → List ℕ → List ℕ → List ℕ → Step → Type 0
-Item s at k L F L' F' r = Result s at k L F L' F' (ItemReads s at) r
+abbrev pub Item : List ℕ → ℕ → ℕ → List ℕ → List ℕ → List ℕ → List ℕ → Result Part Stuck → Type 0
+Item s at k L F L' F' r = Reading s at k L F L' F' (ItemReads s at) r
 
-abbrev pub Alternative : List ℕ → ℕ → ℕ → List ℕ → List ℕ → List ℕ → List ℕ → Step → Type 0
-Alternative s at k L F L' F' r = Result s at k L F L' F' (AlternativeReads s at) r
+abbrev pub Alternative : List ℕ → ℕ → ℕ → List ℕ → List ℕ → List ℕ → List ℕ → Result Part Stuck → Type 0
+Alternative s at k L F L' F' r = Reading s at k L F L' F' (AlternativeReads s at) r
 
-abbrev pub Alternatives : List ℕ → ℕ → ℕ → List ℕ → List ℕ → List ℕ → List ℕ → Step → Type 0
-Alternatives s at k L F L' F' r = Result s at k L F L' F' (AlternativesReads s at) r
+abbrev pub Alternatives : List ℕ → ℕ → ℕ → List ℕ → List ℕ → List ℕ → List ℕ → Result Part Stuck → Type 0
+Alternatives s at k L F L' F' r = Reading s at k L F L' F' (AlternativesReads s at) r
 
 -- PARTS MADE OF PARTS
 pub record Sequenced (a b : Part) (F F' : List ℕ) (r : Part) : Type 0 where
@@ -140,6 +139,6 @@ pub record Parses (s L F L' F' : List ℕ) (p : Part) : Type 0 where
   pub label : L' ≡ labels tree 0 L
   pub follow : F' ≡ follows tree 0 F
 
-pub data Whole (s L F L' F' : List ℕ) : Step → Type 0 where
-  whole : {p : Part} → Parses s L F L' F' p → Whole s L F L' F' (Read p)
-  outside : {place : ℕ} → place ≤ length s → parse s ≡ stuck (length s - place) → Whole s L F L' F' (Stuck place)
+pub data Whole (s L F L' F' : List ℕ) : Result Part Stuck → Type 0 where
+  whole : {p : Part} → Parses s L F L' F' p → Whole s L F L' F' (Ok p)
+  outside : {e : Stuck} → e.0 ≤ length s → parse s ≡ stuck (length s - e.0) → Whole s L F L' F' (Err e)

@@ -1,10 +1,10 @@
 // The parts of a text: what is known of a part that was read, how two make one, and the reading that does not go round in the grammar.
-ghost use Rattle.std.specs.Prelude.{◌≡◌, ◌&&◌, ◌+◌, drop};
+ghost use Rattle.std.specs.Prelude.{◌≡◌, ◌==◌, ◌+◌, length, take_while, drop};
 ghost use Rattle.expression_scan.specs.Runs.{leading};
 ghost use Rattle.expression_parse.specs.Steps.{is_space, stands_at, ends_at, Sequenced, Eithered, Starred, NumberReady, Item};
 
-use expression_scan::digits::run_at;
-use expression_sets::sets::{MOST_OCCURRENCES, connect, joined, only, put, when};
+use expression_scan::digits::leading_run;
+use expression_sets::sets::{Occurrences, Occurring};
 
 // A part that was read: the place behind it and its spaces, the number of the next occurrence, the occurrences that may begin and end its
 // words, and whether the empty word is one of them.
@@ -12,17 +12,14 @@ use expression_sets::sets::{MOST_OCCURRENCES, connect, joined, only, put, when};
 pub struct Part {
     pub next: usize,
     pub count: usize,
-    pub first: u32,
-    pub last: u32,
+    pub first: Occurrences,
+    pub last: Occurrences,
     pub skips: bool,
 }
 
-// What reading a part answers: the part, or the place where the text leaves the grammar.
-#[derive(Clone, Copy)]
-pub enum Step {
-    Read(Part),
-    Stuck(usize),
-}
+// The place where a text leaves the grammar.
+#[derive(Clone, Copy, Debug, PartialEq, Eq)]
+pub struct Stuck(pub usize);
 
 // Does this byte stand there?
 pub(crate) fn stands(s: &[u8], at: usize, b: u8) -> bool
@@ -35,88 +32,68 @@ pub(crate) fn stands(s: &[u8], at: usize, b: u8) -> bool
 pub(crate) fn ends(s: &[u8], at: usize) -> bool
     ensures { result ≡ ends_at s.now at }
 {
-    if s.len() <= at {
-        return true;
-    }
-    let b = s[at];
-    b == b')' || b == b'|'
+    s.len() <= at || s[at] == b')' || s[at] == b'|'
+}
+
+// How many spaces stand there.
+fn spaces(s: &[u8], at: usize) -> usize
+    ensures { result ≡ length (take_while (λ b. b == 32) (drop at s.now)) }
+{
+    s.iter().skip(at).take_while(|b| **b == b' ').count()
 }
 
 // The place behind the spaces.
 pub(crate) fn skip(s: &[u8], at: usize) -> usize
     ensures { result ≡ at + leading is_space (drop at s.now) }
 {
-    let mut next = at;
-    while next < s.len() {
-        if s[next] != b' ' {
-            return next;
+    at + spaces(s, at)
+}
+
+impl Part {
+    // Two parts side by side.
+    pub(crate) fn sequence(self, rest: Part, occurring: &mut Occurring) -> Part
+        ensures parts { Sequenced self rest occurring.old.follow occurring.new.follow result }
+        ensures label { occurring.new.label ≡ occurring.old.label }
+    {
+        occurring.connect(self.last, rest.first);
+        Part {
+            next: rest.next,
+            count: rest.count,
+            first: self.first | rest.first.when(self.skips),
+            last: rest.last | self.last.when(rest.skips),
+            skips: self.skips && rest.skips,
         }
-        next += 1;
     }
-    next
-}
 
-// A function, so that a part is made in one way.
-fn both(a: bool, b: bool) -> bool
-    ensures { result ≡ (a && b) }
-{
-    a && b
-}
-
-// Two parts side by side.
-pub(crate) fn sequence(head: Part, rest: Part, follow: &mut [u32; MOST_OCCURRENCES]) -> Part
-    ensures { Sequenced head rest follow.old follow.new result }
-{
-    connect(head.last, rest.first, follow);
-    Part {
-        next: rest.next,
-        count: rest.count,
-        first: joined(head.first, when(head.skips, rest.first)),
-        last: joined(rest.last, when(rest.skips, head.last)),
-        skips: both(head.skips, rest.skips),
+    // One part or the other.
+    pub(crate) fn either(self, rest: Part) -> Part
+        ensures { Eithered self rest result }
+    {
+        Part {
+            next: rest.next,
+            count: rest.count,
+            first: self.first | rest.first,
+            last: self.last | rest.last,
+            skips: self.skips || rest.skips,
+        }
     }
-}
 
-// One part or the other.
-pub(crate) fn either(head: Part, rest: Part) -> Part
-    ensures { Eithered head rest result }
-{
-    Part {
-        next: rest.next,
-        count: rest.count,
-        first: joined(head.first, rest.first),
-        last: joined(head.last, rest.last),
-        skips: head.skips || rest.skips,
-    }
-}
-
-// A number or a group that ends at this place, with the star that may stand behind it.
-pub(crate) fn starred(
-    s: &[u8],
-    part: Part,
-    end: usize,
-    follow: &mut [u32; MOST_OCCURRENCES],
-) -> Part
-    ensures { Starred s.now part end follow.old follow.new result }
-{
-    let next = skip(s, end);
-    if !stands(s, next, b'*') {
-        return Part {
-            next,
-            count: part.count,
-            first: part.first,
-            last: part.last,
-            skips: part.skips,
-        };
-    }
-    connect(part.last, part.first, follow);
-    let behind = skip(s, next + 1);
-    Part {
-        next: behind,
-        count: part.count,
-        first: part.first,
-        last: part.last,
-        skips: true,
+    // A number or a group that ends at this place, with the star that may stand behind it.
+    pub(crate) fn starred(self, s: &[u8], end: usize, occurring: &mut Occurring) -> Part
+        ensures part { Starred s.now self end occurring.old.follow occurring.new.follow result }
+        ensures label { occurring.new.label ≡ occurring.old.label }
+    {
+        let next = skip(s, end);
+        if !stands(s, next, b'*') {
+            return Part { next, ..self };
+        }
+        occurring.connect(self.last, self.first);
+        let behind = skip(s, next + 1);
+        Part {
+            next: behind,
+            skips: true,
+            ..self
+        }
     }
 }
 
@@ -125,24 +102,24 @@ pub(crate) fn number(
     s: &[u8],
     at: usize,
     k: usize,
-    label: &mut [u8; MOST_OCCURRENCES],
-    follow: &mut [u32; MOST_OCCURRENCES],
-) -> Step
+    occurring: &mut Occurring,
+) -> Result<Part, Stuck>
     requires { NumberReady s.now at k }
-    ensures { Item s.now at k label.old follow.old label.new follow.new result }
+    ensures { Item s.now at k occurring.old.label occurring.old.follow occurring.new.label occurring.new.follow result }
 {
-    let run = run_at(s, at);
-    if s[at] == b'0' && at + 1 < run.next {
-        return Step::Stuck(at + 1);
+    let run = leading_run(&s[at..]);
+    if s[at] == b'0' && 1 < run.len {
+        return Err(Stuck(at + 1));
     }
-    put(k, run.value, label);
-    let set = only(k);
+    occurring.put(k, run.value);
+    let set = Occurrences::only(k);
+    let next = at + run.len;
     let leaf = Part {
-        next: run.next,
+        next,
         count: k + 1,
         first: set,
         last: set,
         skips: false,
     };
-    Step::Read(starred(s, leaf, run.next, follow))
+    Ok(leaf.starred(s, next, occurring))
 }

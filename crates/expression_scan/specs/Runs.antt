@@ -1,5 +1,5 @@
 -- Runs of like bytes at a place of a text.
-use Rattle.std.specs.Prelude.{◌≡◌, Bool, cond, List, [], ◌∷◌, ℕ, suc, ◌+◌, drop}
+use Rattle.std.specs.Prelude.{◌≡◌, Bool, cond, List, [], ◌∷◌, ℕ, suc}
 use Rattle.theory_grammar.specs.Parse.{is_digit}
 use Rattle.theory_grammar.specs.Offends.{value_from}
 use Rattle.theory_occurrences.specs.Positions.{clip}
@@ -10,7 +10,7 @@ unfoldable pub leading : (ℕ → Bool) → List ℕ → ℕ
 leading test [] = 0
 leading test (b ∷ u) = cond (test b) (suc (leading test u)) 0
 
--- the number at a place, 0 if no digit stands there, and where its digits end
-pub record RunAt (s : List ℕ) (at : ℕ) (r : Run) : Type 0 where
-  pub number : r.value ≡ clip (value_from 0 (drop at s))
-  pub behind : r.next ≡ at + leading is_digit (drop at s)
+-- the digits at the front of a text: their number, 0 if there is none, and how many they are
+pub record Runs (u : List ℕ) (r : Run) : Type 0 where
+  pub number : r.value ≡ clip (value_from 0 u)
+  pub long : r.len ≡ leading is_digit u

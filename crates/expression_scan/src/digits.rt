@@ -2,16 +2,16 @@
 ghost use Rattle.std.specs.Prelude.{◌≡◌, ◌+◌, ◌*◌};
 ghost use Rattle.theory_grammar.specs.Parse.{is_digit};
 ghost use Rattle.theory_occurrences.specs.Positions.{clip};
-ghost use Rattle.expression_scan.specs.Runs.{RunAt};
+ghost use Rattle.expression_scan.specs.Runs.{Runs};
 
-// The first number that is no message's. It stands for all others that are none.
-pub const MESSAGE_LIMIT: u8 = 32;
+use tables::kinds::Message;
 
-// The number of a run of digits, and the place behind it.
-#[derive(Clone, Copy)]
+// The digits at the front of a text: how many there are, and their number. The first number that is no message's stands for all others that
+// are none.
+#[derive(Clone, Copy, Debug, PartialEq, Eq)]
 pub struct Run {
     pub value: u8,
-    pub next: usize,
+    pub len: usize,
 }
 
 pub fn is_digit(b: u8) -> bool
@@ -23,26 +23,22 @@ pub fn is_digit(b: u8) -> bool
 fn with_digit(value: u8, digit: u8) -> u8
     ensures { result ≡ clip (value * 10 + digit) }
 {
-    let n = value as u32 * 10 + digit as u32;
-    if n < MESSAGE_LIMIT as u32 {
-        n as u8
-    } else {
-        MESSAGE_LIMIT
-    }
+    let n = usize::from(value) * 10 + usize::from(digit);
+    n.min(Message::LIMIT) as u8
 }
 
-pub fn run_at(s: &[u8], at: usize) -> Run
-    ensures { RunAt s.now at result }
+pub fn leading_run(s: &[u8]) -> Run
+    ensures { Runs s.now result }
 {
-    let mut value: u8 = 0;
-    let mut next = at;
-    while next < s.len() {
-        let b = s[next];
+    let mut value = 0;
+    for (len, &b) in s.iter().enumerate() {
         if !is_digit(b) {
-            return Run { value, next };
+            return Run { value, len };
         }
         value = with_digit(value, b - b'0');
-        next += 1;
     }
-    Run { value, next }
+    Run {
+        value,
+        len: s.len(),
+    }
 }

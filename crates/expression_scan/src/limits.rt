@@ -1,19 +1,18 @@
 // The limits on an expression: the leftmost byte that offends, found in one pass.
-ghost use Rattle.std.specs.Prelude.{◌≡◌, cond, not, ◌&&◌, ◌+◌, ◌≤◌, ◌<◌, eqb, length, get_or, drop};
-ghost use Rattle.theory_grammar.specs.Offends.{offence, limits};
-ghost use Rattle.expression_scan.specs.Said.{said_excess, ExcessNumber, said_limit, When};
+ghost use Rattle.std.specs.Prelude.{◌≡◌, not, ◌&&◌, ◌<◌, eqb, length, get_or, drop};
+ghost use Rattle.theory_grammar.specs.Parse.{is_digit};
+ghost use Rattle.theory_grammar.specs.Offends.{offence, more, limits};
+ghost use Rattle.expression_scan.specs.Said.{said_excess, said_offence, said_limit};
 
-use crate::digits::{MESSAGE_LIMIT, is_digit, run_at};
+use crate::digits::{is_digit, leading_run};
 use expression_sets::sets::MOST_OCCURRENCES;
 use numbers::refusal::{OUT_OF_RANGE, TOO_DEEP, TOO_MANY_NUMBERS};
+use tables::kinds::Message;
 
 const MOST_DEPTH: usize = 8;
 
-// No refusal has this number.
-const KEPT: usize = 0;
-
 // The limit that a byte passes.
-#[derive(Clone, Copy)]
+#[derive(Clone, Copy, Debug, PartialEq, Eq)]
 pub enum Excess {
     // a number that is no message's
     Large,
@@ -23,103 +22,90 @@ pub enum Excess {
     Many,
 }
 
-// All within the limits, or what passes one leftmost, and its place.
-#[derive(Clone, Copy)]
-pub enum Limit {
-    Kept,
-    Passed(Excess, usize),
-}
-
-// The number of its refusal.
-pub fn excess_number(e: Excess) -> usize
-    ensures { result ≡ said_excess e }
-{
-    match e {
-        Excess::Large => OUT_OF_RANGE,
-        Excess::Deep => TOO_DEEP,
-        Excess::Many => TOO_MANY_NUMBERS,
-    }
-}
-
-// The limit that is passed where the refusal has this number.
-fn numbered(n: usize) -> Excess
-    requires { ExcessNumber n }
-    ensures { said_excess result ≡ n }
-{
-    if n == OUT_OF_RANGE {
-        return Excess::Large;
-    }
-    if n == TOO_DEEP {
-        return Excess::Deep;
-    }
-    Excess::Many
-}
-
-// The number, if the test holds, and 0 if not.
-fn when(test: bool, n: usize) -> usize
-    ensures { When test n result }
-{
-    if test { n } else { 0 }
-}
-
-// The first refusal of two, if there is one.
-fn earlier(a: usize, b: usize) -> usize
-    ensures { result ≡ cond (eqb a 0) b a }
-{
-    if a == KEPT { b } else { a }
-}
-
-// The refusal of the byte at a place, before which so many groups were opened and closed and so many numbers have begun; `inside` says that a
-// digit stands before it.
-fn offence(s: &[u8], at: usize, inside: bool, opened: usize, closed: usize, count: usize) -> usize
-    requires at_in_bounds { at < length s.now }
-    requires closed_le_at { closed ≤ at }
-    ensures { result ≡ offence inside opened closed count (get_or s.now at 0) (drop (at + 1) s.now) }
-{
-    let b = s[at];
-    if is_digit(b) {
-        if inside {
-            return KEPT;
+impl Excess {
+    // The number of its refusal.
+    pub fn number(self) -> usize
+        ensures { result ≡ said_excess self }
+    {
+        match self {
+            Excess::Large => OUT_OF_RANGE,
+            Excess::Deep => TOO_DEEP,
+            Excess::Many => TOO_MANY_NUMBERS,
         }
-        let run = run_at(s, at);
-        let large = when(MESSAGE_LIMIT <= run.value, OUT_OF_RANGE);
-        let many = when(MOST_OCCURRENCES <= count, TOO_MANY_NUMBERS);
-        return earlier(large, many);
     }
-    if b != b'(' {
-        return KEPT;
-    }
-    when(closed + MOST_DEPTH <= opened, TOO_DEEP)
 }
 
-// Does a number begin: a digit with none before it?
-fn begins(digit: bool, inside: bool) -> bool
-    ensures { result ≡ (digit && not inside) }
-{
-    digit && !inside
+// What passes a limit leftmost, and its place.
+#[derive(Clone, Copy, Debug, PartialEq, Eq)]
+pub struct Offence {
+    pub excess: Excess,
+    pub place: usize,
 }
 
-// One pass: each number is looked ahead to its end where it begins.
-pub fn check(s: &[u8]) -> Limit
+// What stands before a byte: a digit or not, so many opening and closing brackets, and so many numbers that begin there.
+#[derive(Clone, Copy)]
+struct Before {
+    inside: bool,
+    opened: usize,
+    closed: usize,
+    numbers: usize,
+}
+
+impl Before {
+    // The limit that the byte at the front of the rest of a text passes. A number is looked ahead to its end where it begins.
+    fn offence(self, rest: &[u8]) -> Option<Excess>
+        requires { 0 < length rest.now }
+        ensures { said_offence result ≡ offence self.inside self.opened self.closed self.numbers (get_or rest.now 0 0) (drop 1 rest.now) }
+    {
+        let b = rest[0];
+        if is_digit(b) {
+            if self.inside {
+                return None;
+            }
+            let value = usize::from(leading_run(rest).value);
+            let large = (Message::LIMIT <= value).then_some(Excess::Large);
+            let many = (MOST_OCCURRENCES <= self.numbers).then_some(Excess::Many);
+            return large.or(many);
+        }
+        let deep = MOST_DEPTH <= self.opened.saturating_sub(self.closed);
+        (b == b'(' && deep).then_some(Excess::Deep)
+    }
+
+    // What stands before the next byte.
+    fn after(self, b: u8) -> Before
+        requires opened_room { self.opened < usize.MAX }
+        requires closed_room { self.closed < usize.MAX }
+        requires numbers_room { self.numbers < usize.MAX }
+        ensures inside { result.inside ≡ is_digit b }
+        ensures opened { result.opened ≡ more (eqb b 40) self.opened }
+        ensures closed { result.closed ≡ more (eqb b 41) self.closed }
+        ensures numbers { result.numbers ≡ more (is_digit b && not self.inside) self.numbers }
+    {
+        let digit = is_digit(b);
+        Before {
+            inside: digit,
+            opened: self.opened + usize::from(b == b'('),
+            closed: self.closed + usize::from(b == b')'),
+            numbers: self.numbers + usize::from(digit && !self.inside),
+        }
+    }
+}
+
+// One pass over a text.
+pub fn check(s: &[u8]) -> Result<(), Offence>
     ensures { said_limit result ≡ limits s.now }
 {
-    let mut inside = false;
-    let mut opened: usize = 0;
-    let mut closed: usize = 0;
-    let mut count: usize = 0;
-    let mut at: usize = 0;
-    while at < s.len() {
-        let number = offence(s, at, inside, opened, closed, count);
-        if number != KEPT {
-            return Limit::Passed(numbered(number), at);
+    let mut before = Before {
+        inside: false,
+        opened: 0,
+        closed: 0,
+        numbers: 0,
+    };
+    for (place, &b) in s.iter().enumerate() {
+        if let Some(excess) = before.offence(&s[place..]) {
+            return Err(Offence { excess, place });
         }
-        let b = s[at];
-        let digit = is_digit(b);
-        opened += when(b == b'(', 1);
-        closed += when(b == b')', 1);
-        count += when(begins(digit, inside), 1);
-        inside = digit;
-        at += 1;
+        before = before.after(b);
     }
-    Limit::Kept
+    Ok(())
 }

@@ -1,31 +1,30 @@
 -- The cycle of the grammar: what each function makes of what those that it calls have read.
-use Rattle.std.specs.Prelude.{◌≡◌, refl, Bool, true, false, ◌||◌, List, [], ◌∷◌, ℕ, ◌+◌, ◌-◌, ◌*◌, ◌<◌, leb, eqb, length, get_or, drop}
+use Rattle.std.specs.Prelude.{◌≡◌, refl, Bool, true, false, ◌||◌, List, [], ◌∷◌, ℕ, ◌+◌, ◌-◌, ◌*◌, ◌<◌, leb, eqb, length, get_or, drop, Result, Ok, Err}
 use Rattle.std.proofs.Common.{sym, ap, subst, ◌∙◌, leb-false, eqb-true, arith, add-zero, add_assoc}
 use Rattle.std.proofs.lemmas.Bool.{lt-leb}
 use Rattle.theory_model.specs.Laws.Basics.{false_not_true}
 use Rattle.theory_grammar.specs.Tree.{Tree, empty, sequence, either}
 use Rattle.theory_grammar.specs.Parse.{sign, fresh, Frame, state, chain, choice, step}
 use Rattle.expression_scan.specs.Runs.{leading}
-use Rattle.expression_parse.specs.Steps.{is_space, stands_at, ends_at, run_at, Ready, ItemReady, Went, Halts, Result, went, stops, ItemReads, AlternativeReads, AlternativesReads, Sequenced, Eithered}
+use Rattle.expression_parse.specs.Steps.{is_space, stands_at, ends_at, run_at, Ready, ItemReady, Went, Halts, Reading, went, stops, ItemReads, AlternativeReads, AlternativesReads, Sequenced, Eithered}
 use Rattle.expression_parse.specs.Laws.Machine.{run_on, run_skips}
 use Rattle.expression_parse.specs.Laws.Factors.{stands_there, stands_not, Past, past}
 use Rattle.expression_parse.specs.declared.parts.Part.{Part}
-use Rattle.expression_parse.specs.declared.parts.Step.{Step}
-use Rattle.expression_parse.specs.declared.parts.Step.TheVariants.{Read, Stuck}
+use Rattle.expression_parse.specs.declared.parts.Stuck.{Stuck}
 
 -- WHAT WAS ANSWERED
 module _ {s : List ℕ} {at k : ℕ} {L F L' F' : List ℕ} {Reads : ℕ → Tree → Type 0} where
-  read_went : {p : Part} → Result s at k L F L' F' Reads (Read p) → Went s at k L F L' F' Reads p.next p
+  read_went : {p : Part} → Reading s at k L F L' F' Reads (Ok p) → Went s at k L F L' F' Reads p.next p
   read_went (went w) = w
 
-  stuck_halts : {place : ℕ} → Result s at k L F L' F' Reads (Stuck place) → Halts s at place
+  stuck_halts : {e : Stuck} → Reading s at k L F L' F' Reads (Err e) → Halts s at e.0
   stuck_halts (stops h) = h
 
-  pub did : {r : Step} {p : Part} → Result s at k L F L' F' Reads r → r ≡ Read p → Went s at k L F L' F' Reads p.next p
-  did g e = read_went (subst (Result s at k L F L' F' Reads) e g)
+  pub did : {r : Result Part Stuck} {p : Part} → Reading s at k L F L' F' Reads r → r ≡ Ok p → Went s at k L F L' F' Reads p.next p
+  did g e = read_went (subst (Reading s at k L F L' F' Reads) e g)
 
-  pub halted : {r : Step} {place : ℕ} → Result s at k L F L' F' Reads r → r ≡ Stuck place → Halts s at place
-  halted g e = stuck_halts (subst (Result s at k L F L' F' Reads) e g)
+  pub halted : {r : Result Part Stuck} {e : Stuck} → Reading s at k L F L' F' Reads r → r ≡ Err e → Halts s at e.0
+  halted g e = stuck_halts (subst (Reading s at k L F L' F' Reads) e g)
 
 -- THE END OF AN ALTERNATIVE
 pub goes_on : (s : List ℕ) (at : ℕ) → ends_at s at ≡ false → at < length s

@@ -1,14 +1,15 @@
 -- Numbers and groups: a number that was read, and the star that may stand behind either.
-use Rattle.std.specs.Prelude.{◌≡◌, refl, true, false, ◌&&◌, List, ◌∷◌, ℕ, ◌+◌, ◌-◌, ◌≤◌, ◌<◌, ltb, eqb, length, get_or, drop}
-use Rattle.std.proofs.Common.{sym, ap, subst, ◌∙◌, drop-drop, ltb-true, lt-ltb, eqb-true, arith, zero-add}
-use Rattle.theory_model.specs.Laws.Basics.{and_is}
+use Rattle.std.specs.Prelude.{◌≡◌, refl, true, false, ◌&&◌, List, ◌∷◌, ℕ, ◌+◌, ◌-◌, ◌≤◌, ◌<◌, ltb, eqb, length, get_or, take, drop}
+use Rattle.std.proofs.Common.{sym, ap, subst, ◌∙◌, drop-drop, ltb-true, ltb-false, lt-ltb, eqb-true, arith, zero-add}
+use Rattle.theory_model.specs.Laws.Basics.{by_test, and_is}
 use Rattle.theory_grammar.specs.Tree.{Tree, letter, star}
 use Rattle.theory_grammar.specs.Parse.{is_digit, sign, fresh, digits, item, Frame, state, step}
 use Rattle.theory_grammar.specs.Offends.{value_from}
 use Rattle.theory_occurrences.specs.Sets.{only, put, link}
 use Rattle.theory_occurrences.specs.Positions.{clip}
-use Rattle.expression_scan.specs.Runs.{leading}
-use Rattle.expression_scan.specs.Laws.Runs.{leading_on, leading_within, leading_ends, leading_some}
+use Rattle.expression_scan.specs.Runs.{leading, Runs}
+use Rattle.expression_scan.specs.declared.digits.Run.{Run}
+use Rattle.expression_scan.specs.Laws.Runs.{rest_is, leading_on, leading_none, leading_within, leading_ends, leading_some}
 use Rattle.expression_scan.specs.Laws.Values.{value_on, digit_range}
 use Rattle.expression_parse.specs.Steps.{is_space, stands_at, run_at, NumberReady, Went, Halts, FactorReads, Starred}
 use Rattle.expression_parse.specs.Laws.Machine.{run_on, run_off, run_skips, run_settled, run_ended, sign_digit, digits_run}
@@ -29,6 +30,12 @@ pub record Past (s : List ℕ) (at next : ℕ) : Type 0 where
   pub on : at ≤ next
   pub within : next ≤ length s
   pub clear : is_space (get_or s next 0) ≡ false
+
+pub spaces_most : (s : List ℕ) (at : ℕ) → leading is_space (drop at s) ≤ length s - at
+spaces_most s at =
+    by_test (ltb at (length s))
+    (λ t. let h : at < length s = ltb-true at (length s) t in omega (arith, h, leading_within is_space s at (omega (arith, h))))
+    (λ t. let h : length s ≤ at = ltb-false at (length s) t in omega (arith, leading_none is_space s at (λ l. absurd (omega (arith, h, l)))))
 
 pub past : (s : List ℕ) (at : ℕ) {next : ℕ} → at ≤ length s → next ≡ at + leading is_space (drop at s) → Past s at next
 past s at {next} h e =
@@ -97,7 +104,20 @@ module _ {s : List ℕ} {p : Part} {end next : ℕ} (n : next ≡ end + leading 
             };
       }
 
--- A NUMBER
+-- A NUMBER, whose digits were looked for at the front of the rest of the text
+module _ (s : List ℕ) (at : ℕ) {r : Run} (D : Runs (take (length s - at) (drop at s)) r) where
+  there : Runs (drop at s) r
+  there = subst (λ u. Runs u r) (rest_is s at) D
+
+  pub run_value : r.value ≡ clip (value_from 0 (drop at s))
+  run_value = there.number
+
+  pub run_behind : at + r.len ≡ at + leading is_digit (drop at s)
+  run_behind = ap (λ n. at + n) there.long
+
+  pub run_within : at ≤ length s → at + r.len ≤ length s
+  run_within h = omega (arith, there.long, leading_within is_digit s at h)
+
 module _ {s : List ℕ} {at k : ℕ} (R : NumberReady s at k) {next : ℕ} (e : next ≡ at + leading is_digit (drop at s)) where
   more : next ≡ at + 1 + leading is_digit (drop (at + 1) s)
   more = omega (arith, leading_on is_digit s at R.within R.digit)
@@ -139,10 +159,10 @@ module _ {s : List ℕ} {at k : ℕ} (R : NumberReady s at k) {next : ℕ} (e : 
             (run_ended fs ds is s next (value_from 0 (drop at s)) (subst (λ i. is_digit (get_or s i 0) ≡ false) (sym e) (leading_ends is_digit s at refl)));
       }
 
-  pub number_went : {L L' F : List ℕ} {v set : ℕ} → (get_or s at 0 ≡ 48 → next ≤ at + 1) → v ≡ clip (value_from 0 (drop at s)) → set ≡ only k
-      → L' ≡ put k v L
-      → Went s at k L F L' F (FactorReads s at) next (record { next = next; count = k + 1; first = set; last = set; skips = false })
-  number_went z v' o l =
+  pub number_went : {L L' F F' : List ℕ} {v set : ℕ} → (get_or s at 0 ≡ 48 → next ≤ at + 1) → v ≡ clip (value_from 0 (drop at s)) → set ≡ only k
+      → L' ≡ put k v L → F' ≡ F
+      → Went s at k L F L' F' (FactorReads s at) next (record { next = next; count = k + 1; first = set; last = set; skips = false })
+  number_went z v' o l f =
       let reads = number_reads z in
       record {
         tree = letter (value_from 0 (drop at s));
@@ -151,6 +171,6 @@ module _ {s : List ℕ} {at k : ℕ} (R : NumberReady s at k) {next : ℕ} (e : 
         counted = omega (arith, reads.on, R.counted);
         part = record { counts = refl; begins = o; ends = o; skipped = refl };
         label = l ∙ rw v';
-        follow = refl;
+        follow = f;
         reads = reads;
       }

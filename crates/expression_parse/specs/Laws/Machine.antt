@@ -1,5 +1,6 @@
 -- The parse at a place of a text: one step, where it stops, states that the next sign does not tell apart, and what spaces and digits do.
-use Rattle.std.specs.Prelude.{◌≡◌, Bool, ltb, eqb, get_or, drop}
+use Rattle.std.specs.Prelude.{◌≡◌, Bool, ltb, eqb, get_or, take_while, drop}
+use Rattle.std.proofs.lemmas.List.Sums.{take_while-cons}
 use Rattle.std.proofs.Math.Path.{refl, sym}
 use Rattle.std.proofs.Common.{ap, ◌∙◌, drop_of_length-le, drop-drop, ltb-true, ltb-false, eqb-true}
 use Rattle.std.proofs.Math.Bool.{true, false, cond}
@@ -15,6 +16,17 @@ use Rattle.theory_grammar.specs.Offends.{value_from}
 use Rattle.expression_scan.specs.Runs.{leading}
 use Rattle.expression_scan.specs.Laws.Runs.{drop_byte}
 use Rattle.expression_parse.specs.Steps.{is_space, run_at}
+
+-- the bytes at the front are as many as an iterator takes
+pub leading_is : (test : ℕ → Bool) (u : List ℕ) → leading test u ≡ length (take_while test u)
+unfolding leading
+leading_is test [] = refl
+leading_is test (b ∷ u) = by (test b) (leading_is test u) ∙ sym (ap length (take_while-cons test b u))
+  where
+    by : (t : Bool) → leading test u ≡ length (take_while test u)
+        → cond t (suc (leading test u)) 0 ≡ length (cond t (b ∷ take_while test u) [])
+    by true e = ap suc e
+    by false e = refl
 
 module _ (s : List ℕ) (at : ℕ) where
   pub run_on : (σ : State) {τ : State} → at < length s → step (sign (get_or s at 0)) σ ≡ some τ → run_at s at σ ≡ run_at s (at + 1) τ

@@ -1,11 +1,12 @@
 -- The bytes at a place that pass a test: one more, none, and where they end.
-use Rattle.std.specs.Prelude.{◌≡◌, Bool, get_or, drop, ltb}
-use Rattle.std.proofs.Math.Path.{refl}
+use Rattle.std.specs.Prelude.{◌≡◌, Bool, get_or, take, drop, ltb}
+use Rattle.std.proofs.Math.Path.{refl, sym, ap}
+use Rattle.std.proofs.Math.Seq.{take-length}
 use Rattle.std.proofs.Math.Bool.{true, false, cond}
 use mathlib.Core.List.{List, [], ◌∷◌}
-use Prim.Native.Nat.{ℕ, suc, ◌+◌, ◌≤◌, ◌<◌}
+use Prim.Native.Nat.{ℕ, suc, ◌+◌, ◌-◌, ◌≤◌, ◌<◌}
 use Rattle.std.proofs.Math.ListN.{length}
-use Rattle.std.proofs.Common.{length-drop, drop_of_length-le, drop-cons, get_or-drop, ltb-true, ltb-false, add-one}
+use Rattle.std.proofs.Common.{length-drop, drop_of_length-le, drop-cons, get_or-drop, ltb-true, ltb-false, add-one, ◌∙◌}
 use native.Mathlib.Omega.{arith}
 use Rattle.theory_model.specs.Laws.Basics.{by_test}
 use Rattle.expression_scan.specs.Runs.{leading}
@@ -13,6 +14,10 @@ use Rattle.expression_scan.specs.Runs.{leading}
 -- the text from a place on begins with the byte there
 pub drop_byte : (s : List ℕ) {i : ℕ} → i < length s → drop i s ≡ get_or s i 0 ∷ drop (i + 1) s
 drop_byte s {i} h = rw (add-one, drop-cons s i 0)
+
+-- the text from a place on, as a slice up to its end
+pub rest_is : (s : List ℕ) (at : ℕ) → take (length s - at) (drop at s) ≡ drop at s
+rest_is s at = ap (λ n. take n (drop at s)) (sym (length-drop at s)) ∙ take-length (drop at s)
 
 module _ (test : ℕ → Bool) where
   most : (u : List ℕ) → leading test u ≤ length u

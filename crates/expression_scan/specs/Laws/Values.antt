@@ -1,12 +1,12 @@
 -- The number of a run, clipped digit by digit.
 use Rattle.std.specs.Prelude.{◌≡◌, refl, Bool, true, false, cond, List, [], ◌∷◌, ℕ, ◌+◌, ◌-◌, ◌*◌, ◌≤◌, ◌<◌, leb, ltb, length, get_or, drop}
-use Rattle.std.proofs.Common.{sym, ap, ◌∙◌, drop_of_length-le, arith, leb-true, ltb-true, ltb-false, lt-ltb, le-ltb}
+use Rattle.std.proofs.Common.{sym, ap, subst, ◌∙◌, drop_of_length-le, arith, leb-true, ltb-true, ltb-false, lt-ltb, le-ltb, zero-add}
 use Rattle.theory_model.specs.Laws.Basics.{by_test, and_is}
 use Rattle.theory_grammar.specs.Grammar.{Digit}
 use Rattle.theory_grammar.specs.Parse.{is_digit}
 use Rattle.theory_grammar.specs.Offends.{value_from, message_limit}
 use Rattle.theory_occurrences.specs.Positions.{clip}
-use Rattle.expression_scan.specs.Runs.{leading, RunAt}
+use Rattle.expression_scan.specs.Runs.{leading, Runs}
 use Rattle.expression_scan.specs.Laws.Runs.{drop_byte, leading_on, leading_none}
 
 pub digit_range : (b : ℕ) → is_digit b ≡ true → Digit b
@@ -58,16 +58,16 @@ value_clipped n u = by (ltb n message_limit) refl
         ∙ sym (clip_large (value_from message_limit u) (value_least message_limit u))
 
 -- A RUN UNDER WAY: its digits up to place i have this number, clipped
-pub record Running (s : List ℕ) (at n i : ℕ) : Type 0 where
-  pub number : clip (value_from n (drop i s)) ≡ clip (value_from 0 (drop at s))
-  pub behind : i + leading is_digit (drop i s) ≡ at + leading is_digit (drop at s)
+pub record Running (s : List ℕ) (n i : ℕ) : Type 0 where
+  pub number : clip (value_from n (drop i s)) ≡ clip (value_from 0 s)
+  pub behind : i + leading is_digit (drop i s) ≡ leading is_digit s
   pub clipped : clip n ≡ n
 
-pub running_begins : (s : List ℕ) (at : ℕ) → Running s at 0 at
-running_begins s at = record { number = refl; behind = refl; clipped = refl }
+pub running_begins : (s : List ℕ) → Running s 0 0
+running_begins s = record { number = refl; behind = zero-add (leading is_digit s); clipped = refl }
 
-module _ {s : List ℕ} {at n i : ℕ} (R : Running s at n i) where
-  pub running_on : {m : ℕ} → i < length s → is_digit (get_or s i 0) ≡ true → m ≡ clip (n * 10 + (get_or s i 0 - 48)) → Running s at m (i + 1)
+module _ {s : List ℕ} {n i : ℕ} (R : Running s n i) where
+  pub running_on : {m : ℕ} → i < length s → is_digit (get_or s i 0) ≡ true → m ≡ clip (n * 10 + (get_or s i 0 - 48)) → Running s m (i + 1)
   running_on {m} h d e =
       record {
         number =
@@ -79,9 +79,14 @@ module _ {s : List ℕ} {at n i : ℕ} (R : Running s at n i) where
         clipped = ap clip e ∙ clip_twice (n * 10 + (get_or s i 0 - 48)) ∙ sym e;
       }
 
-  pub running_ends : (i < length s → is_digit (get_or s i 0) ≡ false) → RunAt s at (record { value = n; next = i })
+  pub running_ends : (i < length s → is_digit (get_or s i 0) ≡ false) → Runs s (record { value = n; len = i })
   running_ends h =
       record {
         number = sym R.clipped ∙ sym (ap clip (value_none s n i h)) ∙ R.number;
-        behind = omega (arith, R.behind, leading_none is_digit s i h);
+        long = omega (arith, R.behind, leading_none is_digit s i h);
       }
+
+pub running_whole : {s : List ℕ} {n i : ℕ} → Running s n i → i ≤ length s → length s ≤ i → Runs s (record { value = n; len = length s })
+running_whole {s} {n} {i} R a b =
+    let e : i ≡ length s = omega arith in
+    running_ends (subst (Running s n) e R) (λ h. absurd (omega (arith, h)))

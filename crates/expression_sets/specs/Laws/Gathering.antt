@@ -3,8 +3,7 @@ use Rattle.std.specs.Prelude.{◌≡◌, refl, List, ℕ, zero, suc, ◌+◌, �
 use Rattle.std.proofs.Common.{sym, ◌∙◌, arith, sub-eq-zero_of_le, length-set, get_or-set_same, get_or-set_other}
 use Rattle.std.proofs.Math.Path.{ap}
 use borrow.Author.Tests.{eq-eqb, ne_eqb}
-use Rattle.std.proofs.lemmas.List.{length-replicate}
-use Rattle.std.specs.Int.Bits.{bit_or}
+use Rattle.std.proofs.lemmas.List.{length-replicate, get_or_default}
 use Rattle.numbers.specs.Laws.Parts.{one_more_lem}
 use Rattle.numbers.specs.Laws.Written.{at_or_other, zeros_hold}
 use Rattle.tables.specs.Limits.{most_messages}
@@ -43,16 +42,20 @@ marking_begins L M e =
 
 module _ {L M : List ℕ} {i : ℕ} (W : Marking L M i) (h : i < most_occurrences) where
   -- an occurrence of no message
-  pub marking_without : most_messages ≤ get_or L i 0 → Marking L M (i + 1)
-  marking_without l =
+  pub marking_without : {m : ℕ} {N : List ℕ} → m ≡ get_or L i 0 → most_messages ≤ m → N ≡ M → Marking L N (i + 1)
+  marking_without {N = N} e l n =
       record {
-        left = λ m k. sym (marked_skip m L (get_or M m 0) h (λ e. absurd (omega arith))) ∙ W.left m k;
-        long = W.long;
+        left =
+            λ m k.
+            ap (λ t. marked_from (most_occurrences - (i + 1)) (i + 1) m L (get_or t m 0)) n
+            ∙ sym (marked_skip m L (get_or M m 0) h (λ f. absurd (omega (arith, e, l, f, k))))
+            ∙ W.left m k;
+        long = ap length n ∙ W.long;
         within = omega arith;
       }
 
-  pub marking_with : {m x bit : ℕ} → m ≡ get_or L i 0 → m < most_messages → bit ≡ only i → x ≡ joined (get_or M m 0) bit → Marking L (set M m x) (i + 1)
-  marking_with {m} {x} {bit} e l b z =
+  marked_one : {m x bit : ℕ} → m ≡ get_or L i 0 → m < most_messages → bit ≡ only i → x ≡ joined (get_or M m 0) bit → Marking L (set M m x) (i + 1)
+  marked_one {m} {x} {bit} e l b z =
       record {
         left =
             λ k n.
@@ -70,6 +73,13 @@ module _ {L M : List ℕ} {i : ℕ} (W : Marking L M i) (h : i < most_occurrence
       same : get_or (set M m x) m 0 ≡ joined (get_or M m 0) (only i)
       same = get_or-set_same M m x 0 (omega (arith, W.long)) ∙ z ∙ ap (joined (get_or M m 0)) b
 
+  -- the entry is read where there is one, so it is the same by any default
+  pub marking_with : (d : ℕ) {m x bit : ℕ} {N : List ℕ} → m ≡ get_or L i 0 → m < most_messages → bit ≡ only i → x ≡ joined (get_or M m d) bit
+      → N ≡ set M m x → Marking L N (i + 1)
+  marking_with d {m} {x} {bit} {N} e l b z n =
+      let there : m < length M = omega (arith, W.long) in
+      rw n (marked_one e l b (z ∙ ap (λ y. joined y bit) (get_or_default M m d 0 there)))
+
 pub marking_ends : {L M : List ℕ} {i : ℕ} → Marking L M i → most_occurrences ≤ i → Marks L M
 marking_ends {L} {M} {i} W h = record { each = λ m k. sym (marked_end m L (get_or M m 0) h) ∙ W.left m k }
 
@@ -80,8 +90,8 @@ module _ (F : List ℕ) {most i : ℕ} (x sum : ℕ) where
   gather_skip h e = rw (one_more_lem h, ne_eqb (x % 2) 1 e, gather_from)
 
   gather_on : i < most → x % 2 ≡ 1
-      → gather_from (most - i) i x F sum ≡ gather_from (most - (i + 1)) (i + 1) (x / 2) F (bit_or sum (get_or F i 0))
-  unfolding gather_from joined
+      → gather_from (most - i) i x F sum ≡ gather_from (most - (i + 1)) (i + 1) (x / 2) F (joined sum (get_or F i 0))
+  unfolding gather_from
   gather_on h e = rw (one_more_lem h, eq-eqb (x % 2) 1 e, gather_from)
 
   gather_end : most ≤ i → gather_from (most - i) i x F sum ≡ sum
@@ -106,11 +116,17 @@ module _ {x : ℕ} {F : List ℕ} {sum rest i : ℕ} (W : Gathering x F sum rest
   pub gathering_empty : rest ≡ 0 → sum ≡ gather x F
   gathering_empty e = sym (gather_none F (most_occurrences - i) i sum) ∙ ap (λ r. gather_from (most_occurrences - i) i r F sum) (sym e) ∙ W.left
 
-  pub gathering_without : i < most_occurrences → (rest % 2 ≡ 1 → ⊥) → Gathering x F sum (rest / 2) (i + 1)
-  gathering_without h e = record { left = sym (gather_skip F rest sum h e) ∙ W.left; within = omega arith }
+  pub gathering_without : {more : ℕ} → i < most_occurrences → (rest % 2 ≡ 1 → ⊥) → more ≡ sum → Gathering x F more (rest / 2) (i + 1)
+  gathering_without h e m = record { left = rw m (sym (gather_skip F rest sum h e) ∙ W.left); within = omega arith }
 
-  pub gathering_with : i < most_occurrences → rest % 2 ≡ 1 → Gathering x F (bit_or sum (get_or F i 0)) (rest / 2) (i + 1)
-  gathering_with h e = record { left = sym (gather_on F rest sum h e) ∙ W.left; within = omega arith }
+  -- the entry is read where there is one, so it is the same by any default
+  pub gathering_with : (d : ℕ) {more : ℕ} → length F ≡ most_occurrences → i < most_occurrences → rest % 2 ≡ 1 → more ≡ joined sum (get_or F i d)
+      → Gathering x F more (rest / 2) (i + 1)
+  gathering_with d {more} l h e m =
+      record {
+        left = rw (m, get_or_default F i d 0 (omega (arith, l, h))) (sym (gather_on F rest sum h e) ∙ W.left);
+        within = omega arith;
+      }
 
   pub gathering_ends : most_occurrences ≤ i → sum ≡ gather x F
   gathering_ends h = sym (gather_end F rest sum h) ∙ W.left

@@ -1,6 +1,7 @@
 -- Sets of occurrences as the code makes them: the set of one, and the loop that adds to what may follow.
-use Rattle.std.specs.Prelude.{◌≡◌, refl, cond, List, ℕ, zero, suc, ◌+◌, ◌-◌, ◌*◌, ◌/◌, ◌%◌, ◌^◌, ◌≤◌, ◌<◌, eqb, get_or, set}
-use Rattle.std.proofs.Common.{sym, ap, ◌∙◌, lt-ltb, le-ltb, eq-eqb, ne_eqb, arith, one-mul, mod-eq_of_lt, pow-suc, sub-eq-zero_of_le}
+use Rattle.std.specs.Prelude.{◌≡◌, cond, List, ℕ, suc, ◌+◌, ◌-◌, ◌*◌, ◌/◌, ◌%◌, ◌^◌, ◌≤◌, ◌<◌, eqb, length, get_or, set}
+use Rattle.std.proofs.Common.{sym, ap, ◌∙◌, lt-ltb, le-ltb, eq-eqb, ne_eqb, arith, one-mul, mod-eq_of_lt, pow-suc, sub-eq-zero_of_le, length-set}
+use Rattle.std.proofs.lemmas.List.{get_or_default, set-get_or}
 use Rattle.std.proofs.Math.Nat.{one-le-pow, pow-le-pow_right}
 use Rattle.numbers.specs.Laws.Parts.{one_more_lem}
 use Rattle.theory_grammar.specs.Offends.{most_occurrences}
@@ -19,6 +20,7 @@ only_none k h = ap (λ t. cond t (2 ^ k) 0) (le-ltb k most_occurrences h)
 pub record Linking (from to : ℕ) (F₀ : List ℕ) (rest i : ℕ) (F : List ℕ) : Type 0 where
   pub is : link_from (most_occurrences - i) i rest to F ≡ link from to F₀
   pub within : i ≤ most_occurrences
+  pub long : length F ≡ most_occurrences
 
 -- the definition's steps, n being the number of all occurrences
 module _ (n rest to : ℕ) (F : List ℕ) {i : ℕ} where
@@ -31,35 +33,30 @@ module _ (n rest to : ℕ) (F : List ℕ) {i : ℕ} where
   unfolding link_from
   done h = rw (sub-eq-zero_of_le h)
 
-pub linking_begins : (from to : ℕ) (F : List ℕ) → Linking from to F from 0 F
-linking_begins from to F = record { is = refl; within = omega arith }
+pub linking_begins : (to : ℕ) {from rest : ℕ} {F : List ℕ} → rest ≡ from → length F ≡ most_occurrences → Linking from to F rest 0 F
+linking_begins to {F = F} e l = record { is = ap (λ x. link x to F) e; within = omega arith; long = l }
 
 module _ {from to : ℕ} {F₀ : List ℕ} {rest i : ℕ} {F : List ℕ} (W : Linking from to F₀ rest i F) (h : i < most_occurrences) {G : List ℕ} where
-  step : G ≡ cond (eqb (rest % 2) 1) (set F i (joined (get_or F i 0) to)) F → Linking from to F₀ (rest / 2) (i + 1) G
-  step g =
+  step : G ≡ cond (eqb (rest % 2) 1) (set F i (joined (get_or F i 0) to)) F → length G ≡ length F → Linking from to F₀ (rest / 2) (i + 1) G
+  step g l =
       record {
         is =
             ap (link_from (most_occurrences - (i + 1)) (i + 1) (rest / 2) to) g
             ∙ sym (on most_occurrences rest to F h)
             ∙ W.is;
         within = omega arith;
+        long = l ∙ W.long;
       }
 
-  pub linking_with : {z : ℕ} → rest % 2 ≡ 1 → z ≡ joined (get_or F i 0) to → G ≡ set F i z → Linking from to F₀ (rest / 2) (i + 1) G
-  linking_with e z g = step (g ∙ rw (z, eq-eqb (rest % 2) 1 e))
+  -- the entry is read where there is one, so it is the same by any default
+  pub linking_with : (d : ℕ) {z : ℕ} → rest % 2 ≡ 1 → z ≡ joined (get_or F i d) to → G ≡ set F i z → Linking from to F₀ (rest / 2) (i + 1) G
+  linking_with d {z} e s g =
+      step (g ∙ rw (s, get_or_default F i d 0 (omega (arith, W.long, h)), eq-eqb (rest % 2) 1 e)) (ap length g ∙ length-set F i z)
 
-  pub linking_without : (rest % 2 ≡ 1 → ⊥) → G ≡ F → Linking from to F₀ (rest / 2) (i + 1) G
-  linking_without e g = step (g ∙ rw (ne_eqb (rest % 2) 1 e))
+  pub linking_without : (d : ℕ) → (rest % 2 ≡ 1 → ⊥) → G ≡ set F i (get_or F i d) → Linking from to F₀ (rest / 2) (i + 1) G
+  linking_without d e g =
+      let same : G ≡ F = g ∙ set-get_or F i d in
+      step (same ∙ rw (ne_eqb (rest % 2) 1 e)) (ap length same)
 
 pub linking_ends : {from to : ℕ} {F₀ : List ℕ} {rest i : ℕ} {F : List ℕ} → Linking from to F₀ rest i F → most_occurrences ≤ i → F ≡ link from to F₀
 linking_ends {to = to} {rest = rest} {F = F} W h = sym (done most_occurrences rest to F h) ∙ W.is
-
--- nothing is left of the set
-link_none : (left i to : ℕ) (F : List ℕ) → link_from left i 0 to F ≡ F
-unfolding link_from
-link_none zero i to F = refl
-link_none (suc left) i to F = link_none left (i + 1) to F
-
-pub linking_empty : {from to : ℕ} {F₀ : List ℕ} {rest i : ℕ} {F : List ℕ} → Linking from to F₀ rest i F → rest ≡ 0 → F ≡ link from to F₀
-linking_empty {to = to} {i = i} {F = F} W e =
-    sym (link_none (most_occurrences - i) i to F) ∙ ap (λ x. link_from (most_occurrences - i) i x to F) (sym e) ∙ W.is

@@ -1,18 +1,14 @@
-use native.Mathlib.Omega.{arith}
-use mathlib.Core.Path.{refl}
-use borrow.Author.Tests.{eq-eqb, ne_eqb}
-use Rattle.expression_scan.specs.Laws.Runs.{leading_on, leading_none}
+use Rattle.std.proofs.Common.{ap, sym, ◌∙◌, ◌≡◌, ◌+◌, drop, arith}
+use Rattle.expression_scan.specs.Runs.{leading}
 use Rattle.expression_parse.specs.Steps.{is_space}
+use Rattle.expression_parse.specs.Laws.Machine.{leading_is}
+use Rattle.expression_parse.specs.Laws.Factors.{spaces_most}
 use Rattle.expression_parse.proofs.parts.skip.Goals as goal
 
-pub loop-next-init : goal.loop-next-init
-loop-next-init c = refl
-
-pub returns-then-s-next-ne32 : goal.returns-then-s-next-ne32
-returns-then-s-next-ne32 c = omega (arith, c.loop-next.invariant, leading_none is_space c.args.s.now c.loop-next.next (λ h. ne_eqb _ _ c.if-s-next-ne32.true))
-
-pub loop-next-preserved : goal.loop-next-preserved
-loop-next-preserved c = omega (arith, c.loop-next.invariant, leading_on is_space c.args.s.now c.loop-next.next c.loop-next-test.true (eq-eqb _ _ c.if-s-next-ne32.false))
+pub overflow_add-result : goal.overflow_add-result
+overflow_add-result c =
+    let n : c.spaces.result ≡ leading is_space (drop c.args.at c.args.s.now) = c.spaces.ensures ∙ sym (leading_is is_space (drop c.args.at c.args.s.now)) in
+    omega (arith, n, spaces_most c.args.s.now c.args.at, c.ranges.at)
 
 pub returns : goal.returns
-returns c = omega (arith, c.loop-next.invariant, leading_none is_space c.args.s.now c.loop-next.next (λ h. absurd (omega (arith, c.loop-next-test.false))))
+returns c = ap (λ n. c.args.at + n) (c.spaces.ensures ∙ sym (leading_is is_space (drop c.args.at c.args.s.now)))

@@ -1,10 +1,5 @@
-use Prim.Native.Nat.{◌-◌}
-use lib.ListN.{length}
 use Rattle.expression_scan.specs.Laws.Limits.{Checking}
 use Rattle.expression_scan.proofs.limits.check.Given as goal
 
-abbrev pub invariant-loop-at : goal.invariant-loop-at
-invariant-loop-at l = Checking l.s l.inside l.opened l.closed l.count l.at
-
-abbrev pub decreases-loop-at : goal.decreases-loop-at
-decreases-loop-at l = length l.s - l.at
+abbrev pub invariant-loop-place : goal.invariant-loop-place
+invariant-loop-place l = Checking l.s l.before.inside l.before.opened l.before.closed l.before.numbers l.place
