@@ -1,6 +1,6 @@
 // A reader over the bytes of a session file: numbers of one or two bytes, groups of seven bits with the low group first. What is read
 // at the reader's place moves the place past it.
-ghost use Rattle.std.specs.Prelude.{◌≡◌, ◌≤◌, OnErr};
+ghost use Rattle.std.specs.Prelude.{◌≡◌, ◌≤◌, ◌<◌, IfOk, OnErr};
 ghost use Rattle.numbers.specs.Said.{said};
 ghost use Rattle.numbers.specs.Number.{read_number, read_within, read_below, read_two};
 
@@ -55,6 +55,7 @@ impl Reader<'_> {
     #[tactic(auto, using(crate::specs::Laws::Parts::handed_on), unfolding(crate::specs::Number::read_within))]
     pub fn within(&mut self, least: u8, most: u8) -> Result<u8, Refusal>
         ensures read { said result self.new.place ≡ read_within self.old.bytes.now self.old.place least most }
+        ensures range { IfOk result (λ v. (least ≤ v) × (v ≤ most)) }
         ensures bytes { self.new.bytes ≡ self.old.bytes }
     {
         let at = self.place;
@@ -70,6 +71,7 @@ impl Reader<'_> {
     pub fn below(&mut self, limit: usize) -> Result<u8, Refusal>
         requires { limit ≤ 256 }
         ensures read { said result self.new.place ≡ read_below self.old.bytes.now self.old.place limit }
+        ensures range { IfOk result (λ v. v < limit) }
         ensures bytes { self.new.bytes ≡ self.old.bytes }
     {
         let at = self.place;
@@ -86,6 +88,7 @@ impl Reader<'_> {
         requires first_bound { first ≤ 256 }
         requires second_bound { second ≤ 256 }
         ensures read { said result self.new.place ≡ read_two self.old.bytes.now self.old.place first second }
+        ensures range { IfOk result (λ v. (v.0 < first) × (v.1 < second)) }
         ensures bytes { self.new.bytes ≡ self.old.bytes }
     {
         let a = self.below(first)?;
