@@ -1,137 +1,88 @@
 // Field 1: the machines.
-ghost use Rattle.std.specs.Prelude.{◌≡◌, ◌≤◌};
-ghost use Rattle.numbers.specs.Part.{got, and_then};
-ghost use Rattle.numbers.specs.Said.{said_field, number_with, filled_with};
+ghost use Rattle.std.specs.Prelude.{◌≡◌, ◌≤◌, ◌*◌, IfOk, replicate};
+ghost use Rattle.numbers.specs.Said.{said};
 ghost use Rattle.tables.specs.Limits.{most_machines, most_controls};
 ghost use Rattle.reading_model.specs.Machines.{read_factor, read_sizes, read_starts, counted_machines, read_machines};
-ghost use Rattle.reading_model.specs.Lent.{resuming};
 
-use numbers::number::{Field, Filled, Number, read_below, read_within, wide};
+use numbers::reader::Reader;
 use numbers::refusal::Refusal;
-use tables::empty::empty_machines;
 use tables::tables::{MOST_CONTROLS, MOST_MACHINES, MOST_STATES, Machines};
 
-// The file resumes if it says what waits at the start.
-#[derive(Clone, Copy)]
-pub struct MachinesRead {
-    pub filled: Filled,
-    pub resumes: bool,
-    pub machines: Machines,
-}
+// A number for each machine; 0 where there is none.
+type Each = [u8; MOST_MACHINES as usize];
 
 // How many states the next machine has, after machines with this product.
-fn read_factor(s: &[u8], at: usize, product: usize) -> Field
+#[tactic(auto, using(numbers::specs::Laws::Parts::handed_on), unfolding(crate::specs::Machines::read_factor))]
+fn read_factor(r: &mut Reader<'_>, product: usize) -> Result<u8, Refusal>
     requires { product ≤ most_controls }
-    ensures { said_field result ≡ read_factor s.now at product }
+    ensures read { said result r.new.place ≡ read_factor r.old.bytes.now r.old.place product }
+    ensures most { IfOk result (λ v. product * v ≤ most_controls) }
+    ensures bytes { r.new.bytes ≡ r.old.bytes }
 {
-    match read_within(s, at, 1, MOST_STATES) {
-        Field::Refused(why) => Field::Refused(why),
-        Field::Value(v, next) => {
-            if MOST_CONTROLS < product * wide(v) {
-                return Field::Refused(Refusal::PassesLimit(at));
-            }
-            Field::Value(v, next)
-        }
+    let at = r.place;
+    let v = r.within(1, MOST_STATES)?;
+    if MOST_CONTROLS < product * usize::from(v) {
+        return Err(Refusal::PassesLimit(at));
     }
+    Ok(v)
 }
 
-// The states of each machine, and their product.
-fn read_sizes(s: &[u8], at: usize, count: usize, sizes: &mut [u8; MOST_MACHINES as usize]) -> Number
+// The product of the machines' states, and the states of each.
+fn read_sizes(r: &mut Reader<'_>, count: usize) -> Result<(usize, Each), Refusal>
     requires { count ≤ most_machines }
-    ensures { number_with result sizes.new ≡ read_sizes s.now at 1 count 0 sizes.old }
+    ensures read { said result r.new.place ≡ read_sizes r.old.bytes.now r.old.place 1 count 0 (replicate most_machines 0) }
+    ensures bytes { r.new.bytes ≡ r.old.bytes }
 {
-    let mut product: usize = 1;
-    let mut place = at;
-    let mut i: usize = 0;
-    while i < count {
-        match read_factor(s, place, product) {
-            Field::Refused(why) => return Number::Refused(why),
-            Field::Value(v, next) => {
-                sizes[i] = v;
-                product = product * wide(v);
-                place = next;
-                i += 1;
-            }
-        }
+    let mut product = 1;
+    let mut sizes = [0u8; MOST_MACHINES as usize];
+    for i in 0..count {
+        let v = read_factor(r, product)?;
+        sizes[i] = v;
+        product *= usize::from(v);
     }
-    Number::Value(product, place)
+    Ok((product, sizes))
 }
 
 // The starting state of each machine.
-fn read_starts(
-    s: &[u8],
-    at: usize,
-    sizes: [u8; MOST_MACHINES as usize],
-    count: usize,
-    starts: &mut [u8; MOST_MACHINES as usize],
-) -> Filled
+fn read_starts(r: &mut Reader<'_>, sizes: Each, count: usize) -> Result<Each, Refusal>
     requires { count ≤ most_machines }
-    ensures { filled_with result starts.new ≡ read_starts s.now at sizes count 0 starts.old }
+    ensures read { said result r.new.place ≡ read_starts r.old.bytes.now r.old.place sizes count 0 (replicate most_machines 0) }
+    ensures bytes { r.new.bytes ≡ r.old.bytes }
 {
-    let mut place = at;
-    let mut i: usize = 0;
-    while i < count {
-        match read_below(s, place, wide(sizes[i])) {
-            Field::Refused(why) => return Filled::Refused(why),
-            Field::Value(v, next) => {
-                starts[i] = v;
-                place = next;
-                i += 1;
-            }
-        }
+    let mut starts = [0u8; MOST_MACHINES as usize];
+    for i in 0..count {
+        starts[i] = r.below(usize::from(sizes[i]))?;
     }
-    Filled::To(place)
+    Ok(starts)
 }
 
 // Both, for machines of this count.
-fn read_counted(s: &[u8], at: usize, resumes: bool, count: u8) -> MachinesRead
+#[tactic(auto, using(numbers::specs::Laws::Parts::handed_on), unfolding(crate::specs::Machines::counted_machines))]
+fn read_counted(r: &mut Reader<'_>, count: u8) -> Result<Machines, Refusal>
     requires { count ≤ most_machines }
-    ensures { filled_with result.filled (resuming result.resumes result.machines) ≡ and_then (counted_machines s.now at count) (λ m p. got (resuming resumes m) p) }
+    ensures read { said result r.new.place ≡ counted_machines r.old.bytes.now r.old.place count }
+    ensures bytes { r.new.bytes ≡ r.old.bytes }
 {
-    let mut states = [0u8; MOST_MACHINES as usize];
-    let mut starts = [0u8; MOST_MACHINES as usize];
-    match read_sizes(s, at, count as usize, &mut states) {
-        Number::Refused(why) => MachinesRead {
-            filled: Filled::Refused(why),
-            resumes,
-            machines: Machines {
-                count,
-                product: 0,
-                states,
-                starts,
-            },
-        },
-        Number::Value(product, place) => {
-            let filled = read_starts(s, place, states, count as usize, &mut starts);
-            MachinesRead {
-                filled,
-                resumes,
-                machines: Machines {
-                    count,
-                    product,
-                    states,
-                    starts,
-                },
-            }
-        }
-    }
+    let (product, states) = read_sizes(r, usize::from(count))?;
+    let starts = read_starts(r, states, usize::from(count))?;
+    Ok(Machines {
+        count,
+        product,
+        states,
+        starts,
+    })
 }
 
-// A first number above the most machines says that the file resumes; it has that many machines less the most.
-pub(crate) fn read_machines(s: &[u8], at: usize) -> MachinesRead
-    ensures { filled_with result.filled (resuming result.resumes result.machines) ≡ read_machines s.now at }
+// Whether the file resumes, and its machines. A first number above the most machines says that it resumes; it has that many machines less
+// the most.
+#[tactic(auto, using(numbers::specs::Laws::Parts::handed_on), unfolding(crate::specs::Machines::read_machines))]
+pub(crate) fn read_machines(r: &mut Reader<'_>) -> Result<(bool, Machines), Refusal>
+    ensures read { said result r.new.place ≡ read_machines r.old.bytes.now r.old.place }
+    ensures bytes { r.new.bytes ≡ r.old.bytes }
 {
-    match read_within(s, at, 1, MOST_MACHINES + MOST_MACHINES) {
-        Field::Refused(why) => MachinesRead {
-            filled: Filled::Refused(why),
-            resumes: false,
-            machines: empty_machines(),
-        },
-        Field::Value(first, place) => {
-            if MOST_MACHINES < first {
-                return read_counted(s, place, true, first - MOST_MACHINES);
-            }
-            read_counted(s, place, false, first)
-        }
+    let first = r.within(1, MOST_MACHINES + MOST_MACHINES)?;
+    if MOST_MACHINES < first {
+        return Ok((true, read_counted(r, first - MOST_MACHINES)?));
     }
+    Ok((false, read_counted(r, first)?))
 }

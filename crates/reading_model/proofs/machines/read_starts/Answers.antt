@@ -1,24 +1,22 @@
-use borrow.Author.Rules.{rules}
-use mathlib.Core.Path.{sym, ap, ◌∙◌}
-use native.Mathlib.Omega.{arith}
-use native.Mathlib.Nat.{sub-zero, sub-eq-zero_of_le}
-use Rattle.numbers.specs.Said.{said_field}
-use Rattle.numbers.specs.Laws.Parts.{one_more_lem}
+use Rattle.std.proofs.Common.{◌∙◌, sub-eq-zero_of_le}
+use Rattle.numbers.specs.Laws.Parts.{handed_on, one_more_lem}
 use Rattle.reading_model.specs.Machines.{read_starts}
 use Rattle.reading_model.proofs.machines.read_starts.Goals as goal
 
-pub loop-i-init : goal.loop-i-init
-loop-i-init c = simp sub-zero (search rules)
-
-pub returns-in-Refused : goal.returns-in-Refused
+pub returns-in_err-starts-clause-read : goal.returns-in_err-starts-clause-read
 unfolding read_starts
-returns-in-Refused c = rw (← c.loop-i.invariant.0, one_more_lem c.loop-i-test.true, ← c.wide.ensures.same, sym c.read_below.ensures ∙ ap said_field c.in-Refused.is)
+returns-in_err-starts-clause-read c =
+    rw (← c.loop-i.invariant.rest, one_more_lem c.loop-i-test.true, ← c.from.ensures, ← c.in_err-starts.ensures.read)
+    (handed_on c.from_residual.result _ _ c.from_residual.ensures.1)
 
 pub loop-i-preserved : goal.loop-i-preserved
 unfolding read_starts
 loop-i-preserved c =
-    (rw (← c.loop-i.invariant.0, one_more_lem c.loop-i-test.true, ← c.wide.ensures.same, sym c.read_below.ensures ∙ ap said_field c.in-Value.is), omega arith)
+    record {
+      rest = rw (← c.loop-i.invariant.rest, one_more_lem c.loop-i-test.true, ← c.from.ensures, ← c.in_ok-starts.ensures.read, c.in_ok-starts.ensures.bytes);
+      bytes = c.in_ok-starts.ensures.bytes ∙ c.loop-i.invariant.bytes;
+    }
 
-pub returns : goal.returns
+pub returns-clause-read : goal.returns-clause-read
 unfolding read_starts
-returns c = rw (← c.loop-i.invariant.0, sub-eq-zero_of_le c.loop-i-test.false)
+returns-clause-read c = rw (← c.loop-i.invariant.rest, sub-eq-zero_of_le c.loop-i-test.false)

@@ -1,25 +1,22 @@
-use borrow.Author.Rules.{rules}
-use native.Mathlib.Omega.{arith}
-use native.Mathlib.Nat.{sub-zero, sub-eq-zero_of_le}
-use Rattle.numbers.specs.Laws.Parts.{one_more_lem}
+use Rattle.std.proofs.Common.{◌∙◌, sub-eq-zero_of_le}
+use Rattle.numbers.specs.Laws.Parts.{handed_on_with, one_more_lem}
 use Rattle.reading_model.specs.Transitions.{read_rows}
 use Rattle.reading_model.proofs.transitions.read_rows.Goals as goal
 
-pub loop-t-init : goal.loop-t-init
-loop-t-init c = simp sub-zero (search rules)
-
-pub returns-in-Refused : goal.returns-in-Refused
+pub returns-in_err-read_transition-clause-read : goal.returns-in_err-read_transition-clause-read
 unfolding read_rows
-returns-in-Refused c =
-    let e = rw c.in-Refused.is at c.read_transition.ensures in
-    rw (← c.loop-t.invariant.0, one_more_lem c.loop-t-test.true, ← e)
+returns-in_err-read_transition-clause-read c =
+    rw (← c.loop-t.invariant.rest, one_more_lem c.loop-t-test.true, ← c.in_err-read_transition.ensures.read)
+    (handed_on_with c.from_residual.result _ _ _ c.from_residual.ensures.1)
 
 pub loop-t-preserved : goal.loop-t-preserved
 unfolding read_rows
 loop-t-preserved c =
-    let e = rw c.in-To.is at c.read_transition.ensures in
-    (rw (← c.loop-t.invariant.0, one_more_lem c.loop-t-test.true, ← e), omega arith)
+    record {
+      rest = rw (← c.loop-t.invariant.rest, one_more_lem c.loop-t-test.true, ← c.in_ok-read_transition.ensures.read, c.in_ok-read_transition.ensures.bytes);
+      bytes = c.in_ok-read_transition.ensures.bytes ∙ c.loop-t.invariant.bytes;
+    }
 
-pub returns : goal.returns
+pub returns-clause-read : goal.returns-clause-read
 unfolding read_rows
-returns c = rw (← c.loop-t.invariant.0, sub-eq-zero_of_le c.loop-t-test.false)
+returns-clause-read c = rw (← c.loop-t.invariant.rest, sub-eq-zero_of_le c.loop-t-test.false)

@@ -1,24 +1,23 @@
-use borrow.Author.Rules.{rules}
-use mathlib.Core.Path.{sym, ap, ◌∙◌}
-use native.Mathlib.Omega.{arith}
-use native.Mathlib.Nat.{sub-eq-zero_of_le}
-use Rattle.numbers.specs.Said.{said_field}
-use Rattle.numbers.specs.Laws.Parts.{one_more_lem}
+use Rattle.std.proofs.Common.{◌∙◌, sub-eq-zero_of_le, length-set}
+use Rattle.numbers.specs.Laws.Parts.{handed_on_with, one_more_lem}
 use Rattle.reading_model.specs.Words.{read_word}
 use Rattle.reading_model.proofs.words.read_word.Goals as goal
 
-pub returns-in-Refused : goal.returns-in-Refused
+pub returns-in_err-table-clause-read : goal.returns-in_err-table-clause-read
 unfolding read_word
-returns-in-Refused c = rw (← c.loop-j.invariant.0, one_more_lem c.loop-j-test.true, sym c.read_message.ensures ∙ ap said_field c.in-Refused.is)
+returns-in_err-table-clause-read c =
+    rw (← c.loop-j.invariant.rest, one_more_lem c.loop-j-test.true, ← c.in_err-table.ensures.read)
+    (handed_on_with c.from_residual.result _ _ _ c.from_residual.ensures.1)
 
 pub loop-j-preserved : goal.loop-j-preserved
 unfolding read_word
-loop-j-preserved c = (
-  rw (← c.loop-j.invariant.0, one_more_lem c.loop-j-test.true, sym c.read_message.ensures ∙ ap said_field c.in-Value.is),
-  omega arith,
-  search rules,
-)
+loop-j-preserved c =
+    record {
+      rest = rw (← c.loop-j.invariant.rest, one_more_lem c.loop-j-test.true, ← c.in_ok-table.ensures.read, c.in_ok-table.ensures.bytes);
+      bytes = c.in_ok-table.ensures.bytes ∙ c.loop-j.invariant.bytes;
+      long = length-set c.loop-j.table c.loop-j.j c.in_ok-table.field-0 ∙ c.loop-j.invariant.long;
+    }
 
-pub returns : goal.returns
+pub returns-clause-read : goal.returns-clause-read
 unfolding read_word
-returns c = rw (← c.loop-j.invariant.0, sub-eq-zero_of_le c.loop-j-test.false)
+returns-clause-read c = rw (← c.loop-j.invariant.rest, sub-eq-zero_of_le c.loop-j-test.false)
