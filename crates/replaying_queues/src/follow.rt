@@ -10,17 +10,10 @@ ghost use Rattle.replaying_queues.specs.Lent.{Rings};
 ghost use Rattle.replaying_queues.specs.Led.{Leads, Waits};
 
 use crate::QUEUE_ROOM;
-use following::messages::{Followed, follow};
+use following::messages::{Lost, Ring, follow};
 use following::rows::{row_of, state_of};
 use tables::kinds::{DiagramState, Reached};
 use tables::tables::MOST_QUEUES;
-
-// Where what waits leads: to a state, or nowhere after so many messages.
-#[derive(Clone, Copy)]
-pub enum Led {
-    To(DiagramState),
-    Lost(usize),
-}
 
 // How many messages wait in the first so many queues.
 pub fn waiting_in(lengths: &[usize; MOST_QUEUES as usize], count: usize) -> usize
@@ -40,7 +33,7 @@ pub fn follow_rings(
     heads: &[usize; MOST_QUEUES as usize],
     lengths: &[usize; MOST_QUEUES as usize],
     count: usize,
-) -> Led
+) -> Result<DiagramState, Lost>
     requires arcs_small { ArcsSmall arcs.now }
     requires from_le_most_pool { from.0 ≤ most_pool }
     requires rings { Rings memory.now heads.now lengths.now count }
@@ -48,22 +41,20 @@ pub fn follow_rings(
     ensures { Leads arcs.now from.0 (word (rings memory.now heads.now lengths.now count)) result }
 {
     if from.is_nowhere() {
-        return Led::Lost(0);
+        return Err(Lost(0));
     }
     let mut row = row_of(from.state());
     for q in 0..count {
-        match follow(
-            arcs,
-            row,
-            memory,
-            q * QUEUE_ROOM,
-            QUEUE_ROOM,
-            heads[q],
-            lengths[q],
-        ) {
-            Followed::Lost(n) => return Led::Lost(waiting_in(lengths, q) + n),
-            Followed::At(next) => row = next,
+        let ring = Ring::<QUEUE_ROOM> {
+            table: memory,
+            base: q * QUEUE_ROOM,
+            head: heads[q],
+            count: lengths[q],
+        };
+        match follow(arcs, row, ring) {
+            Ok(next) => row = next,
+            Err(Lost(n)) => return Err(Lost(waiting_in(lengths, q) + n)),
         }
     }
-    Led::To(state_of(row))
+    Ok(state_of(row))
 }

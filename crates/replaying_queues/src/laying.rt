@@ -3,7 +3,7 @@ ghost use Rattle.std.specs.Prelude.{◌≡◌};
 ghost use Rattle.replaying_queues.specs.Laying.{Layable, Lays};
 
 use crate::QUEUE_ROOM;
-use crate::ring::Ring;
+use crate::ring::QueueRing;
 use numbers::number::wide;
 use tables::tables::{MOST_QUEUES, MOST_STARTING, Queues};
 
@@ -24,7 +24,7 @@ pub fn lay_starting(memory: &mut [u8], queues: Queues)
     for q in 0..wide(queues.count) {
         let at = q * MOST_STARTING as usize;
         let n = wide(lengths[q]);
-        let ring = Ring {
+        let ring = QueueRing {
             base: q * QUEUE_ROOM,
             head: 0,
             count: 0,

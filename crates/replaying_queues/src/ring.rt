@@ -8,23 +8,23 @@ use tables::tables::MOST_QUEUES;
 
 // The ring begins at base in the memory. Its oldest message stands at its place head, and so many messages wait.
 #[derive(Clone, Copy)]
-pub struct Ring {
+pub struct QueueRing {
     pub base: usize,
     pub head: usize,
     pub count: usize,
 }
 
-impl Ring {
+impl QueueRing {
     // The ring of a queue, each queue's behind that of the one before it.
     pub fn of(
         q: usize,
         heads: &[usize; MOST_QUEUES as usize],
         lengths: &[usize; MOST_QUEUES as usize],
-    ) -> Ring
+    ) -> QueueRing
         requires { q < most_queues }
         ensures { result ≡ ring_of q heads.now lengths.now }
     {
-        Ring {
+        QueueRing {
             base: q * QUEUE_ROOM,
             head: heads[q],
             count: lengths[q],

@@ -6,11 +6,11 @@ ghost use Rattle.replaying_queues.specs.Laid.{laid, memory_after};
 ghost use Rattle.replaying_queues.specs.Lent.{Stands, Rings};
 
 use crate::QUEUE_ROOM;
-use crate::ring::Ring;
+use crate::ring::QueueRing;
 use numbers::put::put_word;
 use tables::tables::MOST_QUEUES;
 
-impl Ring {
+impl QueueRing {
     // Through a copy of what waits in it.
     fn settle(self, memory: &mut [u8])
         requires { Stands memory.old self }
@@ -35,6 +35,6 @@ pub fn settle_queues(
     ensures { memory.new ≡ memory_after (rings memory.old heads.now lengths.now count) memory.old }
 {
     for q in 0..count {
-        Ring::of(q, heads, lengths).settle(memory);
+        QueueRing::of(q, heads, lengths).settle(memory);
     }
 }

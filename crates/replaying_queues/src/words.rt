@@ -6,9 +6,9 @@ ghost use Rattle.replaying_queues.specs.Ring.{waiting, put_round, began};
 ghost use Rattle.replaying_queues.specs.Lent.{Stands};
 
 use crate::QUEUE_ROOM;
-use crate::ring::Ring;
+use crate::ring::QueueRing;
 
-impl Ring {
+impl QueueRing {
     // The word put into the ring behind what waits. Places are taken round the ring. Most words have one message, for which a loop costs more
     // than its work, here and below.
     pub fn put(self, memory: &mut [u8], word: &[u8])

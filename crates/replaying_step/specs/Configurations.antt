@@ -10,7 +10,6 @@ use Rattle.controls.specs.Controls.{sizes_of}
 use Rattle.theory_replay.specs.Rules.{room}
 use Rattle.replaying_queues.specs.Ring.{rings}
 use Rattle.replaying_queues.specs.Laid.{memory_after}
-use Rattle.tables.specs.declared.head.Head.{Head}
 use Rattle.replaying_step.specs.declared.runs.RunRecord.{RunRecord}
 
 -- a record of its parts
@@ -47,11 +46,11 @@ pub record Holds (m : Machines) (q : Queues) (r : RunRecord) (mem : List ℕ) : 
   pub enough : q.count * room ≤ length mem
 
 -- what is asked for the form of the end, and what is found: no heads, each queue's messages at its front, and the rest as it was
-pub record Settleable (h : Head) (hs ls mem : List ℕ) : Type 0 where
-  pub queues : QueuesValid h.queues
-  pub ringed : InRings h.queues hs ls
-  pub enough : h.queues.count * room ≤ length mem
+pub record Settleable (q : Queues) (r : RunRecord) (mem : List ℕ) : Type 0 where
+  pub queues : QueuesValid q
+  pub ringed : InRings q r.heads r.lengths
+  pub enough : q.count * room ≤ length mem
 
-pub record Settles (h : Head) (hs ls mem hs' mem' : List ℕ) : Type 0 where
-  pub heads : hs' ≡ replicate most_queues 0
-  pub memory : mem' ≡ memory_after (rings mem hs ls h.queues.count) mem
+pub record Settles (q : Queues) (r : RunRecord) (mem : List ℕ) (r' : RunRecord) (mem' : List ℕ) : Type 0 where
+  pub lent : r' ≡ run_of r.states (replicate most_queues 0) r.lengths
+  pub memory : mem' ≡ memory_after (rings mem r.heads r.lengths q.count) mem

@@ -1,25 +1,24 @@
 -- Whether a record's configuration is inside, and how far it is followed where it is not; what is asked to find that.
-use Rattle.std.specs.Prelude.{Bool, true, false, List, ℕ}
+use Rattle.std.specs.Prelude.{◌≡◌, Bool, true, false, List, ℕ, Result, Ok, Err, ⊤}
 use Rattle.tables.specs.Valid.{MachinesValid, QueuesValid, PoolValid, MapValid}
 use Rattle.theory_model.specs.Model.{Configuration}
 use Rattle.replaying_step.specs.Parts.{pool_in, inside_of, far_of}
 use Rattle.replaying_step.specs.Configurations.{Holds}
-use Rattle.tables.specs.declared.head.Head.{Head}
-use Rattle.replaying_step.specs.declared.inside.Position.{Position}
-use Rattle.replaying_step.specs.declared.inside.Position.TheVariants.{Inside, Outside}
+use Rattle.tables.specs.declared.view.TablesView.{TablesView}
+use Rattle.replaying_step.specs.declared.inside.Outside.{Outside}
 use Rattle.replaying_step.specs.declared.runs.RunRecord.{RunRecord}
 
 -- inside, or outside with how far
-abbrev pub position_by : Bool → ℕ → Position
-position_by true far = Inside
-position_by false far = Outside far
+abbrev pub Placed : Bool → ℕ → Result ⊤ Outside → Type 0
+Placed inside far (Ok _) = inside ≡ true
+Placed inside far (Err o) = (inside ≡ false) × (o.0 ≡ far)
 
-abbrev pub position_of : Head → List ℕ → List ℕ → List ℕ → Configuration → Position
-position_of h finals arcs roots γ = position_by (inside_of h finals arcs roots γ) (far_of h finals arcs roots γ)
+pub record Located (t : TablesView) (γ : Configuration) (p : Result ⊤ Outside) : Type 0 where
+  pub is : Placed (inside_of t.head t.finals.now t.arcs.now t.roots.now γ) (far_of t.head t.finals.now t.arcs.now t.roots.now γ) p
 
-pub record Mapped (h : Head) (finals arcs roots : List ℕ) (r : RunRecord) (mem : List ℕ) : Type 0 where
-  pub machines : MachinesValid h.machines
-  pub queues : QueuesValid h.queues
-  pub pool : PoolValid h.queues.sum (pool_in h finals arcs)
-  pub map : MapValid h.machines.product h.states (record { roots = roots })
-  pub holds : Holds h.machines h.queues r mem
+pub record Mapped (t : TablesView) (r : RunRecord) (mem : List ℕ) : Type 0 where
+  pub machines : MachinesValid t.head.machines
+  pub queues : QueuesValid t.head.queues
+  pub pool : PoolValid t.head.queues.sum (pool_in t.head t.finals.now t.arcs.now)
+  pub map : MapValid t.head.machines.product t.head.states (record { roots = t.roots.now })
+  pub holds : Holds t.head.machines t.head.queues r mem

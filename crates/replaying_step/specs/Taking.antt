@@ -1,5 +1,5 @@
 -- A transition taken on the record and the queue memory.
-use Rattle.std.specs.Prelude.{ℕ, ◌+◌, ◌*◌, ◌≤◌, ◌<◌, ◌≡◌, true, false, List, length, drop}
+use Rattle.std.specs.Prelude.{ℕ, ◌+◌, ◌*◌, ◌≤◌, ◌<◌, ◌≡◌, true, false, List, length, drop, Result, Ok, Err, ⊤}
 use Rattle.std.proofs.Math.Option.{none, some}
 use Rattle.tables.specs.Rows.{row_length, word_entry, kind_at, queue_at, length_at, word_at}
 use Rattle.tables.specs.Valid.{MachinesValid, QueuesValid, TransitionsValid, ActionValid}
@@ -12,8 +12,8 @@ use Rattle.replaying_queues.specs.Ring.{rings}
 use Rattle.replaying_step.specs.Configurations.{config_of, InRings, Holds}
 use Rattle.tables.specs.declared.head.Head.{Head}
 use Rattle.replaying_step.specs.declared.runs.RunRecord.{RunRecord}
-use Rattle.replaying_step.specs.declared.taking.Took.{Took}
-use Rattle.replaying_step.specs.declared.taking.Took.TheVariants.{Yes, NotPossible, NoRoom}
+use Rattle.replaying_step.specs.declared.taking.Untaken.{Untaken}
+use Rattle.replaying_step.specs.declared.taking.Untaken.TheVariants.{NotPossible, NoRoom}
 
 -- WHAT IS ASKED to take transition i: the tables were read, and record and memory hold a configuration
 pub record Takeable (h : Head) (rows : List ℕ) (r : RunRecord) (mem : List ℕ) (i : ℕ) : Type 0 where
@@ -37,9 +37,9 @@ pub record Shiftable (q : Queues) (rows : List ℕ) (row : ℕ) (hs ls mem : Lis
   pub ringed : InRings q hs ls
   pub enough : q.count * room ≤ length mem
 
-pub record ShiftAsked (rows : List ℕ) (row : ℕ) (hs ls mem : List ℕ) : Type 0 where
+pub record ShiftAsked (rows : List ℕ) (row : ℕ) (r : RunRecord) (mem : List ℕ) : Type 0 where
   pub queues : Queues
-  pub shiftable : Shiftable queues rows row hs ls mem
+  pub shiftable : Shiftable queues rows row r.heads r.lengths mem
 
 -- the action is possible, and leads to these rings; the memory past the queues stays
 pub record Shifted (q : Queues) (a : Action) (hs ls mem hs' ls' mem' : List ℕ) : Type 0 where
@@ -54,25 +54,25 @@ pub record Unshifted (hs ls mem hs' ls' mem' : List ℕ) : Type 0 where
   pub lengths : ls' ≡ ls
   pub memory : mem' ≡ mem
 
-abbrev pub Shifts : Queues → Action → List ℕ → List ℕ → List ℕ → Took → List ℕ → List ℕ → List ℕ → Type 0
-Shifts q a hs ls mem Yes hs' ls' mem' = Shifted q a hs ls mem hs' ls' mem'
-Shifts q a hs ls mem NotPossible hs' ls' mem' = (act a (rings mem hs ls q.count) ≡ none) × Unshifted hs ls mem hs' ls' mem'
-Shifts q a hs ls mem NoRoom hs' ls' mem' =
+abbrev pub Shifts : Queues → Action → List ℕ → List ℕ → List ℕ → Result ⊤ Untaken → List ℕ → List ℕ → List ℕ → Type 0
+Shifts q a hs ls mem (Ok _) hs' ls' mem' = Shifted q a hs ls mem hs' ls' mem'
+Shifts q a hs ls mem (Err NotPossible) hs' ls' mem' = (act a (rings mem hs ls q.count) ≡ none) × Unshifted hs ls mem hs' ls' mem'
+Shifts q a hs ls mem (Err NoRoom) hs' ls' mem' =
     ((qs : List (List ℕ)) × (act a (rings mem hs ls q.count) ≡ some qs) × (fits qs ≡ false)) × Unshifted hs ls mem hs' ls' mem'
 
--- what a function that performs an action finds, whichever queues the row is of; then the actions of a row
-abbrev pub Performs : Action → List ℕ → ℕ → List ℕ → List ℕ → List ℕ → Took → List ℕ → List ℕ → List ℕ → Type 0
-Performs a rows row hs ls mem t hs' ls' mem' = (q : Queues) → Shiftable q rows row hs ls mem → Shifts q a hs ls mem t hs' ls' mem'
+-- what a function that performs an action finds, whichever queues the row is of: the machines' states stay; then the actions of a row
+pub record Performs (a : Action) (rows : List ℕ) (row : ℕ) (r : RunRecord) (mem : List ℕ) (t : Result ⊤ Untaken) (r' : RunRecord) (mem' : List ℕ) : Type 0 where
+  pub states : r'.states ≡ r.states
+  pub shifts : (q : Queues) → Shiftable q rows row r.heads r.lengths mem → Shifts q a r.heads r.lengths mem t r'.heads r'.lengths mem'
 
-abbrev pub Sends : List ℕ → ℕ → List ℕ → List ℕ → List ℕ → Took → List ℕ → List ℕ → Type 0
-Sends rows row hs ls mem t ls' mem' = Performs (send (queue_at rows row) (word_at rows row)) rows row hs ls mem t hs ls' mem'
+abbrev pub Sends : List ℕ → ℕ → RunRecord → List ℕ → Result ⊤ Untaken → RunRecord → List ℕ → Type 0
+Sends rows row r mem t r' mem' = Performs (send (queue_at rows row) (word_at rows row)) rows row r mem t r' mem'
 
-abbrev pub Receives : List ℕ → ℕ → List ℕ → List ℕ → List ℕ → Took → List ℕ → List ℕ → Type 0
-Receives rows row hs ls mem t hs' ls' = Performs (receive (queue_at rows row) (word_at rows row)) rows row hs ls mem t hs' ls' mem
+abbrev pub Receives : List ℕ → ℕ → RunRecord → List ℕ → Result ⊤ Untaken → RunRecord → Type 0
+Receives rows row r mem t r' = Performs (receive (queue_at rows row) (word_at rows row)) rows row r mem t r' mem
 
-abbrev pub Acts : List ℕ → ℕ → List ℕ → List ℕ → List ℕ → Took → List ℕ → List ℕ → List ℕ → Type 0
-Acts rows row hs ls mem t hs' ls' mem' =
-    Performs (action_of (kind_at rows row) (queue_at rows row) (word_at rows row)) rows row hs ls mem t hs' ls' mem'
+abbrev pub Acts : List ℕ → ℕ → RunRecord → List ℕ → Result ⊤ Untaken → RunRecord → List ℕ → Type 0
+Acts rows row r mem t r' mem' = Performs (action_of (kind_at rows row) (queue_at rows row) (word_at rows row)) rows row r mem t r' mem'
 
 -- WHAT IS FOUND OF A TRANSITION
 -- the step is taken, and the memory past the queues stays
@@ -88,14 +88,14 @@ pub record Stays (r : RunRecord) (mem : List ℕ) (r' : RunRecord) (mem' : List 
   pub same : r' ≡ r
   pub kept : mem' ≡ mem
 
-abbrev pub Takes : Head → List ℕ → ℕ → RunRecord → List ℕ → Took → RunRecord → List ℕ → Type 0
-Takes h rows i r mem Yes r' mem' = Moves h rows i r mem r' mem'
-Takes h rows i r mem NotPossible r' mem' =
+abbrev pub Takes : Head → List ℕ → ℕ → RunRecord → List ℕ → Result ⊤ Untaken → RunRecord → List ℕ → Type 0
+Takes h rows i r mem (Ok _) r' mem' = Moves h rows i r mem r' mem'
+Takes h rows i r mem (Err NotPossible) r' mem' =
     (take? (model_in h rows) i (config_of h.machines h.queues r mem) ≡ none) × Stays r mem r' mem'
-Takes h rows i r mem NoRoom r' mem' =
+Takes h rows i r mem (Err NoRoom) r' mem' =
     ((γ : Configuration) × (take? (model_in h rows) i (config_of h.machines h.queues r mem) ≡ some γ) × (fits γ.queues ≡ false))
     × Stays r mem r' mem'
 
 -- what taking finds, whichever head the tables have
-abbrev pub Tries : List ℕ → ℕ → RunRecord → List ℕ → Took → RunRecord → List ℕ → Type 0
+abbrev pub Tries : List ℕ → ℕ → RunRecord → List ℕ → Result ⊤ Untaken → RunRecord → List ℕ → Type 0
 Tries rows i r mem t r' mem' = (h : Head) → Takeable h rows r mem i → Takes h rows i r mem t r' mem'

@@ -1,4 +1,4 @@
-// One step of a replay on the run's record by value: whether its configuration is inside, a transition taken, the form of the end.
+// One step of a replay on the run's record: whether its configuration is inside, a transition taken, the form of the end.
 #![tactic(auto)]
 
 pub mod inside;

@@ -1,5 +1,5 @@
 -- How many messages wait in the first queues, queue by queue; where all of them lead, by what is found.
-use Rattle.std.specs.Prelude.{ℕ, zero, suc, ◌+◌, ◌≤◌, ◌<◌, ◌≡◌, refl, List, [], ◌∷◌, ◌++◌, length, get_or, sum, take}
+use Rattle.std.specs.Prelude.{ℕ, zero, suc, ◌+◌, ◌≤◌, ◌<◌, ◌≡◌, refl, List, [], ◌∷◌, ◌++◌, length, get_or, sum, take, Result, Ok, Err}
 use Rattle.std.proofs.Common.{zero-le, sym, ap, subst, ◌∙◌, append-nil, arith, add-one, length-append}
 use Rattle.std.proofs.Math.Option.{Option, none, some}
 use Rattle.std.proofs.lemmas.List.Sums.{sum_by_more}
@@ -18,8 +18,7 @@ use Rattle.replaying_queues.specs.Lent.{Rings}
 use Rattle.replaying_queues.specs.Led.{led_to, Leads, Waits}
 use Rattle.replaying_queues.specs.Laws.Waiting.{waiting_length}
 use Rattle.tables.specs.Laws.Each.{each_snoc}
-use Rattle.replaying_queues.specs.declared.follow.Led.{Led}
-use Rattle.replaying_queues.specs.declared.follow.Led.TheVariants.{To, Lost}
+use Rattle.following.specs.declared.messages.Lost.{Lost}
 
 -- ONE QUEUE MORE
 word_snoc : (qs : List (List ℕ)) (x : List ℕ) → length (word (qs ++ (x ∷ []))) ≡ length (word qs) + length x
@@ -70,33 +69,34 @@ ring_far {mem} {heads} {lengths} arcs x q R e =
 
 -- WHAT IS FOUND: no root; nowhere after k messages of the queues before and n of this one; a state
 module _ {arcs u : List ℕ} where
-  pub leads_rootless : {t : ℕ} → t ≡ most_pool → Leads arcs t u (Lost 0)
-  leads_rootless e =
+  pub leads_rootless : {t : ℕ} {l : Lost} → t ≡ most_pool → l.0 ≡ 0 → Leads arcs t u (Err l)
+  leads_rootless e z =
       record {
         is = (
           ap (λ x. follow_arcs arcs x u) (reached_nowhere e) ∙ follow_none arcs u,
-          sym (ap (λ x. far_arcs arcs x u) (reached_nowhere e) ∙ far_none_arcs arcs u),
+          z ∙ sym (ap (λ x. far_arcs arcs x u) (reached_nowhere e) ∙ far_none_arcs arcs u),
         );
       }
 
   module _ {t t' : ℕ} (from : t ≡ t') where
-    pub leads_nowhere : (n : ℕ) {k l : ℕ} → FollowsTo arcs t u most_pool → k ≡ l → l + n ≡ far_arcs arcs (reached_of t) u → Leads arcs t' u (Lost (k + n))
-    leads_nowhere n f e g =
+    pub leads_nowhere : (n : ℕ) {k l : ℕ} {L : Lost} → FollowsTo arcs t u most_pool → k ≡ l → l + n ≡ far_arcs arcs (reached_of t) u → L.0 ≡ k + n
+        → Leads arcs t' u (Err L)
+    leads_nowhere n f e g z =
         record {
           is = (
             sym (f.is ∙ ap (λ x. follow_arcs arcs (reached_of x) u) from) ∙ reached_nowhere refl,
-            ap (λ x. x + n) e ∙ g ∙ ap (λ x. far_arcs arcs (reached_of x) u) from,
+            z ∙ ap (λ x. x + n) e ∙ g ∙ ap (λ x. far_arcs arcs (reached_of x) u) from,
           );
         }
 
-    pub leads_to_lem : {s : ℕ} {d : DiagramState} → s < most_pool → FollowsTo arcs t u s → d.0 ≡ s → Leads arcs t' u (To d)
+    pub leads_to_lem : {s : ℕ} {d : DiagramState} → s < most_pool → FollowsTo arcs t u s → d.0 ≡ s → Leads arcs t' u (Ok d)
     leads_to_lem below f e =
         record { is = (sym (f.is ∙ ap (λ x. follow_arcs arcs (reached_of x) u) from) ∙ reached_small below ∙ ap some (sym e), omega arith) }
 
 -- and back, by the answer
-module _ {arcs u : List ℕ} {t : ℕ} {r : Led} (L : Leads arcs t u r) where
-  pub led_to_lem : {s : DiagramState} → r ≡ To s → (follow_arcs arcs (reached_of t) u ≡ some s.0) × (s.0 < most_pool)
+module _ {arcs u : List ℕ} {t : ℕ} {r : Result DiagramState Lost} (L : Leads arcs t u r) where
+  pub led_to_lem : {s : DiagramState} → r ≡ Ok s → (follow_arcs arcs (reached_of t) u ≡ some s.0) × (s.0 < most_pool)
   led_to_lem z = subst (led_to arcs t u) z L.is
 
-  pub led_nowhere : {n : ℕ} → r ≡ Lost n → (follow_arcs arcs (reached_of t) u ≡ none) × (n ≡ far_arcs arcs (reached_of t) u)
+  pub led_nowhere : {l : Lost} → r ≡ Err l → (follow_arcs arcs (reached_of t) u ≡ none) × (l.0 ≡ far_arcs arcs (reached_of t) u)
   led_nowhere z = subst (led_to arcs t u) z L.is

@@ -1,5 +1,5 @@
 -- What a row does to its queue, by what the code finds.
-use Rattle.std.specs.Prelude.{ℕ, zero, suc, ◌+◌, ◌-◌, ◌*◌, ◌%◌, ◌≤◌, ◌<◌, ◌≡◌, refl, true, false, List, [], ◌++◌, length, get_or, set, drop}
+use Rattle.std.specs.Prelude.{ℕ, zero, suc, ◌+◌, ◌-◌, ◌*◌, ◌%◌, ◌≤◌, ◌<◌, ◌≡◌, refl, true, false, List, [], ◌++◌, length, get_or, set, take, drop, Ok, Err}
 use Rattle.std.proofs.Common.{sym, ap, subst, ◌∙◌, arith, mul-le-mul, le_refl, length-append, length-set, length-drop, length-take-le}
 use Rattle.std.proofs.Math.Option.{some, map}
 use Rattle.std.proofs.lemmas.List.{set-get_or}
@@ -18,7 +18,7 @@ use Rattle.replaying_queues.specs.Laws.Words.{began_some, began_none}
 use Rattle.replaying_step.specs.Configurations.{InRings}
 use Rattle.replaying_step.specs.Taking.{Shiftable, Shifts}
 use Rattle.replaying_step.specs.Laws.Lists.{each_of_set}
-use Rattle.replaying_step.specs.declared.taking.Took.TheVariants.{Yes, NotPossible, NoRoom}
+use Rattle.replaying_step.specs.declared.taking.Untaken.TheVariants.{NotPossible, NoRoom}
 
 -- rings in which queue k has other messages
 rings_set : (q : Queues) (hs ls : List ℕ) (k h n : ℕ) → InRings q hs ls → k < most_queues → k < q.count → h < room → n ≤ room
@@ -56,7 +56,7 @@ module _ {q : Queues} (hs ls mem : List ℕ) (k n : ℕ) (w : List ℕ) (Q : Que
   few = omega (arith, Q.most)
 
   -- a send that would pass the room
-  sent_full : room < get_or ls k 0 + n → Shifts q (send k w) hs ls mem NoRoom hs ls mem
+  sent_full : room < get_or ls k 0 + n → Shifts q (send k w) hs ls mem (Err NoRoom) hs ls mem
   sent_full l = (
     (set queues k (get_or queues k [] ++ w), refl, fits_full queues k (get_or queues k [] ++ w) inside (subst (λ x. room < x) (sym size) l)),
     record { heads = refl; lengths = refl; memory = refl },
@@ -74,7 +74,7 @@ module _ {q : Queues} (hs ls mem : List ℕ) (k n : ℕ) (w : List ℕ) (Q : Que
 
   -- a send with room
   sent : get_or ls k 0 + n ≤ room
-      → Shifts q (send k w) hs ls mem Yes hs (set ls k (get_or ls k 0 + n))
+      → Shifts q (send k w) hs ls mem (Ok tt) hs (set ls k (get_or ls k 0 + n))
       (put_round mem (k * room) (get_or hs k 0 + get_or ls k 0) w)
   sent l =
       record {
@@ -93,7 +93,7 @@ module _ {q : Queues} (hs ls mem : List ℕ) (k n : ℕ) (w : List ℕ) (Q : Que
           ∙ rings_put mem hs ls q.count k w h (omega (arith, few, R.lengths_long)) (omega arith) enough
 
   -- a receive whose queue does not begin with the word, and one whose queue does
-  unreceived : false ≡ began (strip w (ring_at mem hs ls k)) → Shifts q (receive k w) hs ls mem NotPossible hs ls mem
+  unreceived : false ≡ began (strip w (ring_at mem hs ls k)) → Shifts q (receive k w) hs ls mem (Err NotPossible) hs ls mem
   unreceived e = (
     ap (λ l. map (λ rest. set queues k rest) (strip w l)) waits
         ∙ ap (map (λ rest. set queues k rest)) (began_none (strip w (ring_at mem hs ls k)) e),
@@ -106,7 +106,7 @@ module _ {q : Queues} (hs ls mem : List ℕ) (k n : ℕ) (w : List ℕ) (Q : Que
       omega (arith, taken_length mem hs ls q.count k w b.1)
 
   received : true ≡ began (strip w (ring_at mem hs ls k))
-      → Shifts q (receive k w) hs ls mem Yes (set hs k ((get_or hs k 0 + n) % room)) (set ls k (get_or ls k 0 - n)) mem
+      → Shifts q (receive k w) hs ls mem (Ok tt) (set hs k ((get_or hs k 0 + n) % room)) (set ls k (get_or ls k 0 - n)) mem
   received e =
       record {
         acted =
@@ -128,6 +128,12 @@ module _ {q : Queues} (hs ls mem : List ℕ) (k n : ℕ) (w : List ℕ) (Q : Que
           ap (λ x. rings mem (set hs k ((get_or hs k 0 + x) % room)) (set ls k (get_or ls k 0 - x)) q.count) (sym long)
           ∙ rings_taken mem hs ls q.count k w b.1 h (omega (arith, few, R.heads_long)) (omega (arith, few, R.lengths_long))
 
+-- the word of a row, cut from the table
+pub word_cut : (rows : List ℕ) (row : ℕ) → take (word_entry row + length_at rows row - word_entry row) (drop (word_entry row) rows) ≡ word_at rows row
+word_cut rows row =
+    ap (λ n. take n (drop (word_entry row) rows))
+    (let z : word_entry row + length_at rows row - word_entry row ≡ length_at rows row = omega arith in z)
+
 -- THE ROW'S queue and word
 module _ {q : Queues} {rows : List ℕ} {row : ℕ} {hs ls mem : List ℕ} (S : Shiftable q rows row hs ls mem) where
   pub queue_few : queue_at rows row < most_queues
@@ -143,17 +149,17 @@ module _ {q : Queues} {rows : List ℕ} {row : ℕ} {hs ls mem : List ℕ} (S : 
       length-take-le (length_at rows row) (drop (word_entry row) rows)
       (omega (arith, length-drop (word_entry row) rows, S.action.word.most, S.within))
 
-  pub send_full : room < get_or ls (queue_at rows row) 0 + length_at rows row → Shifts q (send (queue_at rows row) (word_at rows row)) hs ls mem NoRoom hs ls mem
+  pub send_full : room < get_or ls (queue_at rows row) 0 + length_at rows row → Shifts q (send (queue_at rows row) (word_at rows row)) hs ls mem (Err NoRoom) hs ls mem
   send_full = sent_full hs ls mem (queue_at rows row) (length_at rows row) (word_at rows row) S.queues S.ringed S.enough S.action.queue word_length_lem
 
   pub send_put : get_or ls (queue_at rows row) 0 + length_at rows row ≤ room
-      → Shifts q (send (queue_at rows row) (word_at rows row)) hs ls mem Yes
+      → Shifts q (send (queue_at rows row) (word_at rows row)) hs ls mem (Ok tt)
       hs (set ls (queue_at rows row) (get_or ls (queue_at rows row) 0 + length_at rows row))
       (put_round mem (queue_at rows row * room) (get_or hs (queue_at rows row) 0 + get_or ls (queue_at rows row) 0) (word_at rows row))
   send_put = sent hs ls mem (queue_at rows row) (length_at rows row) (word_at rows row) S.queues S.ringed S.enough S.action.queue word_length_lem
 
   pub receive_none : false ≡ began (strip (word_at rows row) (ring_at mem hs ls (queue_at rows row)))
-      → Shifts q (receive (queue_at rows row) (word_at rows row)) hs ls mem NotPossible hs ls mem
+      → Shifts q (receive (queue_at rows row) (word_at rows row)) hs ls mem (Err NotPossible) hs ls mem
   receive_none = unreceived hs ls mem (queue_at rows row) (length_at rows row) (word_at rows row) S.queues S.ringed S.enough S.action.queue word_length_lem
 
   pub receive_length : true ≡ began (strip (word_at rows row) (ring_at mem hs ls (queue_at rows row)))
@@ -161,11 +167,11 @@ module _ {q : Queues} {rows : List ℕ} {row : ℕ} {hs ls mem : List ℕ} (S : 
   receive_length = received_length hs ls mem (queue_at rows row) (length_at rows row) (word_at rows row) S.queues S.ringed S.enough S.action.queue word_length_lem
 
   pub receive_taken : true ≡ began (strip (word_at rows row) (ring_at mem hs ls (queue_at rows row)))
-      → Shifts q (receive (queue_at rows row) (word_at rows row)) hs ls mem Yes
+      → Shifts q (receive (queue_at rows row) (word_at rows row)) hs ls mem (Ok tt)
       (set hs (queue_at rows row) ((get_or hs (queue_at rows row) 0 + length_at rows row) % room)) (set ls (queue_at rows row) (get_or ls (queue_at rows row) 0 - length_at rows row)) mem
   receive_taken = received hs ls mem (queue_at rows row) (length_at rows row) (word_at rows row) S.queues S.ringed S.enough S.action.queue word_length_lem
 
-  pub local_stays : Shifts q local hs ls mem Yes hs ls mem
+  pub local_stays : Shifts q local hs ls mem (Ok tt) hs ls mem
   local_stays = record { acted = refl; ringed = S.ringed; past = refl; long = refl }
 
 -- a kind that is neither local nor a send

@@ -1,5 +1,5 @@
 -- A transition taken on record and memory is the model's step, by what the code finds.
-use Rattle.std.specs.Prelude.{ℕ, ◌+◌, ◌*◌, ◌≤◌, ◌<◌, ◌≡◌, refl, true, List, length, get_or, set, take}
+use Rattle.std.specs.Prelude.{ℕ, ◌+◌, ◌*◌, ◌≤◌, ◌<◌, ◌≡◌, refl, true, List, length, get_or, set, take, Ok, Err}
 use Rattle.std.proofs.Common.{sym, ap, ap₂, subst, ◌∙◌, arith, mul-le-mul, le_refl, zero-add, length-set, get_or-take, eq-eqb, ne_eqb}
 use Rattle.std.proofs.Math.Option.{Option, none, some}
 use Rattle.std.proofs.Math.ListN.{get_elem?}
@@ -22,11 +22,12 @@ use Rattle.replaying_queues.specs.Laws.Rings.{rings_fit}
 use Rattle.replaying_step.specs.Parts.{transitions_of, model_in}
 use Rattle.replaying_step.specs.Configurations.{run_of, config_of, Holds}
 use Rattle.replaying_step.specs.Laws.Shifting.{ringed_rings}
-use Rattle.replaying_step.specs.Taking.{Takeable, Stays, Shiftable, Shifted, Unshifted, Shifts, Takes}
+use Rattle.replaying_step.specs.Taking.{Takeable, Stays, Shiftable, Shifted, Unshifted, Acts, Takes}
 use Rattle.replaying_step.specs.Laws.Lists.{each_of_set}
 use Rattle.tables.specs.declared.head.Head.{Head}
 use Rattle.replaying_step.specs.declared.runs.RunRecord.{RunRecord}
-use Rattle.replaying_step.specs.declared.taking.Took.TheVariants.{Yes, NotPossible, NoRoom}
+use Rattle.replaying_step.specs.declared.taking.Untaken.{Untaken}
+use Rattle.replaying_step.specs.declared.taking.Untaken.TheVariants.{NotPossible, NoRoom}
 
 one_some : {o : Option Transition} {τ τ' : Transition} → o ≡ some τ → o ≡ some τ' → τ ≡ τ'
 one_some e e' = cc
@@ -80,7 +81,7 @@ module _ {f : Head} {rows : List ℕ} {r : RunRecord} {mem : List ℕ} {i : ℕ}
       ∙ get_or-take f.machines.count r.states (machine_at rows row) 0 row_valid.move.machine
 
   -- THE MACHINE IS IN ANOTHER STATE
-  pub take_elsewhere : (get_or r.states (machine_at rows row) 0 ≡ from_at rows row → ⊥) → Takes f rows i r mem NotPossible r mem
+  pub take_elsewhere : (get_or r.states (machine_at rows row) 0 ≡ from_at rows row → ⊥) → Takes f rows i r mem (Err NotPossible) r mem
   take_elsewhere n = (
     take_not_at (model_in f rows) i before (transition_at rows row) numbered (ne_eqb _ _ (λ e. n (sym standing ∙ e))),
     record { same = refl; kept = refl },
@@ -107,21 +108,26 @@ module _ {f : Head} {rows : List ℕ} {r : RunRecord} {mem : List ℕ} {i : ℕ}
     taken_to : {qs : List (List ℕ)} → act action before.queues ≡ some qs → take? (model_in f rows) i before ≡ some (after qs)
     taken_to {qs} e = is_taken (model_in f rows) i before (transition_at rows row) qs numbered is_at_lem e
 
-    stays : {hs ls mem' : List ℕ} → Unshifted r.heads r.lengths mem hs ls mem' → Stays r mem (run_of r.states hs ls) mem'
-    stays u = record { same = ap₂ (run_of r.states) u.heads u.lengths; kept = u.memory }
+    stays : {r' : RunRecord} {mem' : List ℕ} → r'.states ≡ r.states → Unshifted r.heads r.lengths mem r'.heads r'.lengths mem' → Stays r mem r' mem'
+    stays {r'} e u = record { same = ap₂ (run_of r'.states) u.heads u.lengths ∙ ap (λ ss. run_of ss r.heads r.lengths) e; kept = u.memory }
 
-    pub take_refused : {hs ls mem' : List ℕ} → Shifts f.queues action r.heads r.lengths mem NotPossible hs ls mem'
-        → Takes f rows i r mem NotPossible (run_of r.states hs ls) mem'
-    take_refused (e, u) = (refused_none e, stays u)
-
-    pub take_full : {hs ls mem' : List ℕ} → Shifts f.queues action r.heads r.lengths mem NoRoom hs ls mem'
-        → Takes f rows i r mem NoRoom (run_of r.states hs ls) mem'
-    take_full ((qs, e, n), u) = ((after qs, taken_to e, n), stays u)
+    pub take_refused : (why : Untaken) {r' : RunRecord} {mem' : List ℕ} → Acts rows row r mem (Err why) r' mem' → Takes f rows i r mem (Err why) r' mem'
+    take_refused NotPossible P = let (e, u) = P.shifts f.queues row_shiftable in (refused_none e, stays P.states u)
+    take_refused NoRoom P = let ((qs, e, n), u) = P.shifts f.queues row_shiftable in ((after qs, taken_to e, n), stays P.states u)
 
     -- THE STEP IS TAKEN: the machine moves to its to-state
-    module _ {hs ls mem' : List ℕ} (s : Shifted f.queues action r.heads r.lengths mem hs ls mem') where
+    module _ {r' : RunRecord} {mem' : List ℕ} (P : Acts rows row r mem (Ok tt) r' mem') where
+      abbrev hs : List ℕ
+      hs = r'.heads
+
+      abbrev ls : List ℕ
+      ls = r'.lengths
+
       abbrev arrived : RunRecord
       arrived = run_of (set r.states (machine_at rows row) (to_at rows row)) hs ls
+
+      s : Shifted f.queues action r.heads r.lengths mem hs ls mem'
+      s = P.shifts f.queues row_shiftable
 
       states_moved : take f.machines.count arrived.states ≡ set (take f.machines.count r.states) (machine_at rows row) (to_at rows row)
       states_moved =
@@ -156,8 +162,8 @@ module _ {f : Head} {rows : List ℕ} {r : RunRecord} {mem : List ℕ} {i : ℕ}
             enough = omega (arith, A.holds.enough, s.long);
           }
 
-      pub take_yes : Takes f rows i r mem Yes arrived mem'
-      take_yes =
+      taken_yes : Takes f rows i r mem (Ok tt) arrived mem'
+      taken_yes =
           record {
             taken = taken_to s.acted ∙ ap (λ c. some (record { control = c; queues = rings mem' hs ls f.queues.count })) led;
             fitting = rings_fit (ringed_rings A.queues s.ringed (omega (arith, A.holds.enough, s.long)));
@@ -165,3 +171,7 @@ module _ {f : Head} {rows : List ℕ} {r : RunRecord} {mem : List ℕ} {i : ℕ}
             past = s.past;
             long = s.long;
           }
+
+      pub take_yes : Takes f rows i r mem (Ok tt) (run_of (set r'.states (machine_at rows row) (to_at rows row)) hs ls) mem'
+      take_yes =
+          subst (λ ss. Takes f rows i r mem (Ok tt) (run_of (set ss (machine_at rows row) (to_at rows row)) hs ls) mem') (sym P.states) taken_yes

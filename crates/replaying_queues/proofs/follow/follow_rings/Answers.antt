@@ -11,7 +11,7 @@ use Rattle.replaying_queues.specs.Laws.Led.{first_more, ring_far, leads_rootless
 use Rattle.replaying_queues.proofs.follow.follow_rings.Goals as goal
 
 pub returns-then-is_nowhere : goal.returns-then-is_nowhere
-returns-then-is_nowhere c = leads_rootless (nowhere_true _ c.is_nowhere.ensures c.if-is_nowhere.true)
+returns-then-is_nowhere c = leads_rootless (nowhere_true _ c.is_nowhere.ensures c.if-is_nowhere.true) refl
 
 pub state-requires : goal.state-requires
 state-requires c = state_below c.requires.from_le_most_pool (nowhere_false _ c.is_nowhere.ensures c.if-is_nowhere.false)
@@ -32,7 +32,7 @@ follow-requires c = let p = c.requires in
     let inv = c.loop-q.invariant in
     let next = messages_next a.memory.now a.heads.now a.lengths.now a.count c.loop-q-test.true in
     let ring = one_ring p.rings c.loop-q-test.true in
-    record { arcs_small = p.arcs_small; state_row = inv.1.1; ring_at = record { within = ring.within; placed = ring.placed }; between = front_small inv.0 _ _ next }
+    (omega arith, (p.arcs_small, (inv.1.1, (record { within = ring.within; placed = ring.placed }, front_small inv.0 _ _ next))))
 
 pub waiting_in-requires : goal.waiting_in-requires
 waiting_in-requires c = let R = c.requires.rings in record { count_le_most_queues = omega (arith, R.most, c.loop-q-test.true); by_index = R.held }
@@ -40,23 +40,23 @@ waiting_in-requires c = let R = c.requires.rings in record { count_le_most_queue
 pub overflow_add-result : goal.overflow_add-result
 overflow_add-result c =
     let R = c.requires.rings in
-    let lost = followed_lost c.follow.ensures c.in-Lost.is in
+    let lost = followed_lost c.follow.ensures c.in-Err.is in
     omega (arith, c.waiting_in.ensures.most, ring_far c.args.arcs.now (some (state_at c.loop-q.row)) c.loop-q.q R lost.1, R.most, c.loop-q-test.true)
 
-pub returns-in-Lost : goal.returns-in-Lost
-returns-in-Lost c =
+pub returns-in-Err : goal.returns-in-Err
+returns-in-Err c =
     let a = c.args in
     let next = messages_next a.memory.now a.heads.now a.lengths.now a.count c.loop-q-test.true in
     let inv = c.loop-q.invariant in
-    let lost = followed_lost c.follow.ensures c.in-Lost.is in
-    leads_nowhere (c.row_of-row.ensures.state ∙ c.state.ensures) _ (follow_lost (follow_front inv.0 _ _ next lost.0) refl refl) (c.waiting_in.ensures.is a.memory.now a.heads.now) (count_lost inv.1.0 _ _ next inv.1.1.below lost.0 lost.1)
+    let lost = followed_lost c.follow.ensures c.in-Err.is in
+    leads_nowhere (c.row_of-row.ensures.state ∙ c.state.ensures) _ (follow_lost (follow_front inv.0 _ _ next lost.0) refl refl) (c.waiting_in.ensures.is a.memory.now a.heads.now) (count_lost inv.1.0 _ _ next inv.1.1.below lost.0 lost.1) refl
 
 pub loop-q-preserved : goal.loop-q-preserved
 loop-q-preserved c =
     let a = c.args in
     let next = messages_next a.memory.now a.heads.now a.lengths.now a.count c.loop-q-test.true in
     let inv = c.loop-q.invariant in
-    let found = followed_at c.follow.ensures c.in-At.is in
+    let found = followed_at c.follow.ensures c.in-Ok.is in
     (follow_front inv.0 _ _ next found.1, (count_front inv.1.0 _ _ next found.1 found.0.below (first_more a.memory.now a.heads.now a.lengths.now c.loop-q.q), found.0))
 
 pub state_of-requires : goal.state_of-requires

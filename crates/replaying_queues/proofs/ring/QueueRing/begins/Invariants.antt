@@ -1,7 +1,7 @@
 use lib.ListN.{drop}
 use Rattle.replaying_queues.specs.Ring.{waiting}
 use Rattle.replaying_queues.specs.Laws.Words.{waiting_from, Asked}
-use Rattle.replaying_queues.proofs.ring.Ring.begins.Given as goal
+use Rattle.replaying_queues.proofs.ring.QueueRing.begins.Given as goal
 
 abbrev pub invariant-loop-i : goal.invariant-loop-i
 invariant-loop-i l =

@@ -4,8 +4,8 @@ use native.Mathlib.Omega.{arith}
 use Rattle.theory_replay.specs.Rules.{room}
 use Rattle.following.specs.Laws.Standing.{standing_first}
 use Rattle.replaying_queues.specs.Laws.Words.{word_next, word_end, word_one, waiting_begin, waiting_next, asked_begin, asked_same, asked_other, asked_end, ask_one, ask_short}
-use Rattle.replaying_queues.proofs.ring.Ring.begins.Goals as goal
-use Rattle.replaying_queues.proofs.ring.Ring.begins.Goals.{then-memory-self, else-memory-self}
+use Rattle.replaying_queues.proofs.ring.QueueRing.begins.Goals as goal
+use Rattle.replaying_queues.proofs.ring.QueueRing.begins.Goals.{then-memory-self, else-memory-self}
 
 pub returns-then-self-word : goal.returns-then-self-word
 returns-then-self-word c = ask_short _ _ _ _ _ c.if-self-word.true

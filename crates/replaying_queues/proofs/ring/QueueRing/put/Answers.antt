@@ -1,7 +1,7 @@
 use mathlib.Core.Path.{refl}
 use native.Mathlib.Omega.{arith}
 use Rattle.replaying_queues.specs.Laws.Words.{word_next, word_end, word_one, put_begin, put_one, put_next, put_end}
-use Rattle.replaying_queues.proofs.ring.Ring.put.Goals as goal
+use Rattle.replaying_queues.proofs.ring.QueueRing.put.Goals as goal
 
 pub returns-then-word-eq1 : goal.returns-then-word-eq1
 returns-then-word-eq1 c = put_one _ _ _ (word_one _ c.if-word-eq1.true)

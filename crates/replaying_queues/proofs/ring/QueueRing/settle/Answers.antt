@@ -8,7 +8,7 @@ use Rattle.replaying_queues.specs.Ring.{waiting}
 use Rattle.replaying_queues.specs.Laws.Waiting.{waiting_length}
 use Rattle.replaying_queues.specs.Laws.Settle.{gather_begin, gather_next, gather_end, laid_is}
 use Rattle.replaying_queues.specs.Laws.Words.{waiting_begin, waiting_next, waiting_end}
-use Rattle.replaying_queues.proofs.ring.Ring.settle.Goals as goal
+use Rattle.replaying_queues.proofs.ring.QueueRing.settle.Goals as goal
 
 pub loop-i-init : goal.loop-i-init
 loop-i-init c = gather_begin _ (waiting_begin _ _ _ _)
