@@ -36,13 +36,6 @@ pub record Stepped (states : List ℕ) (count : ℕ) : Type 0 where
       → get_or states j 0 * sizes_product (drop (j + 1) (take count states)) ≡ sizes_product (drop j (take count states))
   pub small : (j : ℕ) → (1 ≤ sizes_product (drop j (take count states))) × (sizes_product (drop j (take count states)) ≤ most_controls)
 
--- WHAT IS ASKED to part a control state at a machine
-pub record Partable (states : List ℕ) (count c machine : ℕ) : Type 0 where
-  pub stepped : Stepped states count
-  pub long : count ≤ length states
-  pub below : c < sizes_product (take count states)
-  pub within : machine < count
-
 -- WHAT IS ASKED to number the states of so many machines
 pub record Numberable (states places : List ℕ) (count : ℕ) : Type 0 where
   pub least : 1 ≤ count

@@ -13,6 +13,5 @@ pub fn first_control(m: Machines) -> ControlState
     requires { MachinesValid m }
     ensures { result.0 ≡ number (sizes_of m) (starts_of m) }
 {
-    let starts = m.starts;
-    control_of(m, &starts)
+    control_of(m, &m.starts)
 }

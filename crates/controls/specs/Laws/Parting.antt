@@ -1,5 +1,5 @@
 -- Parting a control state machine by machine.
-use Rattle.std.specs.Prelude.{ℕ, zero, suc, ◌+◌, ◌-◌, ◌*◌, ◌/◌, ◌%◌, ◌≤◌, ◌<◌, ◌≡◌, List, [], ◌∷◌, length, get_or, set, take, drop}
+use Rattle.std.specs.Prelude.{ℕ, zero, suc, ◌+◌, ◌-◌, ◌*◌, ◌/◌, ◌%◌, ◌≤◌, ◌<◌, ◌≡◌, List, [], ◌∷◌, length, get_or, set, drop}
 use Rattle.std.proofs.Common.{sym, ap, subst, ◌∙◌, arith, add-one, mod-lt, div-add-mod', mul-le-mul, one-mul, zero-add, add_assoc, le_refl, length-take, drop_of_length-le, drop-cons, get_or-take}
 use Rattle.tables.specs.Limits.{most_controls}
 use Rattle.tables.specs.Kinds.{limited}
@@ -9,7 +9,7 @@ use Rattle.theory_model.specs.Model.{sizes_product, number, places}
 use Rattle.theory_model.specs.Laws.Controls.{number_places, number_below, places_are_states, states_set}
 use Rattle.theory_files.specs.Laws.Counts.{product_is}
 use Rattle.tables.specs.Laws.Kinds.{control_made}
-use Rattle.controls.specs.Controls.{sizes_of, Located, Partable, Stepped}
+use Rattle.controls.specs.Controls.{sizes_of, Located, Stepped}
 
 -- every machine has a state
 abbrev pub Positive : List ℕ → Type 0
@@ -30,17 +30,6 @@ product_drop (k ∷ ks) h (suc j) =
     let r = product_drop ks (positive_tail k ks h) j in
     let g : 1 * sizes_product ks ≤ k * sizes_product ks = mul-le-mul (h 0 (omega arith)) (le_refl (sizes_product ks)) in
     (r.0, omega (arith, one-mul (sizes_product ks)))
-
--- one machine back
-pub stepped_back : (states : List ℕ) (count i j p x : ℕ) → Stepped states count → i < j → j ≤ count
-    → p ≡ sizes_product (drop j (take count states)) → x ≡ get_or states (j - 1) 0 → x * p ≡ sizes_product (drop (j - 1) (take count states))
-stepped_back states count i j p x S h l e f =
-    ap (λ n. n * p) f
-    ∙ ap (λ n. get_or states (j - 1) 0 * n) (e ∙ ap (λ n. sizes_product (drop n (take count states))) one)
-    ∙ S.before (j - 1) (omega arith)
-  where
-    one : j ≡ j - 1 + 1
-    one = omega arith
 
 -- the sizes of machines that were read
 module _ (m : Machines) (v : MachinesValid m) where
@@ -166,20 +155,3 @@ module _ (ks : List ℕ) (c machine : ℕ) where
             ∙ sym (ap (λ n. base + number (get_or ks machine 0 ∷ drop (machine + 1) ks) (set (places (get_or ks machine 0 ∷ drop (machine + 1) ks) rest) n to)) none)
             ∙ ap (λ js. base + number js (set (places js rest) (machine - machine) to)) (sym end_cut)
             ∙ F.moved to
-
-module _ {states : List ℕ} {count c machine : ℕ} (A : Partable states count c machine) where
-  pub machine_there : machine < length (take count states)
-  machine_there = omega (arith, length-take count states, A.long, A.within)
-
-  pub control_small : c ≤ most_controls
-  control_small = omega (arith, A.below, A.stepped.small 0)
-
-pub read_partable : (m : Machines) (v : MachinesValid m) (c machine : ℕ) → c < m.product → machine < m.count
-    → Partable m.states m.count c machine
-read_partable m v c machine h l =
-    record {
-      stepped = sizes_stepped m v;
-      long = omega (arith, v.states_long, v.most);
-      below = omega (arith, sizes_product_lem m v);
-      within = l;
-    }
