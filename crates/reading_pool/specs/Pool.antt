@@ -2,14 +2,10 @@
 use Rattle.std.specs.Prelude.{ℕ, zero, suc, ◌+◌, ◌*◌, List, set, replicate, leb}
 use Rattle.tables.specs.Limits.{most_pool, most_messages}
 use Rattle.numbers.specs.Part.{Part, got, provided, and_then}
-use Rattle.numbers.specs.Number.{read_within, below, read_below}
+use Rattle.numbers.specs.Number.{read_within, read_below}
 use Rattle.tables.specs.declared.tables.Pool.{Pool}
 use Rattle.tables.specs.Pool.{pool_arcs}
 use Rattle.numbers.specs.Refusals.{not_ascending}
-
--- an arc's message that was read at a place, if it is below the sum and not below the least that still ascends
-abbrev pub ascends : Part ℕ → ℕ → ℕ → ℕ → Part ℕ
-ascends n at sum least = and_then (below n at sum) (λ m next. provided (leb least m) not_ascending at (got m next))
 
 -- an arc's message: below the sum, and not below the least that still ascends
 unfoldable pub read_ascending : List ℕ → ℕ → ℕ → ℕ → Part ℕ

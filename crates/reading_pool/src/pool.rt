@@ -1,167 +1,126 @@
 // Field 4: the pool of diagram states.
-ghost use Rattle.std.specs.Prelude.{◌≡◌, ◌+◌, ◌≤◌, replicate};
-ghost use Rattle.numbers.specs.Said.{said_number, said_field, said_pair, field_with, filled_with};
+ghost use Rattle.std.specs.Prelude.{◌≡◌, ◌+◌, ◌≤◌, ◌<◌, IfOk, replicate};
+ghost use Rattle.numbers.specs.Said.{said, said_with};
 ghost use Rattle.tables.specs.Limits.{most_pool, most_messages};
 ghost use Rattle.tables.specs.Pool.{pool_arcs};
-ghost use Rattle.reading_pool.specs.Pool.{ascends, read_ascending, read_arc, read_arcs, read_state, read_states, read_pool};
+ghost use Rattle.reading_pool.specs.Pool.{read_ascending, read_arc, read_arcs, read_state, read_states, read_pool};
 ghost use Rattle.reading_pool.specs.Lent.{lent_pool};
 
-use numbers::number::{Field, Filled, Number, Pair, below, read_within, wide, within};
-use numbers::reader::two_at;
+use numbers::reader::Reader;
 use numbers::refusal::Refusal;
 use tables::kinds::DiagramState;
 use tables::tables::{ARCS, MOST_POOL, POOL_ARCS};
 
-// Its two tables are lent: they are large, and would be copied at every return.
+// How many states the pool has, and how many messages there are.
 #[derive(Clone, Copy)]
-pub struct PoolRead {
-    pub filled: Filled,
-    pub count: u8,
+struct Bounds {
+    states: u8,
+    messages: u8,
+    ghost in_pool: { states ≤ most_pool },
+    ghost in_queues: { messages ≤ most_messages },
 }
 
-// An arc's message, which was read at a place: not below the least that still ascends.
-fn ascending(message: Number, at: usize, sum: u8, least: usize) -> Field
-    ensures { said_field result ≡ ascends (said_number message) at sum least }
+// An arc's message: not below the least that still ascends.
+#[tactic(auto, using(numbers::specs::Laws::Parts::handed_on), unfolding(crate::specs::Pool::read_ascending))]
+fn read_ascending(r: &mut Reader<'_>, sum: u8, least: usize) -> Result<u8, Refusal>
+    ensures read { said result r.new.place ≡ read_ascending r.old.bytes.now r.old.place sum least }
+    ensures range { IfOk result (λ m. (least ≤ m) × (m < sum)) }
+    ensures bytes { r.new.bytes ≡ r.old.bytes }
 {
-    match below(message, at, wide(sum)) {
-        Field::Refused(why) => Field::Refused(why),
-        Field::Value(m, next) => {
-            if wide(m) < least {
-                return Field::Refused(Refusal::NotAscending(at));
-            }
-            Field::Value(m, next)
-        }
+    let at = r.place;
+    let m = r.below(usize::from(sum))?;
+    if usize::from(m) < least {
+        return Err(Refusal::NotAscending(at));
     }
+    Ok(m)
 }
 
 // An arc: its message and its target.
-fn read_arc(s: &[u8], at: usize, n: u8, sum: u8, least: usize) -> Pair
-    ensures { said_pair result ≡ read_arc s.now at n sum least }
+#[tactic(auto, using(numbers::specs::Laws::Parts::handed_on), unfolding(crate::specs::Pool::read_arc))]
+fn read_arc(r: &mut Reader<'_>, b: Bounds, least: usize) -> Result<(u8, u8), Refusal>
+    ensures read { said result r.new.place ≡ read_arc r.old.bytes.now r.old.place b.states b.messages least }
+    ensures range { IfOk result (λ arc. (least ≤ arc.0) × (arc.0 < b.messages) × (arc.1 < b.states)) }
+    ensures bytes { r.new.bytes ≡ r.old.bytes }
 {
-    let two = two_at(s, at);
-    let message = two.first;
-    let target = two.second;
-    match ascending(message, at, sum, least) {
-        Field::Refused(why) => Pair::Refused(why),
-        Field::Value(m, place) => match below(target, place, wide(n)) {
-            Field::Refused(why) => Pair::Refused(why),
-            Field::Value(t, _) => Pair::Values(m, t, two.place),
-        },
-    }
+    let message = read_ascending(r, b.messages, least)?;
+    let target = r.below(usize::from(b.states))?;
+    Ok((message, target))
 }
 
 // The arcs of a state, into the entries from row on.
 fn read_arcs(
-    s: &[u8],
-    at: usize,
-    n: u8,
-    sum: u8,
+    r: &mut Reader<'_>,
+    b: Bounds,
     row: usize,
-    count: usize,
+    count: u8,
     arcs: &mut [u8; POOL_ARCS],
-) -> Filled
-    requires n_le_most_pool { n ≤ most_pool }
-    requires sum_le_most_messages { sum ≤ most_messages }
-    requires most_messages_bound { row + most_messages ≤ pool_arcs }
-    ensures { filled_with result arcs.new ≡ read_arcs s.now at n sum 0 row count arcs.old }
+) -> Result<(), Refusal>
+    requires { row + most_messages ≤ pool_arcs }
+    ensures read { said_with (λ _. arcs.new) result r.new.place ≡ read_arcs r.old.bytes.now r.old.place b.states b.messages 0 row count arcs.old }
+    ensures bytes { r.new.bytes ≡ r.old.bytes }
 {
-    let mut place = at;
-    let mut least: usize = 0;
-    let mut i: usize = 0;
-    while i < count {
-        match read_arc(s, place, n, sum, least) {
-            Pair::Refused(why) => return Filled::Refused(why),
-            Pair::Values(m, t, next) => {
-                let raw = wide(m);
-                arcs[row + raw] = t + 1;
-                least = raw + 1;
-                place = next;
-                i += 1;
-            }
-        }
+    let mut least = 0;
+    for _i in 0..count {
+        let (message, target) = read_arc(r, b, least)?;
+        let raw = usize::from(message);
+        arcs[row + raw] = target + 1;
+        least = raw + 1;
     }
-    Filled::To(place)
+    Ok(())
 }
 
 // A state: whether it is final, and its arcs.
-fn read_state(s: &[u8], at: usize, n: u8, sum: u8, row: usize, arcs: &mut [u8; POOL_ARCS]) -> Field
-    requires n_le_most_pool { n ≤ most_pool }
-    requires sum_le_most_messages { sum ≤ most_messages }
-    requires most_messages_bound { row + most_messages ≤ pool_arcs }
-    ensures { field_with result arcs.new ≡ read_state s.now at n sum row arcs.old }
+#[tactic(auto, using(numbers::specs::Laws::Parts::handed_on_with), unfolding(crate::specs::Pool::read_state))]
+fn read_state(
+    r: &mut Reader<'_>,
+    b: Bounds,
+    row: usize,
+    arcs: &mut [u8; POOL_ARCS],
+) -> Result<u8, Refusal>
+    requires { row + most_messages ≤ pool_arcs }
+    ensures read { said_with (λ last. (last, arcs.new)) result r.new.place ≡ read_state r.old.bytes.now r.old.place b.states b.messages row arcs.old }
+    ensures bytes { r.new.bytes ≡ r.old.bytes }
 {
-    let two = two_at(s, at);
-    let mark = two.first;
-    let many = two.second;
-    match below(mark, at, 2) {
-        Field::Refused(why) => Field::Refused(why),
-        Field::Value(last, place) => match within(many, place, 0, sum) {
-            Field::Refused(why) => Field::Refused(why),
-            Field::Value(count, _) => match read_arcs(
-                s,
-                two.place,
-                n,
-                sum,
-                row,
-                wide(count),
-                arcs,
-            ) {
-                Filled::Refused(why) => Field::Refused(why),
-                Filled::To(next) => Field::Value(last, next),
-            },
-        },
-    }
+    let last = r.below(2)?;
+    let count = r.within(0, b.messages)?;
+    read_arcs(r, b, row, count, arcs)?;
+    Ok(last)
 }
 
 fn read_states(
-    s: &[u8],
-    at: usize,
-    n: u8,
-    sum: u8,
+    r: &mut Reader<'_>,
+    b: Bounds,
     finals: &mut [u8; DiagramState::LIMIT],
     arcs: &mut [u8; POOL_ARCS],
-) -> Filled
-    requires n_le_most_pool { n ≤ most_pool }
-    requires sum_le_most_messages { sum ≤ most_messages }
-    ensures { filled_with result (finals.new, arcs.new) ≡ read_states s.now at n sum n 0 finals.old arcs.old }
+) -> Result<(), Refusal>
+    ensures read { said_with (λ _. (finals.new, arcs.new)) result r.new.place ≡ read_states r.old.bytes.now r.old.place b.states b.messages b.states 0 finals.old arcs.old }
+    ensures bytes { r.new.bytes ≡ r.old.bytes }
 {
-    let count = n as usize;
-    let mut place = at;
-    let mut i: usize = 0;
-    while i < count {
-        match read_state(s, place, n, sum, i * ARCS, arcs) {
-            Field::Refused(why) => return Filled::Refused(why),
-            Field::Value(last, next) => {
-                finals[i] = last;
-                place = next;
-                i += 1;
-            }
-        }
+    for i in 0..usize::from(b.states) {
+        finals[i] = read_state(r, b, i * ARCS, arcs)?;
     }
-    Filled::To(place)
+    Ok(())
 }
 
-// The states go into two tables of 0.
+// How many states there are. They go into two tables of 0, which are lent: they are large, and would be copied at every return.
+#[tactic(auto, using(numbers::specs::Laws::Parts::handed_on_with), unfolding(crate::specs::Pool::read_pool))]
 pub fn read_pool(
-    s: &[u8],
-    at: usize,
+    r: &mut Reader<'_>,
     sum: u8,
     finals: &mut [u8; DiagramState::LIMIT],
     arcs: &mut [u8; POOL_ARCS],
-) -> PoolRead
+) -> Result<u8, Refusal>
     requires sum_le_most_messages { sum ≤ most_messages }
     requires finals_value { finals.old ≡ replicate most_pool 0 }
     requires arcs_value { arcs.old ≡ replicate pool_arcs 0 }
-    ensures { filled_with result.filled (lent_pool result.count finals.new arcs.new) ≡ read_pool s.now at sum }
+    ensures read { said_with (λ count. lent_pool count finals.new arcs.new) result r.new.place ≡ read_pool r.old.bytes.now r.old.place sum }
+    ensures bytes { r.new.bytes ≡ r.old.bytes }
 {
-    match read_within(s, at, 1, MOST_POOL) {
-        Field::Refused(why) => PoolRead {
-            filled: Filled::Refused(why),
-            count: 0,
-        },
-        Field::Value(count, place) => {
-            let filled = read_states(s, place, count, sum, finals, arcs);
-            PoolRead { filled, count }
-        }
-    }
+    let states = r.within(1, MOST_POOL)?;
+    let b = Bounds {
+        states,
+        messages: sum,
+    };
+    read_states(r, b, finals, arcs)?;
+    Ok(states)
 }

@@ -1,16 +1,13 @@
 -- The ranges of what is read of the pool: a value lies where its field says.
 use Rattle.std.specs.Prelude.{ℕ, ◌≤◌, ◌<◌, ◌≡◌, List}
-use Rattle.std.proofs.Common.{sym, ap, ◌∙◌, leb-true}
+use Rattle.std.proofs.Common.{leb-true}
 use Rattle.std.proofs.Math.Path.{subst}
 use Rattle.std.proofs.Math.Dec.{leb}
-use Rattle.numbers.specs.Part.{Part, got}
+use Rattle.numbers.specs.Part.{got}
 use Rattle.numbers.specs.Laws.Parts.{and_then_got, same_value}
-use Rattle.numbers.specs.Said.{said_number}
 use Rattle.numbers.specs.Number.{read_number, read_below}
-use Rattle.numbers.specs.Reader.{TwoRead}
-use Rattle.numbers.specs.declared.reader.Two.{Two}
 use Rattle.numbers.specs.Laws.Ranges.{below_range, tested_got, below_number}
-use Rattle.reading_pool.specs.Pool.{ascends, read_ascending, read_arc}
+use Rattle.reading_pool.specs.Pool.{read_ascending, read_arc}
 
 module _ (s : List ℕ) (at : ℕ) {v next : ℕ} where
   -- an arc's message
@@ -34,9 +31,3 @@ module _ (s : List ℕ) (at : ℕ) {xy : ℕ × ℕ} {next : ℕ} where
       let r = ascending_range s at sum least t.first in
       subst (λ z. (least ≤ z.0) × (z.0 < sum) × (z.1 < n)) (same_value u.then)
       (r.0, r.1, below_range s t.place n u.first)
-
--- the first of two numbers, as an arc's message
-pub two_first_ascending : {s : List ℕ} {at : ℕ} {t : Two} → TwoRead s at t → (sum least : ℕ) {x : Part ℕ}
-    → ascends (said_number t.first) at sum least ≡ x → read_ascending s at sum least ≡ x
-unfolding read_ascending read_below
-two_first_ascending {at = at} two sum least e = ap (λ n. ascends n at sum least) (sym two.first) ∙ e

@@ -1,25 +1,27 @@
-use borrow.Author.Rules.{rules}
-use native.Mathlib.Omega.{arith}
-use native.Mathlib.Nat.{sub-zero, sub-eq-zero_of_le}
-use Rattle.numbers.specs.Laws.Parts.{one_more_lem}
+use Rattle.std.proofs.Common.{◌∙◌, sub-eq-zero_of_le}
+use Rattle.numbers.specs.Laws.Parts.{handed_on_with, one_more_lem}
 use Rattle.reading_pool.specs.Pool.{read_states}
 use Rattle.reading_pool.proofs.pool.read_states.Goals as goal
 
-pub loop-i-init : goal.loop-i-init
-loop-i-init c = simp sub-zero (search rules)
-
-pub returns-in-Refused : goal.returns-in-Refused
+pub returns-in_err-finals-clause-read : goal.returns-in_err-finals-clause-read
 unfolding read_states
-returns-in-Refused c =
-    let e = rw c.in-Refused.is at c.read_state.ensures in
-    rw (← c.loop-i.invariant.0, one_more_lem c.loop-i-test.true, ← e)
+returns-in_err-finals-clause-read c =
+    let rest = rw c.from-i-end.ensures at c.loop-i.invariant.rest in
+    let more = rw c.from-i-end.ensures at c.loop-i-test.true in
+    rw (← rest, one_more_lem more, ← c.in_err-finals.ensures.read)
+    (handed_on_with c.from_residual.result _ _ _ c.from_residual.ensures.1)
 
 pub loop-i-preserved : goal.loop-i-preserved
 unfolding read_states
 loop-i-preserved c =
-    let e = rw c.in-Value.is at c.read_state.ensures in
-    (rw (← c.loop-i.invariant.0, one_more_lem c.loop-i-test.true, ← e), omega arith, c.loop-i.invariant.2)
+    record {
+      rest = rw (← c.loop-i.invariant.rest, one_more_lem c.loop-i-test.true, ← c.in_ok-finals.ensures.read, c.in_ok-finals.ensures.bytes);
+      bytes = c.in_ok-finals.ensures.bytes ∙ c.loop-i.invariant.bytes;
+    }
 
-pub returns : goal.returns
+pub returns-clause-read : goal.returns-clause-read
 unfolding read_states
-returns c = rw (← c.loop-i.invariant.0, sub-eq-zero_of_le c.loop-i-test.false)
+returns-clause-read c =
+    let rest = rw c.from-i-end.ensures at c.loop-i.invariant.rest in
+    let none = rw c.from-i-end.ensures at c.loop-i-test.false in
+    rw (← rest, sub-eq-zero_of_le none)
