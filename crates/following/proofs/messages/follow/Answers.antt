@@ -1,22 +1,13 @@
 use mathlib.Core.Path.{refl, sym, ap, ◌∙◌}
 use mathlib.Core.Option.{some}
 use native.Mathlib.Omega.{arith}
-use Rattle.std.proofs.Math.Nat.{sub-zero}
 use Rattle.tables.specs.Said.{said_arc}
 use Rattle.tables.specs.Laws.Lookup.{arc_small, along_missing, along_arc_lem}
-use Rattle.following.specs.Standing.{standing}
 use Rattle.following.specs.Laws.Rows.{row_arc}
 use Rattle.following.specs.Laws.Standing.{standing_next, standing_none, next_placed}
-use Rattle.following.specs.Laws.Follow.{follow_begin, state_some, message_small, follow_message, follow_end, follow_lost}
-use Rattle.following.specs.Laws.Far.{count_begin, count_message, count_missing}
+use Rattle.following.specs.Laws.Follow.{state_some, message_small, follow_message, follow_end, follow_lost}
+use Rattle.following.specs.Laws.Far.{count_message, count_missing}
 use Rattle.following.proofs.messages.follow.Goals as goal
-
-pub loop-i-init : goal.loop-i-init
-loop-i-init g c =
-    let p = c.requires in
-    let r = c.args.ring in
-    let all = sym (ap (standing g.row.SIZE r.table.now r.base r.head) (sub-zero r.count)) in
-    (follow_begin (omega (arith, p.state_row.below)) p.between all, p.state_row, p.ring_at.placed, count_begin refl all)
 
 pub arc_from-requires : goal.arc_from-requires
 arc_from-requires g c =
@@ -32,9 +23,6 @@ returns-in_default g c =
     let first = standing_next _ _ _ _ _ inv.2 c.loop-i-test.true in
     let lost = follow_lost (follow_message inv.0 first (along_missing (state_some inv.1.below) refl missing refl)) refl refl in
     record { is = (lost, count_missing inv.3 inv.1.below first c.requires.state_row.below missing) }
-
-pub row_after-row-requires : goal.row_after-row-requires
-row_after-row-requires g c = arc_small _ _ c.requires.arcs_small (sym c.arc_from.ensures ∙ ap said_arc c.in-Some.is)
 
 pub loop-i-preserved : goal.loop-i-preserved
 loop-i-preserved g c =

@@ -1,8 +1,8 @@
 use mathlib.Core.Path.{refl, sym, ◌∙◌}
-use Rattle.tables.specs.Laws.Lookup.{nowhere_true, nowhere_false, state_below}
-use Rattle.following.specs.Laws.Rows.{followed_at, followed_lost}
+use Rattle.tables.specs.Laws.Lookup.{nowhere_true}
+use Rattle.following.specs.Laws.Rows.{followed_at}
 use Rattle.following.specs.Laws.Standing.{standing_length}
-use Rattle.following.specs.Laws.Part.{goes_nowhere, goes_whole, goes_lost}
+use Rattle.following.specs.Laws.Part.{goes_nowhere, goes_whole}
 use Rattle.following.proofs.part.follow_part.Goals as goal
 
 pub returns-then-is_nowhere : goal.returns-then-is_nowhere
@@ -14,9 +14,3 @@ pub returns-in-Ok : goal.returns-in-Ok
 returns-in-Ok g c =
     let F = followed_at c.follow.ensures c.in-Ok.is in
     goes_whole (c.row_of.ensures.state ∙ c.state.ensures) F.1 F.0.below (c.at.ensures ∙ c.state_of.ensures) (sym (standing_length _ _ _ _ _))
-
-pub returns-in-Err : goal.returns-in-Err
-returns-in-Err g c =
-    let F = followed_lost c.follow.ensures c.in-Err.is in
-    let small = state_below c.requires.from_le_most_pool (nowhere_false _ c.is_nowhere.ensures c.if-is_nowhere.false) in
-    goes_lost (c.row_of.ensures.state ∙ c.state.ensures) small F.0 c.nowhere.ensures F.1

@@ -18,12 +18,6 @@ loop-i-init c =
     let small = subst (λ n. Between 0 most_messages (word (each (starting_at q.lengths q.contents) n 0))) (sym e) (starting_small p.queues_valid) in
     follow_begin p.from_le_most_pool small (starting_begin q.lengths q.contents c.wide-i-end.result)
 
-pub overflow_mul-waiting : goal.overflow_mul-waiting
-overflow_mul-waiting c = omega (arith, c.wide-i-end.ensures, c.loop-i-test.true, c.requires.queues_valid.most)
-
-pub bounds-lengths-i : goal.bounds-lengths-i
-bounds-lengths-i c = omega (arith, c.wide-i-end.ensures, c.loop-i-test.true, c.requires.queues_valid.most)
-
 pub follow_part-requires : goal.follow_part-requires
 follow_part-requires c = let p = c.requires in
     let q = c.args.q in
