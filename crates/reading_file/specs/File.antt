@@ -1,5 +1,5 @@
 -- The session file: how bytes become tables or a refusal (document 01, "The session file"), field after field.
-use Rattle.std.specs.Prelude.{ℕ, ◌*◌, ◌≡◌, List, length, replicate, leb}
+use Rattle.std.specs.Prelude.{ℕ, ◌*◌, ◌≡◌, List, Result, Ok, Err, length, replicate, leb}
 use Rattle.numbers.specs.Limits.{most_bytes}
 use Rattle.numbers.specs.Refusals.{too_long}
 use Rattle.tables.specs.Limits.{most_controls, most_pool, most_bad}
@@ -14,7 +14,7 @@ use Rattle.tables.specs.declared.tables.ModelTables.{ModelTables}
 use Rattle.tables.specs.declared.tables.Pool.{Pool}
 use Rattle.tables.specs.declared.tables.SetTables.{SetTables}
 use Rattle.tables.specs.declared.tables.Tables.{Tables}
-use Rattle.reading_file.specs.declared.reading.Reading.{Reading}
+use Rattle.numbers.specs.declared.refusal.Refusal.{Refusal}
 
 -- the tables of a model, a pool and sets over it
 abbrev pub joined : ModelTables → Pool → SetTables → Tables
@@ -64,7 +64,12 @@ abbrev pub tables_read : Part Tables → Tables
 tables_read (got T next) = T
 tables_read (refused k p) = empty
 
+-- the tables that a result hands back; after a refusal it has none, which stands for those of no file
+abbrev pub handed : Result Tables Refusal → Tables
+handed (Ok T) = T
+handed (Err why) = empty
+
 -- WHAT READING PROMISES of part x of a file: the reply and the whole tables
-pub record Reads (x : Part Tables) (r : Reading) : Type 0 where
-  pub reply : said_answer r.answer ≡ read_reply_of x
-  pub tables : r.tables ≡ tables_read x
+pub record Reads (x : Part Tables) (r : Result Tables Refusal) : Type 0 where
+  pub reply : said_answer r ≡ read_reply_of x
+  pub tables : handed r ≡ tables_read x

@@ -1,14 +1,14 @@
--- What the answer of reading says: for each case the values of document 01.
-use Rattle.std.specs.Prelude.{ℕ}
+-- What the result of reading says: for each case the values of document 01.
+use Rattle.std.specs.Prelude.{ℕ, Result, Ok, Err}
 use Rattle.numbers.specs.Said.{number_of, place_of}
-use Rattle.reading_file.specs.declared.reading.Answer.{Answer}
-use Rattle.reading_file.specs.declared.reading.Answer.TheVariants.{Read, Refused as AnswerRefused}
+use Rattle.numbers.specs.declared.refusal.Refusal.{Refusal}
 
 -- the answer of reading: read, or a refusal's number and place
 pub data ReadReply : Type 0 where
   read : ReadReply
   refusal : ℕ → ℕ → ReadReply
 
-abbrev pub said_answer : Answer → ReadReply
-said_answer Read = read
-said_answer (AnswerRefused why) = refusal (number_of why) (place_of why)
+module _ {A : Type 0} where
+  abbrev pub said_answer : Result A Refusal → ReadReply
+  said_answer (Ok tables) = read
+  said_answer (Err why) = refusal (number_of why) (place_of why)

@@ -1,62 +1,41 @@
 // Field 6: the bad entries.
 ghost use Rattle.std.specs.Prelude.{◌≡◌, ◌≤◌};
-ghost use Rattle.numbers.specs.Said.{filled_with};
+ghost use Rattle.numbers.specs.Said.{said, said_with};
 ghost use Rattle.tables.specs.Limits.{most_controls, most_bad};
 ghost use Rattle.reading_file.specs.Bad.{read_entries, read_bad};
 
-use numbers::number::{Field, Filled, Pair, read_two, read_within, wide};
+use numbers::reader::Reader;
+use numbers::refusal::Refusal;
 use tables::tables::{BadList, ENTRIES, ENTRY, MOST_BAD};
 
-#[derive(Clone, Copy)]
-pub struct BadRead {
-    pub filled: Filled,
-    pub bad: BadList,
-}
-
 fn read_entries(
-    s: &[u8],
-    at: usize,
+    r: &mut Reader<'_>,
     product: usize,
     n: u8,
     count: usize,
     rows: &mut [u8; ENTRIES],
-) -> Filled
+) -> Result<(), Refusal>
     requires product_le_most_controls { product ≤ most_controls }
     requires count_le_most_bad { count ≤ most_bad }
-    ensures { filled_with result rows.new ≡ read_entries s.now at product n count 0 rows.old }
+    ensures read { said_with (λ _. rows.new) result r.new.place ≡ read_entries r.old.bytes.now r.old.place product n count 0 rows.old }
+    ensures bytes { r.new.bytes ≡ r.old.bytes }
 {
-    let mut place = at;
-    let mut b: usize = 0;
-    while b < count {
-        match read_two(s, place, product, wide(n)) {
-            Pair::Refused(why) => return Filled::Refused(why),
-            Pair::Values(control, root, next) => {
-                rows[b * ENTRY] = control;
-                rows[b * ENTRY + 1] = root;
-                place = next;
-                b += 1;
-            }
-        }
+    for b in 0..count {
+        let (control, root) = r.two(product, usize::from(n))?;
+        rows[b * ENTRY] = control;
+        rows[b * ENTRY + 1] = root;
     }
-    Filled::To(place)
+    Ok(())
 }
 
-pub(crate) fn read_bad(s: &[u8], at: usize, product: usize, n: u8) -> BadRead
+#[tactic(auto, using(numbers::specs::Laws::Parts::handed_on, numbers::specs::Laws::Parts::handed_on_with), unfolding(crate::specs::Bad::read_bad))]
+pub(crate) fn read_bad(r: &mut Reader<'_>, product: usize, n: u8) -> Result<BadList, Refusal>
     requires { product ≤ most_controls }
-    ensures { filled_with result.filled result.bad ≡ read_bad s.now at product n }
+    ensures read { said result r.new.place ≡ read_bad r.old.bytes.now r.old.place product n }
+    ensures bytes { r.new.bytes ≡ r.old.bytes }
 {
+    let count = r.within(0, MOST_BAD)?;
     let mut rows = [0u8; ENTRIES];
-    match read_within(s, at, 0, MOST_BAD) {
-        Field::Refused(why) => BadRead {
-            filled: Filled::Refused(why),
-            bad: BadList { count: 0, rows },
-        },
-        Field::Value(count, place) => {
-            let filled = read_entries(s, place, product, n, wide(count), &mut rows);
-            BadRead {
-                filled,
-                bad: BadList { count, rows },
-            }
-        }
-    }
+    read_entries(r, product, n, usize::from(count), &mut rows)?;
+    Ok(BadList { count, rows })
 }

@@ -1,45 +1,36 @@
 // Field 5: the root of each control state.
 ghost use Rattle.std.specs.Prelude.{◌≡◌, ◌≤◌};
-ghost use Rattle.numbers.specs.Said.{filled_with};
+ghost use Rattle.numbers.specs.Said.{said, said_with};
 ghost use Rattle.tables.specs.Limits.{most_controls};
 ghost use Rattle.reading_file.specs.Map.{read_roots, read_map};
 
-use numbers::number::{Field, Filled, read_within};
+use numbers::reader::Reader;
+use numbers::refusal::Refusal;
 use tables::tables::{MOST_CONTROLS, Map};
 
-#[derive(Clone, Copy)]
-pub struct MapRead {
-    pub filled: Filled,
-    pub map: Map,
-}
-
-fn read_roots(s: &[u8], at: usize, n: u8, count: usize, roots: &mut [u8; MOST_CONTROLS]) -> Filled
+fn read_roots(
+    r: &mut Reader<'_>,
+    n: u8,
+    count: usize,
+    roots: &mut [u8; MOST_CONTROLS],
+) -> Result<(), Refusal>
     requires { count ≤ most_controls }
-    ensures { filled_with result roots.new ≡ read_roots s.now at n count 0 roots.old }
+    ensures read { said_with (λ _. roots.new) result r.new.place ≡ read_roots r.old.bytes.now r.old.place n count 0 roots.old }
+    ensures bytes { r.new.bytes ≡ r.old.bytes }
 {
-    let mut place = at;
-    let mut i: usize = 0;
-    while i < count {
-        match read_within(s, place, 0, n) {
-            Field::Refused(why) => return Filled::Refused(why),
-            Field::Value(v, next) => {
-                roots[i] = v;
-                place = next;
-                i += 1;
-            }
-        }
+    for i in 0..count {
+        roots[i] = r.within(0, n)?;
     }
-    Filled::To(place)
+    Ok(())
 }
 
-pub(crate) fn read_map(s: &[u8], at: usize, product: usize, n: u8) -> MapRead
+#[tactic(auto, using(numbers::specs::Laws::Parts::handed_on_with), unfolding(crate::specs::Map::read_map))]
+pub(crate) fn read_map(r: &mut Reader<'_>, product: usize, n: u8) -> Result<Map, Refusal>
     requires { product ≤ most_controls }
-    ensures { filled_with result.filled result.map ≡ read_map s.now at product n }
+    ensures read { said result r.new.place ≡ read_map r.old.bytes.now r.old.place product n }
+    ensures bytes { r.new.bytes ≡ r.old.bytes }
 {
     let mut roots = [0u8; MOST_CONTROLS];
-    let filled = read_roots(s, at, n, product, &mut roots);
-    MapRead {
-        filled,
-        map: Map { roots },
-    }
+    read_roots(r, n, product, &mut roots)?;
+    Ok(Map { roots })
 }

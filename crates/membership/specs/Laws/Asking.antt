@@ -1,10 +1,12 @@
 -- The question, by what reading the file answered and by the tables that it handed back.
-use Rattle.std.specs.Prelude.{ℕ, ◌≤◌, ◌<◌, ◌≡◌, List, take}
+use Rattle.std.specs.Prelude.{ℕ, ◌≤◌, ◌<◌, ◌≡◌, List, Result, Ok, Err, IsErrAnd, take}
 use Rattle.std.proofs.Common.{sym, ap, arith}
 use Rattle.std.proofs.Math.Option.{Option}
 use Rattle.std.proofs.Math.Dec.{ltb}
 use borrow.Author.Tests.{lt-ltb, le-ltb}
 use Rattle.numbers.specs.Part.{Part, got, refused}
+use Rattle.numbers.specs.Said.{number_of, place_of}
+use Rattle.numbers.specs.declared.refusal.Refusal.{Refusal}
 use Rattle.reading_file.specs.Said.{read, refusal as turned_away}
 use Rattle.reading_file.specs.File.{read_file, read_reply_of, tables_read}
 use Rattle.reading_file.specs.Valid.{Valid}
@@ -16,6 +18,10 @@ use Rattle.theory_tables.specs.Pool.{pool_of}
 use Rattle.theory_files.specs.Tables.{session_of}
 use Rattle.tables.specs.Lookup.{root_of}
 use Rattle.membership.specs.Member.{refusal, judge, ask, member_of}
+use Rattle.membership.specs.Said.{said_member}
+use Rattle.membership.specs.declared.reply.Member.{Member}
+use Rattle.membership.specs.declared.reply.MemberRefusal.{MemberRefusal}
+use Rattle.membership.specs.declared.reply.MemberRefusal.TheVariants.{File}
 use Rattle.theory_files.specs.Laws.Lookup.{controls_are}
 
 module _ {T : Tables} (v : Valid T) (c : ℕ) (contents : List ℕ) where
@@ -31,6 +37,12 @@ module _ {T : Tables} (v : Valid T) (c : ℕ) (contents : List ℕ) where
   ask_judged h f =
       let e : ltb c (controls (session_of T).model) ≡ _ = lt-ltb c (controls (session_of T).model) (omega (arith, controls_are v.machines)) in
       rw (e, f, ask)
+
+-- a refusal of the file that `?` hands on
+pub said_handed_on : (r : Result Member MemberRefusal) (why : Refusal) → IsErrAnd r (λ e. e ≡ File why)
+    → said_member r ≡ refusal (number_of why) (place_of why)
+said_handed_on (Err e) why h = ap (λ x. said_member (Err x)) h
+said_handed_on (Ok x) why h = absurd h
 
 -- a reply of reading is of a file that was read, or refused
 refused_is : (x : Part Tables) {k p : ℕ} → turned_away k p ≡ read_reply_of x → x ≡ refused k p

@@ -1,43 +1,48 @@
-use native.Mathlib.Omega.{arith}
 use mathlib.Core.Path.{refl, sym, ◌∙◌}
 use borrow.Author.Tests.{le-leb, lt-leb}
+use Rattle.numbers.specs.Laws.Parts.{handed_on}
 use Rattle.tables.specs.Laws.Lookup.{arcs_small}
 use Rattle.reading_pool.specs.Lent.{lent_pool}
 use Rattle.reading_file.specs.Ends.{read_ends}
 use Rattle.reading_file.specs.Laws.Valid.{sets_valid, roots_small, bad_small}
 use Rattle.reading_file.proofs.ends.read_ends.Goals as goal
 
-pub in_queue_order-requires : goal.in_queue_order-requires
-in_queue_order-requires c = let g = rw c.in-To.is at c.read_sets-read.ensures in
-    let q = c.requires.queues_valid in
-    let pool = c.requires.pool_valid in
-    let sets = sets_valid _ _ _ _ c.requires.product_le_most_controls (sym g) in
-    record { count_le_most_queues = q.most; count_bound = omega (arith, q.sum, q.sum_most); finals_len = pool.finals_long; arcs_small = arcs_small pool; roots_small = roots_small sets pool.most; bad_small = bad_small sets pool.most }
-
-pub returns-then-not-in_queue_order : goal.returns-then-not-in_queue_order
+pub returns-in_err-sets-clause-read : goal.returns-in_err-sets-clause-read
 unfolding read_ends
-returns-then-not-in_queue_order c =
-    let g = rw c.in-To.is at c.read_sets-read.ensures in
-    rw (← g, sym (c.in_queue_order.ensures (lent_pool c.args.states _ _) refl refl) ∙ c.if-not-in_queue_order.true)
+returns-in_err-sets-clause-read c = handed_on _ _ _ c.from_residual.ensures.1 ∙ rw (← c.in_err-sets.ensures.read)
 
-pub returns-then-next-s : goal.returns-then-next-s
-unfolding read_ends
-returns-then-next-s c =
-    let g = rw c.in-To.is at c.read_sets-read.ensures in
-    rw (← g, sym (c.in_queue_order.ensures (lent_pool c.args.states _ _) refl refl) ∙ c.if-not-in_queue_order.false, lt-leb _ _ c.if-next-s.true)
+pub in_queue_order-requires-clause-arcs_small : goal.in_queue_order-requires-clause-arcs_small
+in_queue_order-requires-clause-arcs_small c = arcs_small c.requires.pool_valid
 
-pub returns-in-Refused : goal.returns-in-Refused
-unfolding read_ends
-returns-in-Refused c =
-    let g = rw c.in-Refused.is at c.read_sets-read.ensures in rw (← g, c.in-Refused.is)
+pub in_queue_order-requires-clause-roots_small : goal.in_queue_order-requires-clause-roots_small
+in_queue_order-requires-clause-roots_small c =
+    roots_small (sets_valid _ _ _ _ c.requires.product_le_most_controls (sym c.in_ok-sets.ensures.read)) c.requires.pool_valid.most
 
-pub returns-else-next-s : goal.returns-else-next-s
+pub in_queue_order-requires-clause-bad_small : goal.in_queue_order-requires-clause-bad_small
+in_queue_order-requires-clause-bad_small c =
+    bad_small (sets_valid _ _ _ _ c.requires.product_le_most_controls (sym c.in_ok-sets.ensures.read)) c.requires.pool_valid.most
+
+pub returns-then-not-in_queue_order-clause-read : goal.returns-then-not-in_queue_order-clause-read
 unfolding read_ends
-returns-else-next-s c =
-    let g = rw c.in-To.is at c.read_sets-read.ensures in
+returns-then-not-in_queue_order-clause-read c =
+    rw (← c.in_ok-sets.ensures.read, sym (c.in_queue_order.ensures (lent_pool c.args.states _ _) refl refl) ∙ c.if-not-in_queue_order.true)
+
+pub returns-then-r-clause-read : goal.returns-then-r-clause-read
+unfolding read_ends
+returns-then-r-clause-read c =
     rw (
-      ← g,
+      ← c.in_ok-sets.ensures.read,
       sym (c.in_queue_order.ensures (lent_pool c.args.states _ _) refl refl) ∙ c.if-not-in_queue_order.false,
-      le-leb _ _ c.if-next-s.false,
-      c.in-To.is,
+      ← c.read_sets.ensures.bytes,
+      lt-leb _ _ c.if-r.true,
+    )
+
+pub returns-clause-read : goal.returns-clause-read
+unfolding read_ends
+returns-clause-read c =
+    rw (
+      ← c.in_ok-sets.ensures.read,
+      sym (c.in_queue_order.ensures (lent_pool c.args.states _ _) refl refl) ∙ c.if-not-in_queue_order.false,
+      ← c.read_sets.ensures.bytes,
+      le-leb _ _ c.if-r.false,
     )

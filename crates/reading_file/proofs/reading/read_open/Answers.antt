@@ -1,49 +1,50 @@
-use mathlib.Core.Path.{sym}
+use mathlib.Core.Path.{sym, ◌∙◌}
 use borrow.Author.Tests.{le-leb, lt-leb}
-use Rattle.reading_file.specs.File.{read_with, read_file}
-use Rattle.reading_pool.specs.Laws.Pool.{pool_valid}
+use Rattle.numbers.specs.Laws.Parts.{handed_on_with}
 use Rattle.reading_model.specs.Laws.Model.{model_valid}
+use Rattle.reading_pool.specs.Laws.Pool.{pool_valid}
+use Rattle.reading_file.specs.File.{read_with, read_file}
 use Rattle.reading_file.proofs.reading.read_open.Goals as goal
 
-pub returns-then-s-gt-MOST_BYTES : goal.returns-then-s-gt-MOST_BYTES
+pub returns-then-r-gt-MOST_BYTES : goal.returns-then-r-gt-MOST_BYTES
 unfolding read_file read_with
-returns-then-s-gt-MOST_BYTES c = rw (lt-leb _ _ c.if-s-gt-MOST_BYTES.true) (c.refused.ensures _ _ _)
+returns-then-r-gt-MOST_BYTES c = rw (lt-leb _ _ c.if-r-gt-MOST_BYTES.true)
 
-pub read_pool-second-requires : goal.read_pool-second-requires
-read_pool-second-requires c = let e = rw c.in-To.is at c.read_model-first.ensures in
-    record { sum_le_most_messages = (model_valid _ _ (sym e)).queues.sum_most; finals_value = c.requires.1.0; arcs_value = c.requires.1.1 }
-
-pub read_ends-third-requires : goal.read_ends-third-requires
-read_ends-third-requires c = let e = rw c.in-To.is at c.read_model-first.ensures in
-    let f = rw c.in-To-after_pool.is at c.read_pool-second.ensures in
-    let model = model_valid _ _ (sym e) in
-    record { product_le_most_controls = model.machines.product_most; queues_valid = model.queues; pool_valid = pool_valid _ _ _ model.queues.sum_most (sym f) }
-
-pub returns-in-Refused : goal.returns-in-Refused
+pub returns-in_err-model : goal.returns-in_err-model
 unfolding read_file read_with
-returns-in-Refused c =
-    let e = rw c.in-Refused.is at c.read_model-first.ensures in
-    rw (le-leb _ _ c.if-s-gt-MOST_BYTES.false, ← e) (c.refused-in-Refused.ensures _ _ _)
+returns-in_err-model c =
+    let e = rw c.requires.begins at c.in_err-model.ensures.read in
+    handed_on_with _ _ _ _ c.from_residual.ensures.1 ∙ rw (le-leb _ _ c.if-r-gt-MOST_BYTES.false, ← e)
 
-pub returns-in-Refused-after_pool : goal.returns-in-Refused-after_pool
-unfolding read_file read_with
-returns-in-Refused-after_pool c =
-    let e = rw c.in-To.is at c.read_model-first.ensures in
-    let f = rw c.in-Refused-after_pool.is at c.read_pool-second.ensures in
-    rw (le-leb _ _ c.if-s-gt-MOST_BYTES.false, ← e, ← f) (c.refused-in-Refused-after_pool.ensures _ _ _)
+pub read_pool-requires-clause-sum_le_most_messages : goal.read_pool-requires-clause-sum_le_most_messages
+read_pool-requires-clause-sum_le_most_messages c = (model_valid _ _ (sym c.in_ok-model.ensures.read)).queues.sum_most
 
-pub returns-in-Refused-after_ends : goal.returns-in-Refused-after_ends
+pub returns-in_err-states : goal.returns-in_err-states
 unfolding read_file read_with
-returns-in-Refused-after_ends c =
-    let e = rw c.in-To.is at c.read_model-first.ensures in
-    let f = rw c.in-To-after_pool.is at c.read_pool-second.ensures in
-    let g = rw c.in-Refused-after_ends.is at c.read_ends-third.ensures in
-    rw (le-leb _ _ c.if-s-gt-MOST_BYTES.false, ← e, ← f, ← g) (c.refused-in-Refused-after_ends.ensures _ _ _)
+returns-in_err-states c =
+    let e = rw c.requires.begins at c.in_ok-model.ensures.read in
+    handed_on_with _ _ _ _ c.from_residual-in_err-states.ensures.1
+    ∙ rw (le-leb _ _ c.if-r-gt-MOST_BYTES.false, ← e, ← c.read_model.ensures.bytes, ← c.in_err-states.ensures.read)
 
-pub returns-in-To-after_ends : goal.returns-in-To-after_ends
+pub read_ends-requires-clause-product_le_most_controls : goal.read_ends-requires-clause-product_le_most_controls
+read_ends-requires-clause-product_le_most_controls c = (model_valid _ _ (sym c.in_ok-model.ensures.read)).machines.product_most
+
+pub read_ends-requires-clause-queues_valid : goal.read_ends-requires-clause-queues_valid
+read_ends-requires-clause-queues_valid c = (model_valid _ _ (sym c.in_ok-model.ensures.read)).queues
+
+pub read_ends-requires-clause-pool_valid : goal.read_ends-requires-clause-pool_valid
+read_ends-requires-clause-pool_valid c =
+    pool_valid _ _ _ (model_valid _ _ (sym c.in_ok-model.ensures.read)).queues.sum_most (sym c.in_ok-states.ensures.read)
+
+pub returns-in_err-sets : goal.returns-in_err-sets
 unfolding read_file read_with
-returns-in-To-after_ends c =
-    let e = rw c.in-To.is at c.read_model-first.ensures in
-    let f = rw c.in-To-after_pool.is at c.read_pool-second.ensures in
-    let g = rw c.in-To-after_ends.is at c.read_ends-third.ensures in
-    rw (le-leb _ _ c.if-s-gt-MOST_BYTES.false, ← e, ← f, ← g) (c.all_read.ensures _ _ _ _)
+returns-in_err-sets c =
+    let e = rw c.requires.begins at c.in_ok-model.ensures.read in
+    handed_on_with _ _ _ _ c.from_residual-in_err-sets.ensures.1
+    ∙ rw (le-leb _ _ c.if-r-gt-MOST_BYTES.false, ← e, ← c.read_model.ensures.bytes, ← c.in_ok-states.ensures.read, ← c.read_pool.ensures.bytes, ← c.in_err-sets.ensures.read)
+
+pub returns : goal.returns
+unfolding read_file read_with
+returns c =
+    let e = rw c.requires.begins at c.in_ok-model.ensures.read in
+    rw (le-leb _ _ c.if-r-gt-MOST_BYTES.false, ← e, ← c.read_model.ensures.bytes, ← c.in_ok-states.ensures.read, ← c.read_pool.ensures.bytes, ← c.in_ok-sets.ensures.read)
