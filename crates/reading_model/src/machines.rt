@@ -11,6 +11,13 @@ use tables::tables::{MOST_CONTROLS, MOST_MACHINES, MOST_STATES, Machines};
 // A number for each machine; 0 where there is none.
 type Each = [u8; MOST_MACHINES as usize];
 
+// How many machines there are.
+#[derive(Clone, Copy)]
+struct Count {
+    machines: u8,
+    ghost few: { machines ≤ most_machines },
+}
+
 // How many states the next machine has, after machines with this product.
 #[tactic(auto, using(numbers::specs::Laws::Parts::handed_on), unfolding(crate::specs::Machines::read_factor))]
 fn read_factor(r: &mut Reader<'_>, product: usize) -> Result<u8, Refusal>
@@ -28,14 +35,13 @@ fn read_factor(r: &mut Reader<'_>, product: usize) -> Result<u8, Refusal>
 }
 
 // The product of the machines' states, and the states of each.
-fn read_sizes(r: &mut Reader<'_>, count: usize) -> Result<(usize, Each), Refusal>
-    requires { count ≤ most_machines }
-    ensures read { said result r.new.place ≡ read_sizes r.old.bytes.now r.old.place 1 count 0 (replicate most_machines 0) }
+fn read_sizes(r: &mut Reader<'_>, count: Count) -> Result<(usize, Each), Refusal>
+    ensures read { said result r.new.place ≡ read_sizes r.old.bytes.now r.old.place 1 count.machines 0 (replicate most_machines 0) }
     ensures bytes { r.new.bytes ≡ r.old.bytes }
 {
     let mut product = 1;
     let mut sizes = [0u8; MOST_MACHINES as usize];
-    for i in 0..count {
+    for i in 0..usize::from(count.machines) {
         let v = read_factor(r, product)?;
         sizes[i] = v;
         product *= usize::from(v);
@@ -44,13 +50,12 @@ fn read_sizes(r: &mut Reader<'_>, count: usize) -> Result<(usize, Each), Refusal
 }
 
 // The starting state of each machine.
-fn read_starts(r: &mut Reader<'_>, sizes: Each, count: usize) -> Result<Each, Refusal>
-    requires { count ≤ most_machines }
-    ensures read { said result r.new.place ≡ read_starts r.old.bytes.now r.old.place sizes count 0 (replicate most_machines 0) }
+fn read_starts(r: &mut Reader<'_>, sizes: Each, count: Count) -> Result<Each, Refusal>
+    ensures read { said result r.new.place ≡ read_starts r.old.bytes.now r.old.place sizes count.machines 0 (replicate most_machines 0) }
     ensures bytes { r.new.bytes ≡ r.old.bytes }
 {
     let mut starts = [0u8; MOST_MACHINES as usize];
-    for i in 0..count {
+    for i in 0..usize::from(count.machines) {
         starts[i] = r.below(usize::from(sizes[i]))?;
     }
     Ok(starts)
@@ -58,15 +63,14 @@ fn read_starts(r: &mut Reader<'_>, sizes: Each, count: usize) -> Result<Each, Re
 
 // Both, for machines of this count.
 #[tactic(auto, using(numbers::specs::Laws::Parts::handed_on), unfolding(crate::specs::Machines::counted_machines))]
-fn read_counted(r: &mut Reader<'_>, count: u8) -> Result<Machines, Refusal>
-    requires { count ≤ most_machines }
-    ensures read { said result r.new.place ≡ counted_machines r.old.bytes.now r.old.place count }
+fn read_counted(r: &mut Reader<'_>, count: Count) -> Result<Machines, Refusal>
+    ensures read { said result r.new.place ≡ counted_machines r.old.bytes.now r.old.place count.machines }
     ensures bytes { r.new.bytes ≡ r.old.bytes }
 {
-    let (product, states) = read_sizes(r, usize::from(count))?;
-    let starts = read_starts(r, states, usize::from(count))?;
+    let (product, states) = read_sizes(r, count)?;
+    let starts = read_starts(r, states, count)?;
     Ok(Machines {
-        count,
+        count: count.machines,
         product,
         states,
         starts,
@@ -81,8 +85,11 @@ pub(crate) fn read_machines(r: &mut Reader<'_>) -> Result<(bool, Machines), Refu
     ensures bytes { r.new.bytes ≡ r.old.bytes }
 {
     let first = r.within(1, MOST_MACHINES + MOST_MACHINES)?;
-    if MOST_MACHINES < first {
-        return Ok((true, read_counted(r, first - MOST_MACHINES)?));
-    }
-    Ok((false, read_counted(r, first)?))
+    let resumes = MOST_MACHINES < first;
+    let machines = if resumes {
+        first - MOST_MACHINES
+    } else {
+        first
+    };
+    Ok((resumes, read_counted(r, Count { machines })?))
 }

@@ -1,6 +1,6 @@
 // Field 2: the queues, and what waits in them at the start.
 ghost use Rattle.std.specs.Prelude.{◌≡◌, ◌≤◌, ◌+◌, IfOk, replicate};
-ghost use Rattle.numbers.specs.Said.{said};
+ghost use Rattle.numbers.specs.Said.{said, said_with};
 ghost use Rattle.tables.specs.Limits.{most_queues, most_messages};
 ghost use Rattle.reading_model.specs.Queues.{read_term, read_counts, counted_queues, read_queues};
 
@@ -8,6 +8,13 @@ use crate::starting::read_starting;
 use numbers::reader::Reader;
 use numbers::refusal::Refusal;
 use tables::tables::{MOST_MESSAGES, MOST_QUEUES, Queues, STARTING};
+
+// Queues that were read.
+#[derive(Clone, Copy)]
+pub(crate) struct Counted {
+    pub(crate) queues: Queues,
+    ghost few: { queues.count ≤ most_queues },
+}
 
 // How many messages the next queue has, after queues with this sum.
 #[tactic(auto, using(numbers::specs::Laws::Parts::handed_on), unfolding(crate::specs::Queues::read_term))]
@@ -44,21 +51,21 @@ fn read_counts(
 }
 
 // The queues, each starting empty.
-#[tactic(auto, using(numbers::specs::Laws::Parts::handed_on), unfolding(crate::specs::Queues::counted_queues))]
-fn counted_queues(r: &mut Reader<'_>) -> Result<Queues, Refusal>
-    ensures read { said result r.new.place ≡ counted_queues r.old.bytes.now r.old.place }
-    ensures most { IfOk result (λ q. q.count ≤ most_queues) }
+#[tactic(auto, using(numbers::specs::Laws::Parts::handed_on_with), unfolding(crate::specs::Queues::counted_queues))]
+fn counted_queues(r: &mut Reader<'_>) -> Result<Counted, Refusal>
+    ensures read { said_with (λ c. c.queues) result r.new.place ≡ counted_queues r.old.bytes.now r.old.place }
     ensures bytes { r.new.bytes ≡ r.old.bytes }
 {
     let count = r.within(1, MOST_QUEUES)?;
     let (sum, messages) = read_counts(r, usize::from(count))?;
-    Ok(Queues {
+    let queues = Queues {
         count,
         sum,
         messages,
         lengths: [0u8; MOST_QUEUES as usize],
         contents: [0u8; STARTING],
-    })
+    };
+    Ok(Counted { queues })
 }
 
 // A file that resumes goes on with what waits in the queues.
@@ -71,5 +78,5 @@ pub(crate) fn read_queues(r: &mut Reader<'_>, resumes: bool) -> Result<Queues, R
     if resumes {
         return read_starting(r, counted);
     }
-    Ok(counted)
+    Ok(counted.queues)
 }

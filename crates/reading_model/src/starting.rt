@@ -1,11 +1,12 @@
 // What waits in the queues at the start, in a file that resumes.
-ghost use Rattle.std.specs.Prelude.{◌≡◌, ◌≤◌, ◌<◌, replicate};
+ghost use Rattle.std.specs.Prelude.{◌≡◌, ◌<◌, replicate};
 ghost use Rattle.numbers.specs.Said.{said, said_with};
 ghost use Rattle.tables.specs.Limits.{most_queues};
 ghost use Rattle.tables.specs.Starting.{starting_length};
 ghost use Rattle.reading_model.specs.Queues.{read_content, read_contents, read_starting};
 ghost use Rattle.reading_model.specs.Lent.{lent_contents};
 
+use crate::queues::Counted;
 use crate::words::read_word;
 use numbers::reader::Reader;
 use numbers::refusal::Refusal;
@@ -40,33 +41,31 @@ fn read_content(
 }
 
 // The contents of every queue, one after the other.
-fn read_contents(r: &mut Reader<'_>, q: &Queues) -> Result<(Lengths, Contents), Refusal>
-    requires { q.now.count ≤ most_queues }
-    ensures read { said result r.new.place ≡ read_contents r.old.bytes.now r.old.place q.now q.now.count 0 (replicate most_queues 0, replicate starting_length 0) }
+fn read_contents(r: &mut Reader<'_>, c: &Counted) -> Result<(Lengths, Contents), Refusal>
+    ensures read { said result r.new.place ≡ read_contents r.old.bytes.now r.old.place c.now.queues c.now.queues.count 0 (replicate most_queues 0, replicate starting_length 0) }
     ensures bytes { r.new.bytes ≡ r.old.bytes }
 {
     let mut lengths = [0u8; MOST_QUEUES as usize];
     let mut contents = [0u8; STARTING];
-    for i in 0..q.count {
-        read_content(r, q, i, &mut lengths, &mut contents)?;
+    for i in 0..c.queues.count {
+        read_content(r, &c.queues, i, &mut lengths, &mut contents)?;
     }
     Ok((lengths, contents))
 }
 
 // The queues with what waits in them. Something must wait: with all queues empty a session would have two forms.
 #[tactic(auto, using(numbers::specs::Laws::Parts::handed_on), unfolding(crate::specs::Queues::read_starting))]
-pub(crate) fn read_starting(r: &mut Reader<'_>, q: Queues) -> Result<Queues, Refusal>
-    requires { q.count ≤ most_queues }
-    ensures read { said result r.new.place ≡ read_starting r.old.bytes.now r.old.place q }
+pub(crate) fn read_starting(r: &mut Reader<'_>, c: Counted) -> Result<Queues, Refusal>
+    ensures read { said result r.new.place ≡ read_starting r.old.bytes.now r.old.place c.queues }
     ensures bytes { r.new.bytes ≡ r.old.bytes }
 {
-    let (lengths, contents) = read_contents(r, &q)?;
+    let (lengths, contents) = read_contents(r, &c)?;
     if !waits(lengths) {
         return Err(Refusal::StartsEmpty);
     }
     Ok(Queues {
         lengths,
         contents,
-        ..q
+        ..c.queues
     })
 }

@@ -10,10 +10,18 @@ use crate::words::read_word;
 use numbers::number::entry;
 use numbers::reader::Reader;
 use numbers::refusal::Refusal;
+use tables::kinds::Kind;
 use tables::spans::messages_of;
 use tables::tables::{
     FROM, KIND, LENGTH, MOST_TRANSITIONS, MOST_WORD, Machines, QUEUE, Queues, ROW, ROWS, TO, WORD,
 };
+
+// Fields 1 and 2, within which the transitions lie.
+#[derive(Clone, Copy)]
+struct Within<'a> {
+    machines: &'a Machines,
+    queues: &'a Queues,
+}
 
 // What a send and a receive go on with.
 #[tactic(auto, using(numbers::specs::Laws::Parts::handed_on_with), unfolding(crate::specs::Transitions::read_action))]
@@ -48,15 +56,15 @@ fn states_of(m: &Machines, machine: u8) -> usize
 #[tactic(auto, using(numbers::specs::Laws::Parts::handed_on_with), unfolding(crate::specs::Transitions::read_transition))]
 fn read_transition(
     r: &mut Reader<'_>,
-    m: &Machines,
-    q: &Queues,
+    w: Within<'_>,
     row: usize,
     rows: &mut [u8; ROWS],
 ) -> Result<(), Refusal>
     requires { row + row_length ≤ rows_length }
-    ensures read { said_with (λ _. rows.new) result r.new.place ≡ read_transition r.old.bytes.now r.old.place m.now q.now row rows.old }
+    ensures read { said_with (λ _. rows.new) result r.new.place ≡ read_transition r.old.bytes.now r.old.place w.entry.machines.now w.entry.queues.now row rows.old }
     ensures bytes { r.new.bytes ≡ r.old.bytes }
 {
+    let m = w.machines;
     let machine = r.below(usize::from(m.count))?;
     let states = states_of(m, machine);
     let (from, to) = r.two(states, states)?;
@@ -65,25 +73,24 @@ fn read_transition(
     rows[row + FROM] = from;
     rows[row + TO] = to;
     rows[row + KIND] = kind;
-    if kind == 0 {
-        return Ok(());
+    match Kind::from(kind) {
+        Kind::Local => Ok(()),
+        Kind::Send | Kind::Receive => read_action(r, w.queues, row, rows),
     }
-    read_action(r, q, row, rows)
 }
 
 fn read_rows(
     r: &mut Reader<'_>,
-    m: &Machines,
-    q: &Queues,
-    count: usize,
+    w: Within<'_>,
+    count: u8,
     rows: &mut [u8; ROWS],
 ) -> Result<(), Refusal>
     requires { count ≤ most_transitions }
-    ensures read { said_with (λ _. rows.new) result r.new.place ≡ read_rows r.old.bytes.now r.old.place m.now q.now count 0 rows.old }
+    ensures read { said_with (λ _. rows.new) result r.new.place ≡ read_rows r.old.bytes.now r.old.place w.entry.machines.now w.entry.queues.now count 0 rows.old }
     ensures bytes { r.new.bytes ≡ r.old.bytes }
 {
-    for t in 0..count {
-        read_transition(r, m, q, t * ROW, rows)?;
+    for t in 0..usize::from(count) {
+        read_transition(r, w, t * ROW, rows)?;
     }
     Ok(())
 }
@@ -101,6 +108,10 @@ pub(crate) fn read_transitions(
     ensures bytes { r.new.bytes ≡ r.old.bytes }
 {
     let count = r.within(0, MOST_TRANSITIONS)?;
-    read_rows(r, m, q, usize::from(count), rows)?;
+    let w = Within {
+        machines: m,
+        queues: q,
+    };
+    read_rows(r, w, count, rows)?;
     Ok(count)
 }

@@ -6,7 +6,9 @@ use Rattle.reading_model.proofs.machines.read_sizes.Goals as goal
 pub returns-in_err-v-clause-read : goal.returns-in_err-v-clause-read
 unfolding read_sizes
 returns-in_err-v-clause-read c =
-    rw (← c.loop-i.invariant.rest, one_more_lem c.loop-i-test.true, ← c.in_err-v.ensures.read)
+    let rest = rw c.from-i-end.ensures at c.loop-i.invariant.rest in
+    let more = rw c.from-i-end.ensures at c.loop-i-test.true in
+    rw (← rest, one_more_lem more, ← c.in_err-v.ensures.read)
     (handed_on c.from_residual.result _ _ c.from_residual.ensures.1)
 
 pub loop-i-preserved : goal.loop-i-preserved
@@ -20,4 +22,7 @@ loop-i-preserved c =
 
 pub returns-clause-read : goal.returns-clause-read
 unfolding read_sizes
-returns-clause-read c = rw (← c.loop-i.invariant.rest, sub-eq-zero_of_le c.loop-i-test.false)
+returns-clause-read c =
+    let rest = rw c.from-i-end.ensures at c.loop-i.invariant.rest in
+    let none = rw c.from-i-end.ensures at c.loop-i-test.false in
+    rw (← rest, sub-eq-zero_of_le none)

@@ -6,7 +6,9 @@ use Rattle.reading_model.proofs.transitions.read_rows.Goals as goal
 pub returns-in_err-read_transition-clause-read : goal.returns-in_err-read_transition-clause-read
 unfolding read_rows
 returns-in_err-read_transition-clause-read c =
-    rw (← c.loop-t.invariant.rest, one_more_lem c.loop-t-test.true, ← c.in_err-read_transition.ensures.read)
+    let rest = rw c.from-t-end.ensures at c.loop-t.invariant.rest in
+    let more = rw c.from-t-end.ensures at c.loop-t-test.true in
+    rw (← rest, one_more_lem more, ← c.in_err-read_transition.ensures.read)
     (handed_on_with c.from_residual.result _ _ _ c.from_residual.ensures.1)
 
 pub loop-t-preserved : goal.loop-t-preserved
@@ -19,4 +21,7 @@ loop-t-preserved c =
 
 pub returns-clause-read : goal.returns-clause-read
 unfolding read_rows
-returns-clause-read c = rw (← c.loop-t.invariant.rest, sub-eq-zero_of_le c.loop-t-test.false)
+returns-clause-read c =
+    let rest = rw c.from-t-end.ensures at c.loop-t.invariant.rest in
+    let none = rw c.from-t-end.ensures at c.loop-t-test.false in
+    rw (← rest, sub-eq-zero_of_le none)

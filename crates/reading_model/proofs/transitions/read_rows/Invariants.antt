@@ -5,6 +5,6 @@ use Rattle.reading_model.proofs.transitions.read_rows.Given as goal
 abbrev pub invariant-loop-t : goal.invariant-loop-t
 invariant-loop-t l =
     record {
-      rest : read_rows l.r.bytes.now l.r.place l.m l.q (l.count - l.t) l.t l.rows ≡ read_rows l.fn.r.bytes.now l.fn.r.place l.m l.q l.count 0 l.initial.rows;
+      rest : read_rows l.r.bytes.now l.r.place l.w.machines.now l.w.queues.now (l.t-end - l.t) l.t l.rows ≡ read_rows l.fn.r.bytes.now l.fn.r.place l.w.machines.now l.w.queues.now l.t-end 0 l.initial.rows;
       bytes : l.r.bytes ≡ l.fn.r.bytes;
     }
