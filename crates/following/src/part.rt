@@ -10,7 +10,8 @@ use crate::messages::{Lost, Ring, follow};
 use crate::rows::{row_of, state_of};
 use tables::kinds::Reached;
 
-// Where a part leads, and how many of its messages are followed.
+// Where a part leads, and how many of its messages are followed. No `Result`: where a part leads nowhere the next follows none, so that the numbers of
+// all parts are added as they are, and no part ends the others.
 #[derive(Clone, Copy, Debug, PartialEq, Eq)]
 pub struct Extent {
     pub to: Reached,

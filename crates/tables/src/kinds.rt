@@ -26,7 +26,8 @@ pub struct ControlState(pub u8);
 #[derive(Clone, Copy, Debug, PartialEq, Eq, PartialOrd, Ord)]
 pub struct DiagramState(pub u8);
 
-// Where a word has led: to a diagram state, or nowhere.
+// Where a word has led: to a diagram state, or nowhere. It is no `Option<DiagramState>`, which would be no plainer: a walk keeps each of its nodes as one
+// number, in which nowhere has a number too, and would make an `Option` of it and the number of that again at every node.
 #[derive(Clone, Copy, Debug, PartialEq, Eq)]
 pub struct Reached(pub u8);
 

@@ -1,4 +1,6 @@
-// The tables of a session, one for each field of the file, and the limits of document 01. Entries beyond the counts are 0.
+// The tables of a session, one for each field of the file, and the limits of document 01. Entries beyond the counts are 0. A table is an array of the
+// most that it may hold, with a count beside it: memory is fixed. Rows are bytes, and no structs, since C lends the large tables as they lie
+// (`swarmbanner_write`), and the definitions of specs/ read them so.
 use crate::kinds::{ControlState, DiagramState, Message};
 
 pub const MOST_MACHINES: u8 = 4;

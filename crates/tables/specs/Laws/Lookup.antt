@@ -1,13 +1,13 @@
 -- Lookup in tables that were read: what the entries that are found say.
-use Rattle.std.specs.Prelude.{ℕ, ◌+◌, ◌-◌, ◌*◌, ◌/◌, ◌%◌, ◌≤◌, ◌<◌, ◌≡◌, refl, Bool, true, false, List, length, get_or, take, drop, eqb}
-use Rattle.std.proofs.Common.{sym, ap, ◌∙◌, arith, get_or-take, get_or-drop, eq-eqb, ne_eqb, eqb-true}
+use Rattle.std.specs.Prelude.{ℕ, ◌+◌, ◌-◌, ◌*◌, ◌/◌, ◌%◌, ◌≤◌, ◌<◌, ◌≡◌, refl, Bool, true, false, List, length, get_or, eqb}
+use Rattle.std.proofs.Common.{sym, ap, ◌∙◌, arith, eq-eqb, ne_eqb, eqb-true}
 use Rattle.std.proofs.Math.Option.{none, some}
 use Rattle.std.proofs.Math.Decide.{dec_lt}
 use Rattle.std.proofs.lemmas.Bool.{eqb-false}
 use Rattle.tables.specs.Limits.{most_pool, most_messages}
 use Rattle.tables.specs.Kinds.{reached_of}
 use Rattle.tables.specs.Pool.{arc_from, arc_at}
-use Rattle.tables.specs.Lookup.{root_of, along_arc, final_at, ArcsSmall, RootAt, AlongTo}
+use Rattle.tables.specs.Lookup.{root_of, along_arc, ArcsSmall, AlongTo}
 use Rattle.tables.specs.Valid.{PoolValid}
 use Rattle.tables.specs.Laws.Pool.{arc_entry_lem}
 use Rattle.tables.specs.declared.tables.Pool.{Pool}
@@ -32,21 +32,7 @@ nowhere_false t e h = eqb-false t most_pool (sym e ∙ h)
 pub state_below : {t : ℕ} → t ≤ most_pool → (t ≡ most_pool → ⊥) → t < most_pool
 state_below h k = omega (arith, k)
 
--- A ROOT, and where there is none
-module _ (roots : List ℕ) (c root : ℕ) (e : root ≡ get_or roots c 0) where
-  pub root_missing : root ≡ 0 → {r : ℕ} → r ≡ most_pool → RootAt roots c r
-  root_missing z {r} n = record { is = reached_nowhere n ∙ sym (rw (sym e ∙ z, root_of)); most = omega arith }
-
-  pub root_there : (root ≡ 0 → ⊥) → root ≤ most_pool → {r : ℕ} → r ≡ root - 1 → RootAt roots c r
-  root_there z m own =
-      record {
-        is =
-            reached_small (omega arith)
-            ∙ ap some own
-            ∙ sym (rw (ne_eqb (get_or roots c 0) 0 (λ w. z (e ∙ w)), root_of) (ap (λ n. some (n - 1)) (sym e)));
-        most = omega arith;
-      }
-
+-- A ROOT
 -- an entry that is not 0 is 1 plus the root
 pub root_entry : (roots : List ℕ) (c : ℕ) {s : ℕ} → root_of roots c ≡ some s → get_or roots c 0 ≡ s + 1
 root_entry roots c {s} e = by_entry (eqb (get_or roots c 0) 0) refl e
@@ -56,22 +42,6 @@ root_entry roots c {s} e = by_entry (eqb (get_or roots c 0) 0) refl e
     by_entry false f e' = let x : get_or roots c 0 - 1 ≡ s = cc in omega (arith, eqb-false (get_or roots c 0) 0 f)
 
 -- AN ARC
--- an entry, read in the table's part from its message on
-entry_in_part : (arcs : List ℕ) (row m : ℕ) → row + m < length arcs → get_or (take (length arcs - m) (drop m arcs)) row 0 ≡ get_or arcs (row + m) 0
-entry_in_part arcs row m h =
-    get_or-take (length arcs - m) (drop m arcs) row 0 (omega arith) ∙ get_or-drop m arcs row 0
-    ∙ ap (λ i. get_or arcs i 0) (let z : m + row ≡ row + m = omega arith in z)
-
-module _ (arcs : List ℕ) (row m : ℕ) (h : row + m < length arcs) where
-  pub part_none : get_or (take (length arcs - m) (drop m arcs)) row 0 ≡ 0 → none ≡ arc_from arcs row m
-  part_none z = sym (rw (eq-eqb (get_or arcs (row + m) 0) 0 (sym (entry_in_part arcs row m h) ∙ z), arc_from))
-
-  pub part_some : (get_or (take (length arcs - m) (drop m arcs)) row 0 ≡ 0 → ⊥)
-      → some (get_or (take (length arcs - m) (drop m arcs)) row 0 - 1) ≡ arc_from arcs row m
-  part_some n =
-      ap (λ (x : ℕ). some (x - 1)) (entry_in_part arcs row m h)
-      ∙ sym (rw (ne_eqb (get_or arcs (row + m) 0) 0 (λ z. n (entry_in_part arcs row m h ∙ z)), arc_from))
-
 -- every state has an entry for every message
 pub entry_within : {arcs : List ℕ} {s m : ℕ} → ArcsSmall arcs → s < most_pool → m < most_messages → s * most_messages + m < length arcs
 entry_within a h k = omega (arith, a.long)
@@ -95,9 +65,6 @@ arcs_small {sum} {P} z = record { long = z.arcs_long; each = λ k. by_state k (d
 
 -- ONE MESSAGE MORE
 module _ {arcs : List ℕ} {t m : ℕ} where
-  pub along_nowhere : t ≡ most_pool → {r : ℕ} → r ≡ most_pool → AlongTo arcs t m r
-  along_nowhere e n = record { is = reached_nowhere n ∙ sym (ap (λ o. along_arc arcs o m) (reached_nowhere e)); most = omega arith }
-
   module _ (n : t ≡ most_pool → ⊥) {s : ℕ} (same : s ≡ t) where
     pub along_missing : arc_at arcs s m ≡ none → {r : ℕ} → r ≡ most_pool → AlongTo arcs t m r
     along_missing e h =
@@ -116,10 +83,3 @@ module _ {arcs : List ℕ} {t m : ℕ} where
               ∙ sym (ap (λ o. along_arc arcs o m) (reached_state n) ∙ ap (λ k. arc_at arcs k m) (sym same) ∙ e);
           most = omega arith;
         }
-
--- FINAL MARKS
-pub final_nowhere : (finals : List ℕ) (t : ℕ) → t ≡ most_pool → false ≡ final_at finals (reached_of t)
-final_nowhere finals t e = sym (ap (final_at finals) (reached_nowhere e))
-
-pub final_state : (finals : List ℕ) (t : ℕ) → (t ≡ most_pool → ⊥) → eqb (get_or finals t 0) 1 ≡ final_at finals (reached_of t)
-final_state finals t n = sym (ap (final_at finals) (reached_state n))
