@@ -1,6 +1,7 @@
 -- The states of the diagram for an automaton: the start, which is 0, and the sets of occurrences that words end on, each by its shortest,
 -- lowest word.
 use Rattle.std.specs.Prelude.{cond, List, [], ◌∷◌, map, ℕ, ◌+◌, eqb}
+use Rattle.std.specs.Prelude.{Option as Place, Some, None}
 use Rattle.std.proofs.Math.Option.{Option, none, some}
 use Rattle.theory_exploration.specs.Explore.{explore}
 use Rattle.tables.specs.Limits.{most_messages, most_pool}
@@ -23,3 +24,8 @@ states_from first F L =
 abbrev pub place_from : ℕ → List ℕ → ℕ → ℕ
 place_from i [] y = 0
 place_from i (x ∷ N) y = cond (eqb x y) (i + 1) (place_from (i + 1) N y)
+
+-- the place of a set that is one of them, as it is counted there
+abbrev pub said_place : Place ℕ → ℕ
+said_place None = 0
+said_place (Some i) = i + 1

@@ -1,79 +1,79 @@
 // The states, found breadth first: each goes to the end of the list, unless it is there.
-ghost use Rattle.std.specs.Prelude.{◌≡◌, ◌+◌, ◌≤◌, ◌<◌, length};
+ghost use Rattle.std.specs.Prelude.{◌≡◌, ◌==◌, ◌+◌, ◌≤◌, ◌<◌, position, take};
 ghost use Rattle.tables.specs.Limits.{most_messages, most_pool};
-ghost use Rattle.expression_states.specs.States.{place_from};
 ghost use Rattle.expression_states.specs.Grows.{a_state, Grows, AddsNext, FindsStates};
 
-use crate::next::next;
-use expression_sets::sets::MOST_OCCURRENCES;
+use crate::next::Moves;
+use expression_sets::sets::Occurrences;
 use tables::kinds::{DiagramState, Message};
 
 // Room for a state whose messages all lead to new ones after the last that is allowed.
 pub const MOST_LISTED: usize = DiagramState::LIMIT + Message::LIMIT;
 
-// 0 if the set is none of the states, else 1 plus its place.
-pub fn place_of(states: &[u32], set: u32) -> usize
-    ensures { result ≡ place_from 0 states.now set }
+// The place of a set among the states.
+pub fn place_of(states: &[Occurrences], set: Occurrences) -> Option<usize>
+    ensures { result ≡ position (λ state. state == set) states.now }
 {
-    let mut i: usize = 0;
-    while i < states.len() {
-        if states[i] == set {
-            return i + 1;
+    states.iter().position(|state| *state == set)
+}
+
+// A list of states: so many sets at the front of a table.
+pub struct States {
+    pub sets: [Occurrences; MOST_LISTED],
+    pub count: usize,
+}
+
+impl States {
+    pub fn found(&self) -> &[Occurrences]
+        requires { self.now.count ≤ most_pool + most_messages }
+        ensures { result.now ≡ take self.now.count self.now.sets }
+    {
+        &self.sets[..self.count]
+    }
+
+    // A set goes to the end, unless it is empty or there.
+    fn add(&mut self, set: Occurrences)
+        requires { self.old.count < most_pool + most_messages }
+        ensures { Grows self.old.sets self.old.count 1 (a_state set) self.new.sets self.new.count }
+    {
+        if set.is_empty() {
+            return;
         }
-        i += 1;
-    }
-    0
-}
-
-// A set goes to the end of the states, unless it is empty or there. Returns how many there are now.
-fn add(set: u32, states: &mut [u32], count: usize) -> usize
-    requires { count < length states.old }
-    ensures { Grows states.old count 1 (a_state set) states.new result }
-{
-    if set == 0 {
-        return count;
-    }
-    if place_of(&states[..count], set) != 0 {
-        return count;
-    }
-    states[count] = set;
-    count + 1
-}
-
-// The sets that the messages lead to, out of those that may come next.
-fn add_next(next: u32, marks: &[u32; Message::LIMIT], states: &mut [u32], count: usize) -> usize
-    requires { count + most_messages ≤ length states.old }
-    ensures { AddsNext next marks.now states.old count states.new result }
-{
-    let mut found = count;
-    let mut m: usize = 0;
-    while m < Message::LIMIT {
-        found = add(next & marks[m], states, found);
-        m += 1;
-    }
-    found
-}
-
-// All states, or more than a diagram may have. Returns how many were found.
-pub fn grow(
-    first: u32,
-    follow: &[u32; MOST_OCCURRENCES],
-    marks: &[u32; Message::LIMIT],
-    states: &mut [u32],
-) -> usize
-    requires { length states.old ≡ most_pool + most_messages }
-    ensures { FindsStates first follow.now marks.now states.new result }
-{
-    states[0] = 0;
-    let mut count: usize = 1;
-    let mut at: usize = 0;
-    while at < count {
-        if DiagramState::LIMIT < count {
-            return count;
+        if place_of(self.found(), set).is_some() {
+            return;
         }
-        let after = next(first, follow, states[at]);
-        count = add_next(after, marks, states, count);
-        at += 1;
+        self.sets[self.count] = set;
+        self.count += 1;
     }
-    count
+
+    // The sets that the messages lead to, out of those that may come next.
+    fn add_next(&mut self, next: Occurrences, marks: &[Occurrences; Message::LIMIT])
+        requires { self.old.count ≤ most_pool }
+        ensures { AddsNext next marks.now self.old.sets self.old.count self.new.sets self.new.count }
+    {
+        for &mark in marks {
+            self.add(next & mark);
+        }
+    }
+
+    // All states, or more than a diagram may have.
+    pub fn grow(moves: &Moves<'_>) -> States
+        ensures { FindsStates moves.now.first moves.now.follow.now moves.now.marks.now result.sets result.count }
+    {
+        let mut states = States {
+            sets: [Occurrences::NONE; MOST_LISTED],
+            count: 1,
+        };
+        // Counted by hand: the list grows while it is walked, so no range or slice stands for its places.
+        let mut at = 0;
+        while at < states.count {
+            if DiagramState::LIMIT < states.count {
+                return states;
+            }
+            let next = moves.next(states.sets[at]);
+            states.add_next(next, moves.marks);
+            at += 1;
+        }
+        states
+    }
 }

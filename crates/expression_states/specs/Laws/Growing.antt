@@ -1,12 +1,12 @@
 -- The list of states as the code fills it: one set more, the sets of all messages, and one state after the other.
-use Rattle.std.specs.Prelude.{◌≡◌, refl, true, false, cond, not, eqb, length, get_or, set, take}
+use Rattle.std.specs.Prelude.{◌≡◌, refl, true, false, cond, eqb, length, get_or, set, take}
 use Rattle.std.proofs.Math.Path.{sym, ap}
 use Rattle.std.proofs.Common.{subst, ◌∙◌, eq-eqb, ne_eqb, arith, add-one, length-append, length-set, take-suc-set}
 use Rattle.std.proofs.Math.Option.{none, some}
 use mathlib.Core.List.{List, [], ◌∷◌, ◌++◌, append-nil}
 use Prim.Native.Nat.{ℕ, ◌+◌, ◌-◌, ◌≤◌, ◌<◌}
 use Rattle.std.proofs.Math.Nat.{sub-zero}
-use Rattle.std.specs.Int.Bits.{bit_and}
+use Rattle.std.proofs.lemmas.List.{get_or_default}
 use Rattle.tables.specs.Limits.{most_pool, most_messages}
 use Rattle.theory_model.specs.Laws.Basics.{by_test}
 use Rattle.theory_exploration.specs.Explore.{fresh, expand}
@@ -19,10 +19,9 @@ use Rattle.theory_exploration.specs.Laws.Gather.{gather_skip, gather_on, gather_
 use Rattle.theory_exploration.specs.Laws.Grown.{grown_none, grown_old, grown_new, grown_append}
 use Rattle.theory_exploration.specs.Laws.Front.{expand_on, front_many, front_next, front_end}
 use Rattle.theory_occurrences.specs.Sets.{meet, marked}
-use Rattle.expression_states.specs.States.{next_of, set_for, states_from, place_from}
+use Rattle.expression_states.specs.States.{next_of, set_for, states_from}
 use Rattle.expression_sets.specs.Marks.{Marks}
 use Rattle.expression_states.specs.Grows.{a_state, Grows, AddsNext, FindsStates}
-use Rattle.expression_states.specs.Laws.Places.{place_mem}
 use Rattle.expression_states.specs.Laws.Numbering.{nodes_are}
 
 -- ONE SET MORE
@@ -36,18 +35,16 @@ module _ (S : List ℕ) (n : ℕ) {x : ℕ} where
   pub adds_empty : x ≡ 0 → Grows S n 1 (a_state x) S n
   adds_empty e = record { is = sym (ap (grown (take n S)) (no_state e) ∙ grown_none (take n S)); long = refl; within = omega arith }
 
-  pub adds_old : (x ≡ 0 → ⊥) → (place_from 0 (take n S) x ≡ 0 → ⊥) → Grows S n 1 (a_state x) S n
-  adds_old e p =
-      let there : mem x (take n S) ≡ true = place_mem (take n S) 0 x ∙ ap not (ne_eqb (place_from 0 (take n S) x) 0 p) in
+  pub adds_old : (x ≡ 0 → ⊥) → mem x (take n S) ≡ true → Grows S n 1 (a_state x) S n
+  adds_old e there =
       record {
         is = sym (ap (grown (take n S)) (a_state_lem e) ∙ grown_old (take n S) x [] there ∙ grown_none (take n S));
         long = refl;
         within = omega arith;
       }
 
-  pub adds_new : (x ≡ 0 → ⊥) → place_from 0 (take n S) x ≡ 0 → n < length S → Grows S n 1 (a_state x) (set S n x) (n + 1)
-  adds_new e p h =
-      let absent : mem x (take n S) ≡ false = place_mem (take n S) 0 x ∙ ap not (eq-eqb (place_from 0 (take n S) x) 0 p) in
+  pub adds_new : (x ≡ 0 → ⊥) → mem x (take n S) ≡ false → n < length S → Grows S n 1 (a_state x) (set S n x) (n + 1)
+  adds_new e absent h =
       record {
         is =
             ap (λ k. take k (set S n x)) (add-one n) ∙ take-suc-set S n x h
@@ -82,15 +79,14 @@ adding_begin z L S n =
     record { is = ap (λ k. grown (take n S) (gather (set_for z L) k 0)) (sub-zero most_messages); long = refl; within = omega arith }
 
 module _ {S₀ L S : List ℕ} {n₀ z n m : ℕ} (W : Adding S₀ n₀ z L S n m) where
-  pub adding_next : {S' : List ℕ} {n' y : ℕ} → m < most_messages → y ≡ marked m L → Grows S n 1 (a_state (bit_and z y)) S' n'
+  pub adding_next : {S' : List ℕ} {n' y : ℕ} → m < most_messages → y ≡ marked m L → Grows S n 1 (a_state (meet z y)) S' n'
       → Adding S₀ n₀ z L S' n' (m + 1)
-  unfolding meet
   adding_next {S'} {n'} {y} h e g =
       let rest : List ℕ = gather (set_for z L) (most_messages - (m + 1)) (m + 1) in
       record {
         is =
-            ap (λ l. grown l rest) g.is ∙ sym (grown_append (take n S) (a_state (bit_and z y)) rest)
-            ∙ ap (λ x. grown (take n S) (a_state (bit_and z x) ++ rest)) e
+            ap (λ l. grown l rest) g.is ∙ sym (grown_append (take n S) (a_state (meet z y)) rest)
+            ∙ ap (λ x. grown (take n S) (a_state (meet z x) ++ rest)) e
             ∙ ap (grown (take n S)) (sym (sets_on z L h))
             ∙ W.is;
         long = g.long ∙ W.long;
@@ -116,11 +112,13 @@ pub marked_begin : (z : ℕ) (M S : List ℕ) (n : ℕ) → Marked S n z M S n 0
 marked_begin z M S n = record { adding = λ L k. adding_begin z L S n; long = refl; within = omega arith; few = omega arith }
 
 module _ {S₀ M S : List ℕ} {n₀ z n m : ℕ} (W : Marked S₀ n₀ z M S n m) where
-  pub marked_next : {S' : List ℕ} {n' : ℕ} → m < most_messages → Grows S n 1 (a_state (bit_and z (get_or M m 0))) S' n'
-      → Marked S₀ n₀ z M S' n' (m + 1)
-  marked_next h g =
+  -- the entry is read where there is one, so it is the same by any default
+  pub marked_next : (d : ℕ) {S' : List ℕ} {n' w : ℕ} → length M ≡ most_messages → m < most_messages → w ≡ meet z (get_or M m d)
+      → Grows S n 1 (a_state w) S' n' → Marked S₀ n₀ z M S' n' (m + 1)
+  marked_next d {S'} {n'} {w} l h e g =
+      let same : w ≡ meet z (get_or M m 0) = e ∙ ap (meet z) (get_or_default M m d 0 (omega (arith, l))) in
       record {
-        adding = λ L k. adding_next (W.adding L k) h (k.each m h) g;
+        adding = λ L k. adding_next (W.adding L k) h (k.each m h) (subst (λ x. Grows S n 1 (a_state x) S' n') same g);
         long = g.long ∙ W.long;
         within = omega (arith, g.within, W.within);
         few = omega arith;
@@ -212,9 +210,10 @@ finding_begin first F M S l =
 
 module _ {first n at : ℕ} {F M S : List ℕ} (G : Finding first F M S n at) where
   -- what comes next at the state that is taken was found by the code
-  pub finding_next : {S' : List ℕ} {n' z : ℕ} → at < n → n ≤ most_pool → z ≡ next_of first F (get_or S at 0) → AddsNext z M S n S' n'
+  pub finding_next : (d : ℕ) {S' : List ℕ} {n' z : ℕ} → at < n → n ≤ most_pool → z ≡ next_of first F (get_or S at d) → AddsNext z M S n S' n'
       → Finding first F M S' n' (at + 1)
-  finding_next {S'} {n'} h l e g =
+  finding_next d {S'} {n'} {z} h l found g =
+      let e : z ≡ next_of first F (get_or S at 0) = found ∙ ap (next_of first F) (get_or_default S at d 0 (omega (arith, h, G.within))) in
       record {
         grows =
             λ L k.
