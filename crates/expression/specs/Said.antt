@@ -1,30 +1,35 @@
 -- What the code answers, in the words of the definition: for each case the number and the values of document 02.
-use Rattle.std.specs.Prelude.{List, ℕ, replicate}
-use Rattle.tables.specs.Limits.{most_pool}
-use Rattle.tables.specs.Pool.{pool_arcs}
+use Rattle.std.specs.Prelude.{List, ℕ, Result, Ok, Err}
 use Rattle.theory_occurrences.specs.Positions.{Automaton}
 use Rattle.expression_parse.specs.declared.parts.Part.{Part}
 use Rattle.expression_scan.specs.Said.{said_excess}
-use Rattle.expression.specs.Expression.{Drawn, root, refused, most_text}
-use Rattle.expression.specs.Expression as Expression
-use Rattle.expression.specs.declared.draw.Reply.{Reply}
-use Rattle.expression.specs.declared.draw.Reply.TheVariants.{Root, TooLong, Outside, Offender, TooManyStates}
+use Rattle.expression.specs.Expression.{Reply, Drawn, root, refused, turned_away, most_text}
+use Rattle.expression.specs.declared.draw.ExpressionRefusal.{ExpressionRefusal}
+use Rattle.expression.specs.declared.draw.ExpressionRefusal.TheVariants.{TooLong, Outside, Offender, TooManyStates}
 use Rattle.expression.specs.declared.draw.Drawing.{Drawing}
 use Rattle.numbers.specs.Refusals.{text_too_long, outside_grammar, too_many_states}
 
-abbrev pub said_reply : Reply → Expression.Reply
-said_reply (Root s) = root s.0
-said_reply TooLong = refused text_too_long most_text
-said_reply (Outside p) = refused outside_grammar p
-said_reply (Offender o p) = refused (said_excess o) p
-said_reply TooManyStates = refused too_many_states 0
+-- the number of a refusal, and its value
+abbrev pub refusal_number : ExpressionRefusal → ℕ
+refusal_number TooLong = text_too_long
+refusal_number (Outside p) = outside_grammar
+refusal_number (Offender o p) = said_excess o
+refusal_number TooManyStates = too_many_states
 
-abbrev pub said_drawing : Drawing → Drawn
-said_drawing d = record { reply = said_reply d.reply; pool = d.pool }
+abbrev pub refusal_value : ExpressionRefusal → ℕ
+refusal_value TooLong = most_text
+refusal_value (Outside p) = p
+refusal_value (Offender o p) = p
+refusal_value TooManyStates = 0
 
--- a reply with a pool that is all 0
-abbrev pub beside : Expression.Reply → Drawn
-beside R = record { reply = R; pool = record { count = 0; finals = replicate most_pool 0; arcs = replicate pool_arcs 0 } }
+abbrev pub said_reply : Result Drawing ExpressionRefusal → Reply
+said_reply (Ok d) = root d.root.0
+said_reply (Err e) = refused (refusal_number e) (refusal_value e)
+
+-- beside a refusal the pool is all 0
+abbrev pub said_drawing : Result Drawing ExpressionRefusal → Drawn
+said_drawing (Ok d) = record { reply = root d.root.0; pool = d.pool }
+said_drawing (Err e) = turned_away (refusal_number e) (refusal_value e)
 
 -- the automaton that the parse leaves in a part and two tables
 abbrev pub automaton_of : Part → List ℕ → List ℕ → Automaton

@@ -1,24 +1,32 @@
 // The diagram for just the language of an expression, or why there is none.
 ghost use Rattle.std.specs.Prelude.{◌≡◌};
 ghost use Rattle.expression.specs.Expression.{draw, expression};
-ghost use Rattle.expression.specs.Said.{said_reply, beside, said_drawing, automaton_of};
+ghost use Rattle.expression.specs.declared.draw.ExpressionRefusal.TheVariants.{Outside, Offender};
+ghost use Rattle.expression.specs.Said.{said_drawing, automaton_of};
 
 use expression_parse::cycle::parse;
-use expression_parse::parts::{Part, Step};
+use expression_parse::parts::{Part, Stuck};
 use expression_pool::fill::{fill_arcs, fill_finals};
-use expression_scan::limits::{Excess, Limit, check};
-use expression_sets::sets::{MOST_OCCURRENCES, marks_of};
-use expression_states::grow::{MOST_LISTED, grow};
+use expression_scan::limits::{Excess, Offence, check};
+use expression_sets::sets::{MOST_OCCURRENCES, Occurrences, Occurring};
+use expression_states::grow::States;
+use expression_states::next::Moves;
 use tables::kinds::DiagramState;
 use tables::tables::{POOL_ARCS, Pool};
 
 // The most bytes of a text.
 pub const MOST_TEXT: usize = 256;
 
+// A pool, and the state from which just the language is accepted.
 #[derive(Clone, Copy)]
-pub enum Reply {
-    // the state from which just the language is accepted
-    Root(DiagramState),
+pub struct Drawing {
+    pub root: DiagramState,
+    pub pool: Pool,
+}
+
+// Why there is no diagram for a text.
+#[derive(Clone, Copy, Debug, PartialEq, Eq)]
+pub enum ExpressionRefusal {
     // more bytes than a text may have
     TooLong,
     // outside the grammar, with the length of the longest beginning that some text of the grammar shares
@@ -29,64 +37,63 @@ pub enum Reply {
     TooManyStates,
 }
 
-#[derive(Clone, Copy)]
-pub struct Drawing {
-    pub reply: Reply,
-    pub pool: Pool,
+impl From<Stuck> for ExpressionRefusal {
+    ghost from_gives = { λ stuck e. e ≡ Outside stuck.0 };
+
+    fn from(stuck: Stuck) -> ExpressionRefusal {
+        ExpressionRefusal::Outside(stuck.0)
+    }
 }
 
-// Beside a refusal the pool is all 0.
-fn turned_away(reply: Reply) -> Drawing
-    ensures { said_drawing result ≡ beside (said_reply reply) }
-{
-    Drawing {
-        reply,
-        pool: Pool {
-            count: 0,
-            finals: [0u8; DiagramState::LIMIT],
-            arcs: [0u8; POOL_ARCS],
-        },
+impl From<Offence> for ExpressionRefusal {
+    ghost from_gives = { λ o e. e ≡ Offender o.excess o.place };
+
+    fn from(offence: Offence) -> ExpressionRefusal {
+        ExpressionRefusal::Offender(offence.excess, offence.place)
     }
 }
 
 // The diagram for a text that keeps within the limits.
-fn draw(part: Part, follow: &[u32; MOST_OCCURRENCES], label: &[u8; MOST_OCCURRENCES]) -> Drawing
-    ensures { said_drawing result ≡ draw (automaton_of part follow.now label.now) }
+fn draw(part: Part, occurring: &Occurring) -> Result<Drawing, ExpressionRefusal>
+    ensures { said_drawing result ≡ draw (automaton_of part occurring.now.follow occurring.now.label) }
 {
-    let marks = marks_of(label);
-    let mut states = [0u32; MOST_LISTED];
-    let count = grow(part.first, follow, &marks, &mut states);
-    if DiagramState::LIMIT < count {
-        return turned_away(Reply::TooManyStates);
+    let marks = occurring.marks();
+    let moves = Moves {
+        first: part.first,
+        follow: &occurring.follow,
+        marks: &marks,
+    };
+    let states = States::grow(&moves);
+    if DiagramState::LIMIT < states.count {
+        return Err(ExpressionRefusal::TooManyStates);
     }
+    let found = states.found();
     let mut finals = [0u8; DiagramState::LIMIT];
-    fill_finals(part.skips, part.last, &states[..count], &mut finals);
+    fill_finals(part.skips, part.last, found, &mut finals);
     let mut arcs = [0u8; POOL_ARCS];
-    fill_arcs(part.first, follow, &marks, &states[..count], &mut arcs);
-    Drawing {
-        reply: Reply::Root(DiagramState(0)),
+    fill_arcs(&moves, found, &mut arcs);
+    Ok(Drawing {
+        root: DiagramState(0),
         pool: Pool {
-            count: count as u8,
+            count: states.count as u8,
             finals,
             arcs,
         },
-    }
+    })
 }
 
 // The pool and root for just the language of a text, or a refusal with its place.
-pub fn expression(text: &[u8]) -> Drawing
+pub fn expression(text: &[u8]) -> Result<Drawing, ExpressionRefusal>
     ensures { said_drawing result ≡ expression text.now }
 {
     if MOST_TEXT < text.len() {
-        return turned_away(Reply::TooLong);
+        return Err(ExpressionRefusal::TooLong);
     }
-    let mut label = [0u8; MOST_OCCURRENCES];
-    let mut follow = [0u32; MOST_OCCURRENCES];
-    match parse(text, &mut label, &mut follow) {
-        Step::Stuck(place) => turned_away(Reply::Outside(place)),
-        Step::Read(part) => match check(text) {
-            Limit::Passed(excess, place) => turned_away(Reply::Offender(excess, place)),
-            Limit::Kept => draw(part, &follow, &label),
-        },
-    }
+    let mut occurring = Occurring {
+        label: [0u8; MOST_OCCURRENCES],
+        follow: [Occurrences::NONE; MOST_OCCURRENCES],
+    };
+    let part = parse(text, &mut occurring)?;
+    check(text)?;
+    draw(part, &occurring)
 }

@@ -95,6 +95,7 @@ impl Occurrences {
 }
 
 // The message of each occurrence, and what may follow it.
+#[derive(Drop)]
 pub struct Occurring {
     pub label: [u8; MOST_OCCURRENCES],
     pub follow: [Occurrences; MOST_OCCURRENCES],

@@ -18,6 +18,7 @@ pub fn place_of(states: &[Occurrences], set: Occurrences) -> Option<usize>
 }
 
 // A list of states: so many sets at the front of a table.
+#[derive(Drop)]
 pub struct States {
     pub sets: [Occurrences; MOST_LISTED],
     pub count: usize,

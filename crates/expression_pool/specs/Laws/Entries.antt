@@ -1,5 +1,8 @@
 -- Tables that are filled entry by entry: one entry more, one row more, and what an entry then holds.
-use Rattle.std.specs.Prelude.{◌≡◌, Bool, true, false, cond, not, List, [], ◌∷◌, eqb, length, set}
+use Rattle.std.specs.Prelude.{◌≡◌, Bool, true, false, cond, not, List, [], ◌∷◌, eqb, position, Option, length, set}
+use Rattle.expression_states.specs.States.{said_place}
+use Rattle.expression_states.specs.Laws.Places.{place_is}
+use Rattle.std.proofs.lemmas.List.{get_or_default}
 use Rattle.std.proofs.Math.Path.{refl, ap, ap₂}
 use Rattle.std.proofs.Common.{sym, ◌∙◌, add-zero, zero-add}
 use Prim.Native.Nat.{ℕ, zero, suc, ◌+◌, ◌-◌, ◌*◌, ◌/◌, ◌%◌, ◌≤◌, ◌<◌}
@@ -8,7 +11,6 @@ use native.Mathlib.Omega.{arith}
 use Rattle.std.proofs.Math.Nat.{add-sub_cancel_left}
 use Rattle.std.proofs.Math.ListN.{get_or, length-set}
 use Rattle.std.proofs.Math.Seq.{get_or-set_same, get_or-set_other}
-use Rattle.std.specs.Int.Bits.{bit_and}
 use Rattle.tables.specs.Limits.{most_messages}
 use Rattle.theory_model.specs.Laws.Basics.{by_test}
 use Rattle.theory_occurrences.specs.Sets.{meet, marked}
@@ -74,13 +76,13 @@ entries_same f g (suc left) i T e =
     ap (λ v. entries_from f left (i + 1) (set T i v)) (e i (omega arith) (omega arith))
     ∙ entries_same f g left (i + 1) (set T i (g i)) (λ k l h. e k (omega arith) (omega arith))
 
--- AN ARC
+-- AN ARC, by the place that an iterator finds
 module _ (N : List ℕ) {x : ℕ} where
   pub arc_none : x ≡ 0 → 0 ≡ arc_to N x
   arc_none e = rw (eq-eqb x 0 e)
 
-  pub arc_set : (x ≡ 0 → ⊥) → place_from 0 N x ≡ arc_to N x
-  arc_set e = rw (ne_eqb x 0 e)
+  pub arc_set : {o : Option ℕ} → (x ≡ 0 → ⊥) → o ≡ position (λ y. eqb y x) N → said_place o ≡ arc_to N x
+  arc_set e p = ap said_place p ∙ place_is N x ∙ rw (ne_eqb x 0 e)
 
 pub place_most : (N : List ℕ) (i y : ℕ) → place_from i N y ≤ i + length N
 place_most [] i y = omega arith
@@ -98,16 +100,17 @@ pub row_begin : (N : List ℕ) (z : ℕ) (M : List ℕ) (row : ℕ) (T : List �
 unfolding entries_from
 row_begin N z M row T = record { is = λ L k. refl }
 
-pub row_next : {N M T arcs : List ℕ} {z row m v : ℕ} → RowFilled N z M row T arcs m → m < most_messages → v ≡ arc_to N (bit_and z (get_or M m 0))
-    → RowFilled N z M row T (set arcs (row + m) v) (m + 1)
-unfolding meet
-row_next {N} {M} {T} {arcs} {z} {row} {m} {v} w l h =
+-- the entry is read where there is one, so it is the same by any default
+pub row_next : (d : ℕ) {N M T arcs : List ℕ} {z row m v x : ℕ} → RowFilled N z M row T arcs m → length M ≡ most_messages → m < most_messages
+    → x ≡ meet z (get_or M m d) → v ≡ arc_to N x → RowFilled N z M row T (set arcs (row + m) v) (m + 1)
+row_next d {N} {M} {T} {arcs} {z} {row} {m} {v} {x} w long l f g =
+    let h : v ≡ arc_to N (meet z (get_or M m 0)) = g ∙ ap (arc_to N) (f ∙ ap (meet z) (get_or_default M m d 0 (omega (arith, long, l)))) in
     record {
       is =
           λ L k.
           let d : row + m - row ≡ m = add-sub_cancel_left row m in
           let here : v ≡ row_entry N z L row (row + m) =
-          h ∙ ap (λ u. arc_to N (bit_and z u)) (k.each m l) ∙ ap (λ j. arc_to N (bit_and z (marked j L))) (sym d) in
+          h ∙ ap (λ u. arc_to N (meet z u)) (k.each m l) ∙ ap (λ j. arc_to N (meet z (marked j L))) (sym d) in
           ap₂ (λ a u. set a (row + m) u) (w.is L k) here ∙ sym (entries_one (row_entry N z L row) m row T);
     }
 
@@ -145,9 +148,10 @@ row_more N F L T first z i row w e r h =
         ap (λ u. arc_to N (meet u (marked (k - row) L))) (e ∙ ap (λ j. next_of first F (get_or N j 0)) q)
         ∙ ap (λ m. arc_to N (meet (next_of first F (get_or N (k / most_messages) 0)) (marked m L))) d
 
-pub arcs_next : {N F M T arcs arcs' : List ℕ} {first z i row : ℕ} → ArcsFilled N first F M T arcs i → z ≡ next_of first F (get_or N i 0)
-    → row ≡ i * most_messages → FillsRow N z M row arcs arcs' → ArcsFilled N first F M T arcs' (i + 1)
-arcs_next {N} {F} {M} {T} {first = first} {z} {i} {row} w e r h =
+pub arcs_next : (d : ℕ) {N F M T arcs arcs' : List ℕ} {first z i row : ℕ} → ArcsFilled N first F M T arcs i → i < length N
+    → z ≡ next_of first F (get_or N i d) → row ≡ i * most_messages → FillsRow N z M row arcs arcs' → ArcsFilled N first F M T arcs' (i + 1)
+arcs_next d {N} {F} {M} {T} {first = first} {z} {i} {row} w l found r h =
+    let e : z ≡ next_of first F (get_or N i 0) = found ∙ ap (next_of first F) (get_or_default N i d 0 l) in
     record { is = λ L k. row_more N F L T first z i row (w.is L k) e r (h.fills L k) }
 
 pub arcs_end : {N F M T arcs : List ℕ} {first i : ℕ} → ArcsFilled N first F M T arcs i → i ≤ length N → length N ≤ i
@@ -161,8 +165,7 @@ module _ (skips : Bool) (last : ℕ) {x : ℕ} where
   pub final_start : x ≡ 0 → cond skips 1 0 ≡ final_mark skips last x
   final_start e = rw (eq-eqb x 0 e)
 
-  pub final_set : (x ≡ 0 → ⊥) → cond (not (eqb (bit_and x last) 0)) 1 0 ≡ final_mark skips last x
-  unfolding meet
+  pub final_set : (x ≡ 0 → ⊥) → cond (not (eqb (meet x last) 0)) 1 0 ≡ final_mark skips last x
   final_set e = rw (ne_eqb x 0 e)
 
 -- one mark more
@@ -173,9 +176,10 @@ pub finals_begin : (skips : Bool) (last : ℕ) (N T : List ℕ) → FinalsFilled
 unfolding entries_from
 finals_begin skips last N T = record { is = refl }
 
-pub finals_next : {skips : Bool} {last : ℕ} {N T finals : List ℕ} {i v : ℕ} → FinalsFilled skips last N T finals i
-    → v ≡ final_mark skips last (get_or N i 0) → FinalsFilled skips last N T (set finals i v) (i + 1)
-finals_next {skips} {last} {N} {T} {finals} {i} {v} w e =
+pub finals_next : (d : ℕ) {skips : Bool} {last : ℕ} {N T finals : List ℕ} {i v : ℕ} → FinalsFilled skips last N T finals i → i < length N
+    → v ≡ final_mark skips last (get_or N i d) → FinalsFilled skips last N T (set finals i v) (i + 1)
+finals_next d {skips} {last} {N} {T} {finals} {i} {v} w l found =
+    let e : v ≡ final_mark skips last (get_or N i 0) = found ∙ ap (final_mark skips last) (get_or_default N i d 0 l) in
     let f : ℕ → ℕ = λ k. final_mark skips last (get_or N k 0) in
     record {
       is =

@@ -1,13 +1,15 @@
-use native.Mathlib.Omega.{arith}
-use mathlib.Core.Path.{◌∙◌}
-use Rattle.expression_pool.specs.Laws.Entries.{arc_none, arc_set, place_most}
+use Rattle.std.proofs.Common.{sym, ap, ◌∙◌}
+use Rattle.std.proofs.lemmas.Bool.{eqb-false}
+use Rattle.expression_states.specs.States.{said_place}
+use Rattle.expression_pool.specs.Laws.Entries.{arc_set}
 use Rattle.expression_pool.proofs.fill.arc_to.Goals as goal
 
-pub returns-then-set-eq0 : goal.returns-then-set-eq0
-returns-then-set-eq0 c = arc_none c.args.states.now c.if-set-eq0.true
+pub returns-in-Some : goal.returns-in-Some
+returns-in-Some c =
+    ap said_place (sym c.in-Some.is)
+    ∙ arc_set c.args.states.now (eqb-false _ 0 (sym c.is_empty.ensures ∙ c.if-is_empty.false)) c.place_of.ensures
 
-pub overflow_cast-result : goal.overflow_cast-result
-overflow_cast-result c = omega (arith, c.place_of.ensures, place_most c.args.states.now 0 c.args.set, c.requires)
-
-pub returns : goal.returns
-returns c = c.place_of.ensures ∙ arc_set c.args.states.now c.if-set-eq0.false
+pub returns-in-None : goal.returns-in-None
+returns-in-None c =
+    ap said_place (sym c.in-None.is)
+    ∙ arc_set c.args.states.now (eqb-false _ 0 (sym c.is_empty.ensures ∙ c.if-is_empty.false)) c.place_of.ensures

@@ -1,18 +1,10 @@
-use native.Mathlib.Omega.{arith}
-use Rattle.expression_pool.specs.Laws.Entries.{finals_begin, finals_next, finals_end}
+use Rattle.std.proofs.Common.{ap, ◌∙◌}
+use Rattle.expression_pool.specs.Filled.{final_mark}
+use Rattle.expression_pool.specs.Laws.Entries.{finals_begin, finals_next}
 use Rattle.expression_pool.proofs.fill.fill_finals.Goals as goal
 
 pub loop-i-init : goal.loop-i-init
-loop-i-init c = (finals_begin _ _ _ _, omega arith)
-
-pub bounds-finals-i : goal.bounds-finals-i
-bounds-finals-i c = omega (arith, c.loop-i-test.true, c.requires)
-
-pub overflow_add-i : goal.overflow_add-i
-overflow_add-i c = omega (arith, c.loop-i-test.true, c.requires)
+loop-i-init c = finals_begin _ _ _ _
 
 pub loop-i-preserved : goal.loop-i-preserved
-loop-i-preserved c = (finals_next c.loop-i.invariant.0 c.final_mark.ensures, omega arith)
-
-pub returns : goal.returns
-returns c = finals_end c.loop-i.invariant.0 c.loop-i.invariant.1 c.loop-i-test.false
+loop-i-preserved c = finals_next _ c.loop-i.invariant c.loop-i-test.true (c.final_mark.ensures ∙ ap (final_mark c.args.skips c.args.last) c.index-states-i.is)
