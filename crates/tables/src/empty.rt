@@ -2,27 +2,16 @@
 ghost use Rattle.std.specs.Prelude.{◌≡◌};
 ghost use Rattle.tables.specs.Empty.{empty_machines, empty_queues};
 
-use crate::tables::{MOST_MACHINES, MOST_QUEUES, Machines, Queues, STARTING};
+use crate::tables::{Machines, Queues};
 
 pub fn empty_machines() -> Machines
     ensures { result ≡ empty_machines }
 {
-    Machines {
-        count: 0,
-        product: 0,
-        states: [0u8; MOST_MACHINES as usize],
-        starts: [0u8; MOST_MACHINES as usize],
-    }
+    Machines::default()
 }
 
 pub fn empty_queues() -> Queues
     ensures { result ≡ empty_queues }
 {
-    Queues {
-        count: 0,
-        sum: 0,
-        messages: [0u8; MOST_QUEUES as usize],
-        lengths: [0u8; MOST_QUEUES as usize],
-        contents: [0u8; STARTING],
-    }
+    Queues::default()
 }

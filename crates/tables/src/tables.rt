@@ -57,7 +57,7 @@ pub const ENTRIES: usize = MOST_BAD as usize * ENTRY;
 // What waits at the start: the messages of queue q from entry q * MOST_STARTING on.
 pub const STARTING: usize = MOST_QUEUES as usize * MOST_STARTING as usize;
 
-#[derive(Clone, Copy, Debug, PartialEq, Eq)]
+#[derive(Clone, Copy, Debug, Default, PartialEq, Eq)]
 pub struct Machines {
     pub count: u8,
     pub product: usize,
@@ -65,7 +65,7 @@ pub struct Machines {
     pub starts: [u8; MOST_MACHINES as usize],
 }
 
-#[derive(Clone, Copy, Debug, PartialEq, Eq)]
+#[derive(Clone, Copy, Debug, Default, PartialEq, Eq)]
 pub struct Queues {
     pub count: u8,
     pub sum: u8,
