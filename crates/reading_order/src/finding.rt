@@ -115,7 +115,8 @@ impl FoundNodes {
         }
     }
 
-    // The roots of the bad entries.
+    // The roots of the bad entries. Apart from `find_roots`, since one function over both would take the look-up as a closure and say in its contract
+    // what that answers: it is longer than the two loops.
     pub(crate) fn find_bad(&mut self, rows: &[u8], entries: u8)
         requires { BadSmall rows.now entries }
         ensures { Finds self.old (bad_nodes rows.now entries 0) self.new }
