@@ -2,6 +2,7 @@
 pub mod Texts
 pub mod Numbers
 pub mod Loops
+pub mod Writers
 pub mod Kinds
 pub mod Waiting
 pub mod Arcs

@@ -1,2 +1,3 @@
 pub mod Parts
+pub mod Writer
 pub mod Laws

@@ -1,10 +1,10 @@
 -- What the putting functions speak of: how far places go, rows of arcs, and the stretches of the file that one function puts.
-use Rattle.std.specs.Prelude.{ℕ, ◌+◌, ◌*◌, Bool, cond, ◌&&◌, List, [], ◌++◌, length, take, drop, eqb, ltb}
+use Rattle.std.specs.Prelude.{ℕ, ◌+◌, ◌*◌, Bool, cond, ◌&&◌, List, [], ◌++◌, length, get_or, take, drop, eqb, ltb}
 use Rattle.tables.specs.Limits.{most_messages}
-use Rattle.tables.specs.Rows.{kind_at}
+use Rattle.tables.specs.Rows.{kind_at, row_length}
 use Rattle.tables.specs.Starting.{waits}
 use Rattle.tables.specs.declared.tables.Queues.{Queues}
-use Rattle.theory_format.specs.Spelled.{number, contents, action, arcs_of, pool, mapped, bad}
+use Rattle.theory_format.specs.Spelled.{number, contents, action, transition, arcs_of, pool, mapped, bad}
 use Rattle.tables.specs.declared.head.Head.{Head}
 
 -- further than any text goes, and no sum with it passes what a place can hold
@@ -30,6 +30,14 @@ waiting q = cond (waits q.lengths) (contents q) []
 -- a transition from its kind on
 unfoldable pub kind : List ℕ → ℕ → List ℕ
 kind rows row = number (kind_at rows row) ++ cond (eqb (kind_at rows row) 0) [] (action rows row)
+
+-- the transition of a number, by the rows of all
+abbrev pub transition_of : List ℕ → ℕ → List ℕ
+transition_of rows t = transition rows (t * row_length)
+
+-- and the bad entry
+abbrev pub bad_entry : List ℕ → ℕ → List ℕ
+bad_entry rows b = number (get_or rows (b * 2) 0) ++ number (get_or rows (b * 2 + 1) 0)
 
 -- fields 4 to 6
 unfoldable pub diagrams : Head → List ℕ → List ℕ → List ℕ → List ℕ → List ℕ

@@ -4,7 +4,7 @@
 
 pub mod file;
 mod moves;
-mod number;
 mod pool;
 mod sets;
 mod starting;
+mod writer;

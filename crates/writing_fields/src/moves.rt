@@ -1,12 +1,12 @@
-// Fields 1 to 3, what moves, each put into a buffer from a place on.
-ghost use Rattle.std.specs.Prelude.{◌+◌, ◌*◌, ◌≤◌, ◌≡◌};
+// Fields 1 to 3, what moves, each put by a writer.
+ghost use Rattle.std.specs.Prelude.{◌≤◌, ◌≡◌};
 ghost use Rattle.tables.specs.Limits.{most_machines};
-ghost use Rattle.numbers.specs.Put.{Put};
 ghost use Rattle.theory_format.specs.Spelled.{first_number, machines, queues, action, transition, transitions};
-ghost use Rattle.writing_fields.specs.Parts.{ample_place, kind};
+ghost use Rattle.writing_fields.specs.Parts.{kind};
+ghost use Rattle.writing_fields.specs.Writer.{Puts, Room};
 
-use crate::number::{put_entries, put_number};
 use crate::starting::put_waiting;
+use crate::writer::Writer;
 use numbers::number::entry;
 use tables::tables::{FROM, KIND, LENGTH, MOST_MACHINES, Machines, QUEUE, Queues, ROW, TO, WORD};
 
@@ -16,82 +16,75 @@ fn first_of(resumes: bool, count: u8) -> u8
     ensures { result ≡ first_number resumes count }
 {
     if resumes {
-        return count + MOST_MACHINES;
+        count + MOST_MACHINES
+    } else {
+        count
     }
-    count
 }
 
-pub(crate) fn put_machines(s: &mut [u8], at: usize, resumes: bool, m: Machines) -> usize
-    requires at_bound { at + 1022 ≤ ample_place }
+pub(crate) fn put_machines(w: &mut Writer<'_>, resumes: bool, m: Machines)
+    requires room { Room w.old 1022 }
     requires count_le_most_machines { m.count ≤ most_machines }
-    ensures { Put s.old at 1022 (machines resumes m) s.new result }
+    ensures { Puts w.old 1022 (machines resumes m) w.new }
 {
     let count = m.count as usize;
-    let states = m.states;
-    let starts = m.starts;
-    let first = put_number(s, at, first_of(resumes, m.count));
-    let second = put_entries(s, first, &states, 0, count);
-    put_entries(s, second, &starts, 0, count)
+    w.number(first_of(resumes, m.count));
+    w.entries(&m.states, 0, count);
+    w.entries(&m.starts, 0, count);
 }
 
 // What waits in them stands after their messages.
-pub(crate) fn put_queues(s: &mut [u8], at: usize, q: Queues) -> usize
-    requires { at + 131072 ≤ ample_place }
-    ensures { Put s.old at 131072 (queues q) s.new result }
+pub(crate) fn put_queues(w: &mut Writer<'_>, q: Queues)
+    requires { Room w.old 131072 }
+    ensures { Puts w.old 131072 (queues q) w.new }
 {
-    let count = q.count as usize;
-    let messages = q.messages;
-    let first = put_number(s, at, q.count);
-    let second = put_entries(s, first, &messages, 0, count);
-    put_waiting(s, second, q)
+    w.number(q.count);
+    w.entries(&q.messages, 0, q.count as usize);
+    put_waiting(w, q);
 }
 
 // What a row with a queue goes on with: the queue, the word's length and its messages.
-fn put_action(s: &mut [u8], at: usize, rows: &[u8], row: usize) -> usize
-    requires at_bound { at + 514 ≤ ample_place }
+fn put_action(w: &mut Writer<'_>, rows: &[u8], row: usize)
+    requires room { Room w.old 514 }
     requires row_bound { row ≤ 10000 }
-    ensures { Put s.old at 514 (action rows.now row) s.new result }
+    ensures { Puts w.old 514 (action rows.now row) w.new }
 {
     let length = entry(rows, row + LENGTH);
-    let second = put_number(s, at, entry(rows, row + QUEUE));
-    let third = put_number(s, second, length);
-    put_entries(s, third, rows, row + WORD, length as usize)
+    w.number(entry(rows, row + QUEUE));
+    w.number(length);
+    w.entries(rows, row + WORD, length as usize);
 }
 
 // The kind, and the action of kinds 1 and 2.
-fn put_kind(s: &mut [u8], at: usize, rows: &[u8], row: usize) -> usize
-    requires at_bound { at + 516 ≤ ample_place }
+fn put_kind(w: &mut Writer<'_>, rows: &[u8], row: usize)
+    requires room { Room w.old 516 }
     requires row_bound { row ≤ 10000 }
-    ensures { Put s.old at 516 (kind rows.now row) s.new result }
+    ensures { Puts w.old 516 (kind rows.now row) w.new }
 {
     let kind = entry(rows, row + KIND);
-    let next = put_number(s, at, kind);
-    if kind == 0 {
-        return next;
+    w.number(kind);
+    if kind != 0 {
+        put_action(w, rows, row);
     }
-    put_action(s, next, rows, row)
 }
 
-fn put_transition(s: &mut [u8], at: usize, rows: &[u8], row: usize) -> usize
-    requires at_bound { at + 522 ≤ ample_place }
+fn put_transition(w: &mut Writer<'_>, rows: &[u8], row: usize)
+    requires room { Room w.old 522 }
     requires row_bound { row ≤ 10000 }
-    ensures { Put s.old at 522 (transition rows.now row) s.new result }
+    ensures { Puts w.old 522 (transition rows.now row) w.new }
 {
-    let second = put_number(s, at, entry(rows, row));
-    let third = put_number(s, second, entry(rows, row + FROM));
-    let fourth = put_number(s, third, entry(rows, row + TO));
-    put_kind(s, fourth, rows, row)
+    w.number(entry(rows, row));
+    w.number(entry(rows, row + FROM));
+    w.number(entry(rows, row + TO));
+    put_kind(w, rows, row);
 }
 
-pub(crate) fn put_transitions(s: &mut [u8], at: usize, count: u8, rows: &[u8]) -> usize
-    requires { at + 133112 ≤ ample_place }
-    ensures { Put s.old at 133112 (transitions (record { count = count; rows = rows.now })) s.new result }
+pub(crate) fn put_transitions(w: &mut Writer<'_>, count: u8, rows: &[u8])
+    requires { Room w.old 133112 }
+    ensures { Puts w.old 133112 (transitions (record { count = count; rows = rows.now })) w.new }
 {
-    let mut next = put_number(s, at, count);
-    let mut t: usize = 0;
-    while t < (count as usize) {
-        next = put_transition(s, next, rows, t * ROW);
-        t += 1;
+    w.number(count);
+    for t in 0..count as usize {
+        put_transition(w, rows, t * ROW);
     }
-    next
 }

@@ -1,12 +1,13 @@
-// Field 4, put into a buffer from a place on.
+// Field 4, put by a writer.
 ghost use Rattle.std.specs.Prelude.{ℕ, ◌+◌, ◌≤◌, ◌<◌, cond, ◌≡◌, eqb, length};
-ghost use Rattle.numbers.specs.Put.{Put};
 ghost use Rattle.theory_format.specs.Spelled.{arcs, counted, state, pool};
-ghost use Rattle.writing_fields.specs.Parts.{ample_place, row_of, arcs_in};
+ghost use Rattle.writing_fields.specs.Parts.{row_of, arcs_in};
+ghost use Rattle.writing_fields.specs.Writer.{Puts, Room};
 
-use crate::number::{put_number, put_two};
+use crate::writer::Writer;
 use numbers::number::entry;
 use tables::tables::ARCS;
+use tables::view::TablesView;
 
 // The arcs of a state for the messages below the sum, as far as the table goes.
 fn row_of(table: &[u8], i: usize, sum: usize) -> &[u8]
@@ -14,13 +15,8 @@ fn row_of(table: &[u8], i: usize, sum: usize) -> &[u8]
     ensures { result.now ≡ row_of table.now i sum }
 {
     let first = i * ARCS;
-    if table.len() <= first {
-        return &table[..0];
-    }
-    if table.len() - first <= sum {
-        return &table[first..];
-    }
-    &table[first..first + sum]
+    let rest = &table[first.min(table.len())..];
+    &rest[..sum.min(rest.len())]
 }
 
 fn one_more(arc: u8, count: u8) -> u8
@@ -39,70 +35,51 @@ fn count_arcs(row: &[u8]) -> u8
     ensures { result ≡ length {A = ℕ × ℕ} (arcs_in row.now) }
 {
     let mut count: u8 = 0;
-    let mut m: usize = 0;
-    while m < row.len() {
-        count = one_more(row[m], count);
-        m += 1;
+    for &arc in row {
+        count = one_more(arc, count);
     }
     count
 }
 
 // These arcs, each with its message and its target.
-fn put_arcs(s: &mut [u8], at: usize, row: &[u8]) -> usize
-    requires at_bound { at + 1020 ≤ ample_place }
+fn put_arcs(w: &mut Writer<'_>, row: &[u8])
+    requires room { Room w.old 1020 }
     requires row_len_bound { length row.now < 256 }
-    ensures { Put s.old at 1020 (arcs (arcs_in row.now)) s.new result }
+    ensures { Puts w.old 1020 (arcs (arcs_in row.now)) w.new }
 {
-    let mut next = at;
-    let mut m: usize = 0;
-    while m < row.len() {
-        let arc = row[m];
-        if arc == 0 {
-            m += 1;
-            continue;
+    for (m, &arc) in row.iter().enumerate() {
+        if arc != 0 {
+            w.two(m as u8, arc - 1);
         }
-        next = put_two(s, next, m as u8, arc - 1);
-        m += 1;
     }
-    next
 }
 
-fn put_row(s: &mut [u8], at: usize, row: &[u8]) -> usize
-    requires at_bound { at + 1022 ≤ ample_place }
+fn put_row(w: &mut Writer<'_>, row: &[u8])
+    requires room { Room w.old 1022 }
     requires row_len_bound { length row.now < 256 }
-    ensures { Put s.old at 1022 (counted (arcs_in row.now)) s.new result }
+    ensures { Puts w.old 1022 (counted (arcs_in row.now)) w.new }
 {
-    let next = put_number(s, at, count_arcs(row));
-    put_arcs(s, next, row)
+    w.number(count_arcs(row));
+    put_arcs(w, row);
 }
 
-fn put_state(s: &mut [u8], at: usize, finals: &[u8], arcs: &[u8], sum: usize, i: usize) -> usize
-    requires at_bound { at + 1024 ≤ ample_place }
+fn put_state(w: &mut Writer<'_>, finals: &[u8], arcs: &[u8], sum: u8, i: usize)
+    requires room { Room w.old 1024 }
     requires i_bound { i < 256 }
-    requires sum_bound { sum < 256 }
-    ensures { Put s.old at 1024 (state finals.now arcs.now sum i) s.new result }
+    ensures { Puts w.old 1024 (state finals.now arcs.now sum i) w.new }
 {
-    let next = put_number(s, at, entry(finals, i));
-    put_row(s, next, row_of(arcs, i, sum))
+    w.number(entry(finals, i));
+    put_row(w, row_of(arcs, i, sum as usize));
 }
 
-pub(crate) fn put_pool(
-    s: &mut [u8],
-    at: usize,
-    count: u8,
-    finals: &[u8],
-    arcs: &[u8],
-    sum: usize,
-) -> usize
-    requires at_bound { at + 261122 ≤ ample_place }
-    requires sum_bound { sum < 256 }
-    ensures { Put s.old at 261122 (pool sum (record { count = count; finals = finals.now; arcs = arcs.now })) s.new result }
+pub(crate) fn put_pool(w: &mut Writer<'_>, t: &TablesView<'_>)
+    requires { Room w.old 261122 }
+    ensures { Puts w.old 261122 (pool t.now.head.queues.sum (record { count = t.now.head.states; finals = t.now.finals.now; arcs = t.now.arcs.now })) w.new }
 {
-    let mut next = put_number(s, at, count);
-    let mut i: usize = 0;
-    while i < (count as usize) {
-        next = put_state(s, next, finals, arcs, sum, i);
-        i += 1;
+    let count = t.head.states;
+    let sum = t.head.queues.sum;
+    w.number(count);
+    for i in 0..count as usize {
+        put_state(w, t.finals, t.arcs, sum, i);
     }
-    next
 }

@@ -1,32 +1,28 @@
-// Fields 5 and 6, each put into a buffer from a place on.
-ghost use Rattle.std.specs.Prelude.{◌+◌, ◌≤◌};
+// Fields 5 and 6, each put by a writer.
+ghost use Rattle.std.specs.Prelude.{◌≤◌};
 ghost use Rattle.tables.specs.Limits.{most_controls};
-ghost use Rattle.numbers.specs.Put.{Put};
 ghost use Rattle.theory_format.specs.Spelled.{mapped, bad};
-ghost use Rattle.writing_fields.specs.Parts.{ample_place};
+ghost use Rattle.writing_fields.specs.Writer.{Puts, Room};
 
-use crate::number::{put_entries, put_number, put_two};
+use crate::writer::Writer;
 use numbers::number::entry;
 use tables::tables::ENTRY;
 
-pub(crate) fn put_map(s: &mut [u8], at: usize, product: usize, roots: &[u8]) -> usize
-    requires at_bound { at + 512 ≤ ample_place }
+pub(crate) fn put_map(w: &mut Writer<'_>, product: usize, roots: &[u8])
+    requires room { Room w.old 512 }
     requires product_le_most_controls { product ≤ most_controls }
-    ensures { Put s.old at 512 (mapped product (record { roots = roots.entry.now })) s.new result }
+    ensures { Puts w.old 512 (mapped product (record { roots = roots.entry.now })) w.new }
 {
-    put_entries(s, at, roots, 0, product)
+    w.entries(roots, 0, product);
 }
 
-pub(crate) fn put_bad(s: &mut [u8], at: usize, count: u8, rows: &[u8]) -> usize
-    requires { at + 1022 ≤ ample_place }
-    ensures { Put s.old at 1022 (bad (record { count = count; rows = rows.now })) s.new result }
+pub(crate) fn put_bad(w: &mut Writer<'_>, count: u8, rows: &[u8])
+    requires { Room w.old 1022 }
+    ensures { Puts w.old 1022 (bad (record { count = count; rows = rows.now })) w.new }
 {
-    let mut next = put_number(s, at, count);
-    let mut b: usize = 0;
-    while b < (count as usize) {
+    w.number(count);
+    for b in 0..count as usize {
         let row = b * ENTRY;
-        next = put_two(s, next, entry(rows, row), entry(rows, row + 1));
-        b += 1;
+        w.two(entry(rows, row), entry(rows, row + 1));
     }
-    next
 }
