@@ -1,13 +1,13 @@
 -- WRITING TABLES OUT (document 02, change 5): the reply and the whole buffer, for every table and every buffer.
-use Rattle.std.specs.Prelude.{ℕ, ◌≡◌, ◌↔◌, Bool, false, cond, List, ◌++◌, length, drop, leb}
+use Rattle.std.specs.Prelude.{ℕ, ◌≡◌, ◌↔◌, Bool, false, cond, Result, Ok, Err, List, ◌++◌, length, drop, leb}
 use Rattle.numbers.specs.Part.{Part, got, refused}
 use Rattle.tables.specs.declared.tables.Tables.{Tables}
 use Rattle.reading_file.specs.File.{read_file}
 use Rattle.theory_format.specs.Spelled.{spelled}
 use Rattle.theory_format.specs.Readable.{Readable}
 use Rattle.comparison.specs.Same.{same_tables}
-use Rattle.writing_file.specs.declared.write.Written.{Written}
-use Rattle.writing_file.specs.declared.write.Written.TheVariants.{Length, NotReadable, TooShort}
+use Rattle.writing_file.specs.declared.write.WriteRefusal.{WriteRefusal}
+use Rattle.writing_file.specs.declared.write.WriteRefusal.TheVariants.{NotReadable, TooShort}
 use Rattle.numbers.specs.Refusals.{not_readable, buffer_short}
 
 -- did reading give these tables?
@@ -34,13 +34,17 @@ abbrev pub buffer_after : WriteReply → List ℕ → List ℕ → List ℕ
 buffer_after (wrote n) w buffer = w ++ drop n buffer
 buffer_after (refusal k p) w buffer = buffer
 
-abbrev pub said_written : Written → WriteReply
-said_written (Length n) = wrote n
-said_written NotReadable = refusal not_readable 0
-said_written TooShort = refusal buffer_short 0
+-- the number of a refusal
+abbrev pub refusal_number : WriteRefusal → ℕ
+refusal_number NotReadable = not_readable
+refusal_number TooShort = buffer_short
+
+abbrev pub said_written : Result ℕ WriteRefusal → WriteReply
+said_written (Ok n) = wrote n
+said_written (Err e) = refusal (refusal_number e) 0
 
 -- WHAT WRITING PROMISES: the reply, the whole buffer, and that 16 is replied exactly if no byte string is read into these tables
-pub record Writes (T : Tables) (entry : List ℕ) (r : Written) (exit : List ℕ) : Type 0 where
+pub record Writes (T : Tables) (entry : List ℕ) (r : Result ℕ WriteRefusal) (exit : List ℕ) : Type 0 where
   pub reply : said_written r ≡ write_reply (restored T) (spelled T) entry
   pub buffer : exit ≡ buffer_after (write_reply (restored T) (spelled T) entry) (spelled T) entry
   pub unread : (said_written r ≡ refusal not_readable 0) ↔ (Readable T → ⊥)

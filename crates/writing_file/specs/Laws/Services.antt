@@ -1,5 +1,5 @@
 -- THE SERVICES RESTORE what was read and what was written, by what each promises.
-use Rattle.std.specs.Prelude.{ℕ, ◌≤◌, ◌≡◌, refl, Bool, true, false, cond, List, ◌++◌, length, take, drop, leb}
+use Rattle.std.specs.Prelude.{ℕ, ◌≤◌, ◌≡◌, refl, Bool, true, false, cond, Result, List, ◌++◌, length, take, drop, leb}
 use Rattle.std.proofs.Common.{sym, ap, ◌∙◌, le-leb, arith}
 use Rattle.std.proofs.Math.Seq.{take-append_seam}
 use Rattle.numbers.specs.Part.{got}
@@ -11,7 +11,7 @@ use Rattle.theory_format.specs.Readable.{Bytes}
 use Rattle.theory_format.proofs.Whole.{read_then_written, readable_exactly, written_then_read}
 use Rattle.writing_file.specs.Write.{WriteReply, wrote, refusal, restored, write_reply, buffer_after, said_written, Writes}
 use Rattle.writing_file.specs.Laws.Restored.{restored_exactly}
-use Rattle.writing_file.specs.declared.write.Written.{Written}
+use Rattle.writing_file.specs.declared.write.WriteRefusal.{WriteRefusal}
 
 -- the length that was written, 0 after a refusal
 abbrev length_of : WriteReply → ℕ
@@ -20,7 +20,7 @@ length_of (refusal k p) = 0
 
 -- READING, THEN WRITING: where the buffer has room for the file, its front is the file, and the bytes past it are kept
 pub read_written : (s buffer : List ℕ) → Bytes s → {T : Tables} {next : ℕ} → read_file s ≡ got T next → length s ≤ length buffer
-    → {r : Written} {exit : List ℕ} → Writes T buffer r exit → (said_written r ≡ wrote (length s)) × (exit ≡ s ++ drop (length s) buffer)
+    → {r : Result ℕ WriteRefusal} {exit : List ℕ} → Writes T buffer r exit → (said_written r ≡ wrote (length s)) × (exit ≡ s ++ drop (length s) buffer)
 read_written s buffer bytes {T} {next} e room w =
     let same = read_then_written s bytes e in
     let again = (restored_exactly T).1 (record { file = s; bytes = bytes; end = next; read = e }) in
@@ -38,7 +38,7 @@ written_is true false w n e = absurd (let z : ◌≡◌ {A = ℕ} 0 1 = cc in om
 written_is false c w n e = absurd (let z : ◌≡◌ {A = ℕ} 0 1 = cc in omega arith)
 
 -- WRITING, THEN READING: where a length was replied, so many bytes of the buffer are read into the tables
-pub written_read : (T : Tables) (buffer : List ℕ) {r : Written} {exit : List ℕ} {n : ℕ} → Writes T buffer r exit → said_written r ≡ wrote n
+pub written_read : (T : Tables) (buffer : List ℕ) {r : Result ℕ WriteRefusal} {exit : List ℕ} {n : ℕ} → Writes T buffer r exit → said_written r ≡ wrote n
     → read_file (take n exit) ≡ got T n
 written_read T buffer {exit = exit} {n} w e =
     let whole = sym w.reply ∙ e in
@@ -50,6 +50,6 @@ written_read T buffer {exit = exit} {n} w e =
     ap read_file front ∙ written_then_read T ((readable_exactly T).0 ((restored_exactly T).0 again)) ∙ ap (got T) long
 
 -- 16 FOR STARTING CONTENTS THAT NO FILE HAS
-pub starting_refused : (T : Tables) (buffer : List ℕ) {r : Written} {exit : List ℕ} → Writes T buffer r exit → (StartingValid T.queues → ⊥)
+pub starting_refused : (T : Tables) (buffer : List ℕ) {r : Result ℕ WriteRefusal} {exit : List ℕ} → Writes T buffer r exit → (StartingValid T.queues → ⊥)
     → said_written r ≡ refusal 16 0
 starting_refused T buffer w h = w.unread.1 (λ x. h ((readable_exactly T).0 x).queues.starting)

@@ -1,5 +1,5 @@
 -- Why tables are not read again, and the bytes that they are put into.
-use Rattle.std.specs.Prelude.{ℕ, ◌≤◌, ◌<◌, ◌≡◌, refl, Bool, true, false, List, length, take, drop, replicate}
+use Rattle.std.specs.Prelude.{ℕ, ◌≤◌, ◌<◌, ◌≡◌, refl, Bool, true, false, Result, List, length, take, drop, replicate}
 use Rattle.std.proofs.Common.{sym, ◌∙◌, arith}
 use Rattle.std.proofs.Math.Path.{ap}
 use Rattle.std.proofs.lemmas.List.{length-replicate}
@@ -13,22 +13,22 @@ use Rattle.tables.specs.Limits.{most_machines, most_controls}
 use Rattle.tables.specs.declared.tables.Tables.{Tables}
 use Rattle.theory_model.specs.Laws.Basics.{by_test, false_not_true}
 use Rattle.reading_file.specs.Said.{read, refusal, said_answer}
-use Rattle.reading_file.specs.File.{read_file, Reads}
+use Rattle.reading_file.specs.File.{read_file, handed, Reads}
 use Rattle.reading_file.specs.Laws.Fields.{file_is, parts}
 use Rattle.reading_file.specs.Laws.Valid.{valid}
 use Rattle.reading_file.specs.Laws.Reading.{answer_refused, answer_read}
-use Rattle.reading_file.specs.declared.reading.Reading.{Reading}
+use Rattle.numbers.specs.declared.refusal.Refusal.{Refusal}
 use Rattle.theory_format.specs.Spelled.{spelled}
 use Rattle.comparison.specs.Same.{same_tables}
 use Rattle.comparison.specs.Laws.{same_tables_lem}
 use Rattle.writing_file.specs.Write.{gives, restored}
 
 -- what reading answered of some bytes says whether it gave the tables
-module _ (x : Part Tables) (r : Reading) (h : Reads x r) (T : Tables) where
-  pub gives_refused : (k p : ℕ) → said_answer r.answer ≡ refusal k p → false ≡ gives x T
+module _ (x : Part Tables) (r : Result Tables Refusal) (h : Reads x r) (T : Tables) where
+  pub gives_refused : (k p : ℕ) → said_answer r ≡ refusal k p → false ≡ gives x T
   gives_refused k p e = sym (ap (λ y. gives y T) (answer_refused x r h k p e))
 
-  pub gives_read : said_answer r.answer ≡ read → {b : Bool} → b ≡ same_tables T r.tables → b ≡ gives x T
+  pub gives_read : said_answer r ≡ read → {b : Bool} → b ≡ same_tables T (handed r) → b ≡ gives x T
   gives_read e f = f ∙ sym (ap (λ y. gives y T) (answer_read x r h e).1)
 
 -- what gave the tables was read into them
