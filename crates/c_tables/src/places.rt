@@ -1,4 +1,4 @@
-// Where each count and each table stands in the flat bytes.
+// Where each count and each table stands in the flat bytes. Each place is a constant, since the header gives C the same numbers (`SWARMBANNER_AT_..`).
 use tables::kinds::DiagramState;
 use tables::tables::{
     ENTRIES, MOST_CONTROLS, MOST_MACHINES, MOST_QUEUES, POOL_ARCS, ROWS, STARTING,

@@ -8,19 +8,19 @@ ghost use Rattle.c_tables.specs.Taken.{part, machines_place, contents_place, mac
 
 use crate::places::{
     BAD_PLACE, CONTENTS_PLACE, LENGTHS_PLACE, MACHINES_PLACE, MESSAGES_PLACE, POOL_PLACE,
-    QUEUES_PLACE, ROWS_PLACE, STARTS_PLACE, STATES_PLACE, SUM_PLACE, TRANSITIONS_PLACE,
+    QUEUES_PLACE, STARTS_PLACE, STATES_PLACE, SUM_PLACE, TRANSITIONS_PLACE,
 };
-use numbers::number::wide;
-use numbers::put::put_word;
 use tables::head::Head;
-use tables::tables::{Machines, Queues, STARTING};
+use tables::tables::{Machines, Queues};
 
-// Four bytes from a place on.
-fn four_at(tables: &[u8], at: usize) -> [u8; 4]
-    requires { at + 4 ≤ length tables.now }
-    ensures { result ≡ part at 4 tables.now }
+// So many bytes from a place on.
+fn part_at<const N: usize>(tables: &[u8], at: usize) -> [u8; N]
+    requires { at + N ≤ length tables.now }
+    ensures { result ≡ part at N tables.now }
 {
-    [tables[at], tables[at + 1], tables[at + 2], tables[at + 3]]
+    let mut bytes = [0u8; N];
+    bytes.copy_from_slice(&tables[at..at + N]);
+    bytes
 }
 
 // The product of the first entries.
@@ -30,10 +30,8 @@ fn product(states: &[u8], count: usize) -> usize
     ensures { result ≡ product_of states.now count }
 {
     let mut product: usize = 1;
-    let mut i: usize = 0;
-    while i < count {
-        product *= wide(states[i]);
-        i += 1;
+    for &size in &states[..count] {
+        product *= size as usize;
     }
     product
 }
@@ -44,40 +42,25 @@ fn machines_at(tables: &[u8]) -> Machines
     ensures { result ≡ machines_at tables.now }
 {
     let count = tables[MACHINES_PLACE];
-    let states = four_at(tables, STATES_PLACE);
-    let starts = four_at(tables, STARTS_PLACE);
-    let product = product(&states, wide(count));
+    let states = part_at(tables, STATES_PLACE);
     Machines {
         count,
-        product,
+        product: product(&states, count as usize),
         states,
-        starts,
+        starts: part_at(tables, STARTS_PLACE),
     }
-}
-
-// What waits in the queues at the start.
-fn contents_at(tables: &[u8]) -> [u8; STARTING]
-    requires { tables_least ≤ length tables.now }
-    ensures { result ≡ part contents_place starting_length tables.now }
-{
-    let mut contents = [0u8; STARTING];
-    put_word(&mut contents, 0, &tables[CONTENTS_PLACE..ROWS_PLACE]);
-    contents
 }
 
 fn queues_at(tables: &[u8]) -> Queues
     requires { tables_least ≤ length tables.now }
     ensures { result ≡ queues_at tables.now }
 {
-    let messages = four_at(tables, MESSAGES_PLACE);
-    let lengths = four_at(tables, LENGTHS_PLACE);
-    let contents = contents_at(tables);
     Queues {
         count: tables[QUEUES_PLACE],
         sum: tables[SUM_PLACE],
-        messages,
-        lengths,
-        contents,
+        messages: part_at(tables, MESSAGES_PLACE),
+        lengths: part_at(tables, LENGTHS_PLACE),
+        contents: part_at(tables, CONTENTS_PLACE),
     }
 }
 
@@ -86,11 +69,9 @@ pub(crate) fn head_at(tables: &[u8]) -> Head
     requires machines_place_bound { get_or tables.now machines_place 0 ≤ most_machines }
     ensures { result ≡ head_at tables.now }
 {
-    let machines = machines_at(tables);
-    let queues = queues_at(tables);
     Head {
-        machines,
-        queues,
+        machines: machines_at(tables),
+        queues: queues_at(tables),
         transitions: tables[TRANSITIONS_PLACE],
         states: tables[POOL_PLACE],
         bad: tables[BAD_PLACE],

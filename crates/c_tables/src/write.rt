@@ -6,26 +6,24 @@ use crate::places::{
 };
 use crate::taken::head_at;
 use tables::tables::MOST_MACHINES;
-use writing_file::write::{Written, write_parts};
+use tables::view::TablesView;
+use writing_file::write::{WriteRefusal, write_parts};
 
 // THE SERVICE on flat bytes: the session file with their tables, at the front of the buffer. The large tables are lent as they lie there; a product of more
 // factors than there are machines is not computed.
-pub fn write_flat(tables: &[u8], buffer: &mut [u8]) -> Written
+pub fn write_flat(tables: &[u8], buffer: &mut [u8]) -> Result<usize, WriteRefusal>
     ensures { WritesFlat tables.now buffer.old result buffer.new }
 {
-    if tables.len() < TABLES_LEAST {
-        return Written::NotReadable;
+    if tables.len() < TABLES_LEAST || MOST_MACHINES < tables[MACHINES_PLACE] {
+        return Err(WriteRefusal::NotReadable);
     }
-    if MOST_MACHINES < tables[MACHINES_PLACE] {
-        return Written::NotReadable;
-    }
-    write_parts(
-        head_at(tables),
-        &tables[ROWS_PLACE..FINALS_PLACE],
-        &tables[FINALS_PLACE..ARCS_PLACE],
-        &tables[ARCS_PLACE..ROOTS_PLACE],
-        &tables[ROOTS_PLACE..ENTRIES_PLACE],
-        &tables[ENTRIES_PLACE..TABLES_LEAST],
-        buffer,
-    )
+    let view = TablesView {
+        head: head_at(tables),
+        rows: &tables[ROWS_PLACE..FINALS_PLACE],
+        finals: &tables[FINALS_PLACE..ARCS_PLACE],
+        arcs: &tables[ARCS_PLACE..ROOTS_PLACE],
+        roots: &tables[ROOTS_PLACE..ENTRIES_PLACE],
+        entries: &tables[ENTRIES_PLACE..TABLES_LEAST],
+    };
+    write_parts(&view, buffer)
 }

@@ -1,6 +1,6 @@
 -- The product of the first entries, factor by factor. Entries are bytes, so that four of them do not pass what a machine number holds.
-use Rattle.std.specs.Prelude.{ℕ, zero, suc, ◌+◌, ◌*◌, ◌≤◌, ◌<◌, ◌≡◌, refl, List, get_or}
-use Rattle.std.proofs.Common.{ap, ap₂, subst, ◌∙◌, arith, mul-le-mul}
+use Rattle.std.specs.Prelude.{ℕ, zero, suc, ◌+◌, ◌*◌, ◌≤◌, ◌<◌, ◌≡◌, refl, List, length, get_or, take}
+use Rattle.std.proofs.Common.{sym, ap, ap₂, subst, ◌∙◌, length-take, get_or-take, arith, mul-le-mul}
 use Rattle.tables.specs.Valid.{product_of}
 
 -- the most that so many bytes have as their product
@@ -25,6 +25,14 @@ pub multiplied_more : {l : List ℕ} {i product x : ℕ} → Multiplied l i prod
     → Multiplied l (i + 1) (product * x)
 multiplied_more {l} {i} {product} {x} m e h =
     let n : suc i ≡ i + 1 = omega arith in subst (λ (k : ℕ). Multiplied l k (product * x)) n (multiplied_suc m e h)
+
+-- the same where the factor is read from the front
+pub multiplied_front : (l : List ℕ) (n i : ℕ) {product : ℕ} → Multiplied l i product → i < length (take n l) → get_or l i 0 < 256
+    → Multiplied l (i + 1) (product * get_or (take n l) i 0)
+multiplied_front l n i {product} m h few =
+    let within : i < n = omega (arith, h, length-take n l) in
+    let same = get_or-take n l i 0 within in
+    multiplied_more m same (subst (λ (x : ℕ). x < 256) (sym same) few)
 
 most_four : (i : ℕ) → i ≤ 4 → most_of i ≤ 4228250625
 unfolding most_of

@@ -1,13 +1,31 @@
 -- Tables that are put one after the other.
 use Rattle.std.specs.Prelude.{ℕ, ◌+◌, ◌≤◌, ◌≡◌, List, ◌++◌, length, drop}
 use Rattle.std.proofs.Common.{ap, ◌∙◌, length-append, arith}
-use Rattle.numbers.specs.Put.{Put}
+use Rattle.numbers.specs.Put.{Put, four_long}
 use Rattle.numbers.specs.Laws.Put.{put_then, put_front}
 use Rattle.tables.specs.declared.tables.Tables.{Tables}
 use Rattle.reading_file.specs.Valid.{Valid}
 use Rattle.c_tables.specs.Flat.{counts_of, small, starting, large, flat, small_long, starting_long, large_long, tables_least}
 
 module _ (T : Tables) (v : Valid T) where
+  pub put_small : {s₀ s₁ : List ℕ} {at p : ℕ}
+      → Put s₀ at (four_long (counts_of T) T.machines.states T.machines.starts T.queues.messages) (small T) s₁ p → Put s₀ at small_long (small T) s₁ p
+  put_small w =
+      record {
+        buffer = w.buffer;
+        next = w.next;
+        within = omega (arith, w.within, v.machines.states_long, v.machines.starts_long, v.queues.long);
+      }
+
+  pub put_large : {s₀ s₁ : List ℕ} {at p : ℕ}
+      → Put s₀ at (four_long T.transitions.rows T.pool.finals T.pool.arcs T.map.roots) (large T) s₁ p → Put s₀ at large_long (large T) s₁ p
+  put_large w =
+      record {
+        buffer = w.buffer;
+        next = w.next;
+        within = omega (arith, w.within, v.transitions.long, v.pool.finals_long, v.pool.arcs_long, v.map.long);
+      }
+
   pub put_starting : {s₀ s₁ s₂ : List ℕ} {at p q : ℕ} → Put s₀ at (length T.queues.lengths) T.queues.lengths s₁ p
       → Put s₁ p (length T.queues.contents) T.queues.contents s₂ q → Put s₀ at starting_long (starting T) s₂ q
   put_starting a b = put_then a b (omega (arith, v.queues.starting.lengths_long, v.queues.starting.contents_long))

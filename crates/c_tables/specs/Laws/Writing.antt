@@ -1,5 +1,5 @@
 -- What writing from flat bytes promises, in each case.
-use Rattle.std.specs.Prelude.{ℕ, ◌*◌, ◌≤◌, ◌<◌, ◌≡◌, ◌↔◌, Bool, true, false, ◌&&◌, List, length, get_or, take, leb}
+use Rattle.std.specs.Prelude.{ℕ, ◌*◌, ◌≤◌, ◌<◌, ◌≡◌, ◌↔◌, Bool, true, false, ◌&&◌, Result, Err, List, length, get_or, take, leb}
 use Rattle.std.proofs.Math.Path.{refl}
 use Rattle.std.proofs.Common.{sym, ap, subst, ◌∙◌, leb-true, le-leb, arith}
 use Rattle.std.proofs.lemmas.Bool.{lt-leb}
@@ -17,8 +17,8 @@ use Rattle.writing_file.specs.Laws.Writing.{unread_machines}
 use Rattle.writing_file.specs.Laws.Restored.{restored_exactly}
 use Rattle.writing_file.specs.Laws.Promises.{sixteen_exactly}
 use Rattle.writing_file.proofs.Promises.{writes_unread}
-use Rattle.writing_file.specs.declared.write.Written.{Written}
-use Rattle.writing_file.specs.declared.write.Written.TheVariants.{NotReadable}
+use Rattle.writing_file.specs.declared.write.WriteRefusal.{WriteRefusal}
+use Rattle.writing_file.specs.declared.write.WriteRefusal.TheVariants.{NotReadable}
 use Rattle.c_tables.specs.Flat.{flat, tables_least}
 use Rattle.c_tables.specs.Laws.Taken.{taken_readable, readable_taken}
 use Rattle.c_tables.specs.Taken.{part, machines_place, rows_place, finals_place, arcs_place, roots_place, entries_place, head_at, tables_at}
@@ -43,7 +43,7 @@ unrestored_at f = (
 
 module _ (f buffer : List ℕ) where
   -- of the test alone, and of what is replied to it
-  made : {b : Bool} {r : Written} {exit : List ℕ} → b ≡ restored_at f → said_written r ≡ write_reply b (spelled (tables_at f)) buffer
+  made : {b : Bool} {r : Result ℕ WriteRefusal} {exit : List ℕ} → b ≡ restored_at f → said_written r ≡ write_reply b (spelled (tables_at f)) buffer
       → exit ≡ buffer_after (write_reply b (spelled (tables_at f)) buffer) (spelled (tables_at f)) buffer → WritesFlat f buffer r exit
   made e reply buf =
       let same = reply ∙ ap (λ x. write_reply x (spelled (tables_at f)) buffer) e in
@@ -57,11 +57,11 @@ module _ (f buffer : List ℕ) where
       }
 
   -- too few bytes
-  pub flat_short : length f < tables_least → WritesFlat f buffer NotReadable buffer
+  pub flat_short : length f < tables_least → WritesFlat f buffer (Err NotReadable) buffer
   flat_short h = made {b = false} (sym (ap (λ x. x && restored (tables_at f)) (lt-leb tables_least (length f) h))) refl refl
 
   -- bytes enough: what writing their tables promises
-  pub flat_writes : {T : Tables} {r : Written} {exit : List ℕ} → tables_least ≤ length f → T ≡ tables_at f → Writes T buffer r exit
+  pub flat_writes : {T : Tables} {r : Result ℕ WriteRefusal} {exit : List ℕ} → tables_least ≤ length f → T ≡ tables_at f → Writes T buffer r exit
       → WritesFlat f buffer r exit
   flat_writes {r = r} {exit} h e w =
       let u : Writes (tables_at f) buffer r exit = subst (λ (x : Tables). Writes x buffer r exit) e w in
@@ -72,11 +72,11 @@ module _ (f buffer : List ℕ) where
   count_is = refl
 
   -- more machines than a file has
-  pub flat_machines : tables_least ≤ length f → most_machines < get_or f machines_place 0 → WritesFlat f buffer NotReadable buffer
+  pub flat_machines : tables_least ≤ length f → most_machines < get_or f machines_place 0 → WritesFlat f buffer (Err NotReadable) buffer
   flat_machines h g = flat_writes h refl (writes_unread (tables_at f) buffer (unread_machines (tables_at f) (omega (arith, count_is))))
 
   -- the parts that are lent are those of the tables
-  pub flat_parts : {h : Head} {r : Written} {exit : List ℕ} → tables_least ≤ length f → h ≡ head_at f
+  pub flat_parts : {h : Head} {r : Result ℕ WriteRefusal} {exit : List ℕ} → tables_least ≤ length f → h ≡ head_at f
       → Writes (tables_of h (part rows_place rows_length f) (part finals_place most_pool f) (part arcs_place pool_arcs f) (part roots_place most_controls f) (part entries_place (most_bad * 2) f)) buffer r exit
       → WritesFlat f buffer r exit
   unfolding tables_at

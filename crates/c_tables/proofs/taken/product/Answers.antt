@@ -1,15 +1,18 @@
+use Prim.Native.Nat.{◌<◌}
 use native.Mathlib.Omega.{arith}
-use Rattle.c_tables.specs.Laws.Products.{multiplied_none, multiplied_more, multiplied_most, multiplied_done}
+use lib.ListN.{get_or, length-take}
+use Rattle.c_tables.specs.Laws.Products.{multiplied_none, multiplied_front, multiplied_most}
 use Rattle.c_tables.proofs.taken.product.Goals as goal
 
-pub loop-i-init : goal.loop-i-init
-loop-i-init c = (multiplied_none _, omega arith)
+pub loop-size-init : goal.loop-size-init
+loop-size-init c = multiplied_none _
 
 pub overflow_mul-product : goal.overflow_mul-product
-overflow_mul-product c = omega (arith, multiplied_most (multiplied_more c.loop-i.invariant.0 c.wide-product.ensures.same c.wide-product.ensures.small) (omega arith))
+overflow_mul-product c =
+    let few : get_or c.args.states.now c.loop-size.size-index 0 < 256 = omega (arith, c.type_inv.states c.loop-size.size-index) in
+    omega (arith, multiplied_most (multiplied_front c.args.states.now c.args.count c.loop-size.size-index c.loop-size.invariant c.loop-size-test.true few) (omega (arith, length-take c.args.count c.args.states.now)))
 
-pub loop-i-preserved : goal.loop-i-preserved
-loop-i-preserved c = (multiplied_more c.loop-i.invariant.0 c.wide-product.ensures.same c.wide-product.ensures.small, omega arith)
-
-pub returns : goal.returns
-returns c = multiplied_done c.loop-i.invariant.0 c.loop-i.invariant.1 c.loop-i-test.false
+pub loop-size-preserved : goal.loop-size-preserved
+loop-size-preserved c =
+    let few : get_or c.args.states.now c.loop-size.size-index 0 < 256 = omega (arith, c.type_inv.states c.loop-size.size-index) in
+    multiplied_front c.args.states.now c.args.count c.loop-size.size-index c.loop-size.invariant c.loop-size-test.true few
