@@ -2,6 +2,7 @@
 ghost use Rattle.std.specs.Prelude.{◌≡◌, get_or};
 ghost use Rattle.numbers.specs.Said.{Widened};
 
+// Beside `usize::from` it promises that the number is below 256, which proofs of callers cite.
 pub fn wide(x: u8) -> usize
     ensures { Widened x result }
 {
