@@ -1,6 +1,6 @@
 -- THE SERVICE (document 02, change 2): the reply, the steps taken, the whole record and the whole queue memory, for every file, trace, memory and
 -- record.
-use Rattle.std.specs.Prelude.{ℕ, ◌*◌, ◌≡◌, Bool, true, false, List, length, leb}
+use Rattle.std.specs.Prelude.{ℕ, ◌*◌, ◌≡◌, Bool, true, false, List, length, leb, Result, Ok, Err}
 use Rattle.numbers.specs.Limits.{most_bytes}
 use Rattle.numbers.specs.Part.{Part, got, refused}
 use Rattle.numbers.specs.Said.{number_of, place_of}
@@ -13,7 +13,9 @@ use Rattle.replaying_queues.specs.Laid.{memory_after}
 use Rattle.replaying_step.specs.After.{record_after}
 use Rattle.replaying_step.specs.declared.runs.RunRecord.{RunRecord}
 use Rattle.replaying_trace.specs.declared.progress.Stop.{Stop}
-use Rattle.replaying_trace.specs.declared.progress.Stop.TheVariants.{End, Outside, Unread, NotPossible, NoRoom, FileRefused, TraceTooLong, MemoryShort}
+use Rattle.replaying_trace.specs.declared.progress.Stop.TheVariants.{End, Outside, Unread, NotPossible, NoRoom}
+use Rattle.replaying_trace.specs.declared.progress.ReplayRefusal.{ReplayRefusal}
+use Rattle.replaying_trace.specs.declared.progress.ReplayRefusal.TheVariants.{File, TraceTooLong, MemoryShort}
 use Rattle.replaying_trace.specs.declared.progress.Ended as Code
 use Rattle.numbers.specs.Refusals.{too_long, short_memory, not_possible, queue_full}
 
@@ -58,20 +60,28 @@ replay_to (got T next) s mem r = lent_to (leb (length s) most_bytes) (leb (T.que
 unfoldable pub replay_of : List ℕ → List ℕ → List ℕ → RunRecord → Outcome
 replay_of bytes s mem r = replay_to (read_file bytes) s mem r
 
--- what the code's answer says: 14 and 15 are a step's, 1 the trace's and 2 the memory's
-abbrev pub said_stop : Stop → Reply
-said_stop End = ran end
-said_stop (Outside far) = ran (outside far)
-said_stop (Unread why) = ran (refusal (number_of why) (place_of why))
-said_stop (NotPossible p) = ran (refusal not_possible p)
-said_stop (NoRoom p) = ran (refusal queue_full p)
-said_stop (FileRefused why) = file (number_of why) (place_of why)
-said_stop TraceTooLong = trace 1 most_bytes
-said_stop MemoryShort = memory 2 0
+-- why a replay ended, as the code says it: 14 and 15 are a step's
+abbrev pub said_stop : Stop → Why
+said_stop End = end
+said_stop (Outside far) = outside far
+said_stop (Unread why) = refusal (number_of why) (place_of why)
+said_stop (NotPossible p) = refusal not_possible p
+said_stop (NoRoom p) = refusal queue_full p
+
+-- what the code's answer says: 1 is the trace's and 2 the memory's; and the steps taken, none where there was no replay
+abbrev pub said_replay : Result Code.Ended ReplayRefusal → Reply
+said_replay (Ok e) = ran (said_stop e.why)
+said_replay (Err (File why)) = file (number_of why) (place_of why)
+said_replay (Err TraceTooLong) = trace 1 most_bytes
+said_replay (Err MemoryShort) = memory 2 0
+
+abbrev pub steps_of : Result Code.Ended ReplayRefusal → ℕ
+steps_of (Ok e) = e.steps
+steps_of (Err why) = 0
 
 -- WHAT A REPLAY PROMISES, with ₀ at entry and ₁ at exit
-pub record Replays (bytes s mem₀ : List ℕ) (r₀ : RunRecord) (e : Code.Ended) (r₁ : RunRecord) (mem₁ : List ℕ) : Type 0 where
-  pub reply : said_stop e.why ≡ (replay_of bytes s mem₀ r₀).reply
-  pub steps : e.steps ≡ (replay_of bytes s mem₀ r₀).steps
+pub record Replays (bytes s mem₀ : List ℕ) (r₀ : RunRecord) (e : Result Code.Ended ReplayRefusal) (r₁ : RunRecord) (mem₁ : List ℕ) : Type 0 where
+  pub reply : said_replay e ≡ (replay_of bytes s mem₀ r₀).reply
+  pub steps : steps_of e ≡ (replay_of bytes s mem₀ r₀).steps
   pub lent : r₁ ≡ (replay_of bytes s mem₀ r₀).lent
   pub queues : mem₁ ≡ (replay_of bytes s mem₀ r₀).queues

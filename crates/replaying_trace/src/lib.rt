@@ -4,4 +4,4 @@
 pub mod progress;
 pub mod run;
 mod start;
-mod turn;
+mod step;

@@ -1,8 +1,18 @@
-// How far a replay has come, and how it ended.
+// How far a replay has come, how it ended, and why there is none.
+ghost use Rattle.std.specs.Prelude.{◌≡◌};
+ghost use Rattle.replaying_trace.specs.declared.progress.Stop.TheVariants as Stops;
+ghost use Rattle.replaying_trace.specs.declared.progress.ReplayRefusal.TheVariants.{File};
+
 use numbers::refusal::Refusal;
+use replaying_step::inside::Outside;
 use replaying_step::runs::RunRecord;
-use tables::head::Head;
-use tables::tables::MOST_CONTROLS;
+
+// The place in the trace that a replay has come to, and the steps taken.
+#[derive(Clone, Copy)]
+pub struct Progress {
+    pub at: usize,
+    pub steps: usize,
+}
 
 // Why a replay ended. Places of a step are in the trace.
 #[derive(Clone, Copy)]
@@ -17,21 +27,41 @@ pub enum Stop {
     NotPossible(usize),
     // a queue would pass its room
     NoRoom(usize),
+}
+
+impl From<Outside> for Stop {
+    ghost from_gives = { λ o s. s ≡ Stops.Outside o.0 };
+
+    fn from(o: Outside) -> Stop {
+        Stop::Outside(o.0)
+    }
+}
+
+impl From<Refusal> for Stop {
+    ghost from_gives = { λ why s. s ≡ Stops.Unread why };
+
+    fn from(why: Refusal) -> Stop {
+        Stop::Unread(why)
+    }
+}
+
+// Why a replay does not begin.
+#[derive(Clone, Copy)]
+pub enum ReplayRefusal {
     // the file is refused
-    FileRefused(Refusal),
+    File(Refusal),
     // the trace has too many bytes
     TraceTooLong,
     // the queue memory has too few
     MemoryShort,
 }
 
-// Whether a replay goes on, and why not; the place in the trace that it has come to, and the steps taken.
-#[derive(Clone, Copy)]
-pub struct Progress {
-    pub going: bool,
-    pub why: Stop,
-    pub at: usize,
-    pub steps: usize,
+impl From<Refusal> for ReplayRefusal {
+    ghost from_gives = { λ why r. r ≡ File why };
+
+    fn from(why: Refusal) -> ReplayRefusal {
+        ReplayRefusal::File(why)
+    }
 }
 
 #[derive(Clone, Copy)]
@@ -40,18 +70,9 @@ pub struct Ended {
     pub steps: usize,
 }
 
-// After a replay.
+// After a replay; where there was none the record is the one before.
 #[derive(Clone, Copy)]
 pub struct Replayed {
     pub record: RunRecord,
-    pub ended: Ended,
-}
-
-// Before the first step, with the small tables of the file; the large ones lie in the arrays that they were read into.
-#[derive(Clone, Copy)]
-pub struct Begun {
-    pub record: RunRecord,
-    pub progress: Progress,
-    pub head: Head,
-    pub roots: [u8; MOST_CONTROLS],
+    pub ended: Result<Ended, ReplayRefusal>,
 }

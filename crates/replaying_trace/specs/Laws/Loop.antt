@@ -1,17 +1,25 @@
 -- The loop over steps, one step at a time.
-use Rattle.std.specs.Prelude.{ℕ, ◌-◌, ◌*◌, ◌≤◌, ◌<◌, ◌≡◌, refl, true, false, List, ◌++◌, length, drop}
-use Rattle.std.proofs.Common.{sym, ap, ap₂, subst, ◌∙◌, arith}
-use Rattle.theory_model.specs.Laws.Basics.{by_test, false_not_true}
-use Rattle.theory_replay.specs.Rules.{room, Why, ended}
-use Rattle.theory_replay.specs.Replay.{Turn, stops, goes, turn, replay_from}
+use Rattle.std.specs.Prelude.{ℕ, ◌-◌, ◌*◌, ◌≤◌, ◌<◌, ◌≡◌, refl, List, ◌++◌, length, drop, Ok, Err}
+use Rattle.std.proofs.Common.{sym, ap, subst, ◌∙◌, arith}
+use Rattle.theory_replay.specs.Rules.{room}
+use Rattle.theory_replay.specs.Rules as Rules
+use Rattle.replaying_trace.specs.Reply.{said_stop}
+use Rattle.theory_replay.specs.Replay.{replay_from}
 use Rattle.theory_replay.specs.Laws.Turns.{turn_goes, step_advances, replay_stops, replay_goes}
 use Rattle.replaying_queues.specs.Laid.{laid_all, memory_after}
 use Rattle.replaying_queues.specs.Laws.Rings.{rings_length}
 use Rattle.tables.specs.declared.tables.Tables.{Tables}
-use Rattle.theory_files.specs.Tables.{session_of}
+use Rattle.tables.specs.declared.view.TablesView.{TablesView}
 use Rattle.tables.specs.declared.head.Head.{Head}
-use Rattle.tables.specs.Head.{head_of}
-use Rattle.replaying_trace.specs.Run.{State, stands, Ready, Kept, Final, Gone, Turned, on, off, Stepped, rest, Ran, Reached}
+use Rattle.tables.specs.View.{viewed}
+use Rattle.theory_files.specs.Tables.{session_of}
+use Rattle.replaying_step.specs.Configurations.{Settleable, Settles}
+use Rattle.replaying_step.specs.Laws.Settling.{record_is}
+use Rattle.replaying_step.specs.declared.runs.RunRecord.{RunRecord}
+use Rattle.replaying_trace.specs.Run.{State, state, stands, Ready, Kept, Final, Stepped, rest, Reached}
+use Rattle.replaying_trace.specs.declared.progress.Progress.{Progress}
+use Rattle.replaying_trace.specs.declared.progress.Stop.{Stop}
+use Rattle.replaying_trace.specs.declared.progress.Ended as Code
 
 kept_then : {f : Head} {a b c : List ℕ} → Kept f a b → Kept f b c → Kept f a c
 kept_then k l = record { past = l.past ∙ k.past; long = l.long ∙ k.long }
@@ -24,107 +32,64 @@ memory_kept f x {mem} k =
     (subst (λ n. drop (n * room) x.memory ≡ drop (n * room) mem)
     (sym (rings_length x.memory x.lent.heads x.lent.lengths f.queues.count)) k.past)
 
--- A TURN that goes on, and one that ends
-module _ {T : Tables} {s : List ℕ} (x y : State) (S : Stepped T s x y) where
-  abbrev f : Head
-  f = head_of T
-
-  abbrev turning : Turn
-  turning = turn (session_of T) s x.progress.at (stands f x)
-
-  gone : y.progress.going ≡ true → (next : ℕ) × (turning ≡ goes (stands f y) next) × Gone f x y next
-  gone g = go S.turned
-    where
-      go : Turned f turning x y → (next : ℕ) × (turning ≡ goes (stands f y) next) × Gone f x y next
-      go (on next e G) = (next, e, G)
-      go (off w e F) = false_not_true F.idle g
-
-  over : y.progress.going ≡ false
-      → (w : Why) × (turning ≡ stops w) × Final f (ended w x.progress.steps (stands f x)) x.memory y
-  over n = go S.turned
-    where
-      go : Turned f turning x y → (w : Why) × (turning ≡ stops w) × Final f (ended w x.progress.steps (stands f x)) x.memory y
-      go (on next e G) = false_not_true n G.going
-      go (off w e F) = (w, e, F)
-
-  -- each step takes a byte at least
-  pub falls : y.progress.going ≡ true → (x.progress.at < y.progress.at) × (y.progress.at ≤ length s)
-  falls g =
-      let (next, e, G) = gone g in
-      let a = step_advances (turn_goes e).1 in
-      (omega (arith, a.0, G.at), omega (arith, a.1, G.at))
-
-  next_ready : Ready T s x → y.progress.going ≡ true → Ready T s y
-  next_ready r g =
-      let (next, e, G) = gone g in
-      let a = falls g in
-      record {
-        valid = r.valid;
-        holds = G.holds;
-        most = r.most;
-        within = a.1;
-        counted = omega (arith, G.steps, r.counted, a.0);
-      }
-
-  next_rest : Ready T s x → y.progress.going ≡ true → (rest T s y ≡ rest T s x) × Kept f x.memory y.memory
-  next_rest r g =
-      let (next, e, G) = gone g in
-      let a = step_advances (turn_goes e).1 in
-      let few : x.progress.steps < length s = omega (arith, r.counted, a.0, a.1) in (
-        ap₂ (λ n at. replay_from (session_of T) s (length s - n) n at (stands f y)) G.steps G.at
-            ∙ sym (replay_goes (session_of T) s x.progress.at (stands f x) x.progress.steps few e),
-        G.kept,
-      )
-
-  -- an end is that of all that was left
-  last_final : (z : State) → (rest T s x ≡ rest T s z) × Kept f z.memory x.memory → y.progress.going ≡ false
-      → Final f (rest T s z) z.memory y
-  last_final z (same, kept) n =
-      let (w, e, F) = over n in
-      subst (λ d. Final f d z.memory y)
-      (sym (replay_stops (session_of T) s x.progress.at (stands f x) (length s - x.progress.steps) x.progress.steps e) ∙ same)
-      (record {
-        idle = F.idle;
-        why = F.why;
-        steps = F.steps;
-        lent = F.lent;
-        memory = F.memory ∙ memory_kept f x kept;
-      })
-
 -- THE LOOP'S INVARIANT
-module _ {T : Tables} {s : List ℕ} where
-  pub reached_begin : {x : State} → Reached T s x x
-  reached_begin =
+pub reached_begin : {T : Tables} {s : List ℕ} {x : State} → Ready T s x → Reached T s x x
+reached_begin r = record { ready = r; same = refl; kept = record { past = refl; long = refl } }
+
+module _ {v : TablesView} {s : List ℕ} where
+  -- each step takes a byte at least
+  pub falls : (y : State) {p : Progress} {r : RunRecord} {mem : List ℕ} → Stepped v s y (Ok p) r mem → (y.progress.at < p.at) × (p.at ≤ length s)
+  falls y S = step_advances (turn_goes S.turned.turns).1
+
+  -- ONE STEP MORE
+  pub reached_step : (x y : State) {p : Progress} {r : RunRecord} {mem : List ℕ} → Reached (viewed v) s x y → Stepped v s y (Ok p) r mem
+      → Reached (viewed v) s x (state r mem p)
+  reached_step x y {p} {r} {mem} R S =
+      let G = S.turned in
+      let a = falls y S in
+      let few : y.progress.steps < length s = omega (arith, R.ready.counted, a.0, a.1) in
       record {
-        idle = λ _. refl;
-        on = λ _ _. ((λ r. r), refl, record { past = refl; long = refl });
-        off = λ g n. false_not_true n g;
+        ready =
+            record {
+              valid = R.ready.valid;
+              holds = G.holds;
+              most = R.ready.most;
+              within = a.1;
+              counted = omega (arith, G.steps, R.ready.counted, a.0);
+            };
+        same =
+            ap (λ n. replay_from (session_of (viewed v)) s (length s - n) n p.at (stands v.head (state r mem p))) G.steps
+            ∙ sym (replay_goes (session_of (viewed v)) s y.progress.at (stands v.head y) y.progress.steps few G.turns)
+            ∙ R.same;
+        kept = kept_then R.kept G.kept;
       }
 
-  -- a state that is reached goes only if the first one did
-  going_before : (x y : State) → Reached T s x y → y.progress.going ≡ true → x.progress.going ≡ true
-  going_before x y R g =
-      by_test x.progress.going (λ t. t) (λ n. false_not_true (ap (λ z. z.progress.going) (R.idle n) ∙ n) g)
+  -- THE END: record and memory stay, and are brought into the form of the end
+  module _ (x y : State) {why : Stop} {r : RunRecord} {mem : List ℕ} (R : Reached (viewed v) s x y) (S : Stepped v s y (Err why) r mem) where
+    pub halted_settleable : Settleable v.head.queues r mem
+    halted_settleable =
+        let stays = S.turned.stays in
+        subst (λ m. Settleable v.head.queues r m) (sym stays.kept)
+        (subst (λ z. Settleable v.head.queues z y.memory) (sym stays.same)
+        (record { queues = R.ready.valid.queues; ringed = R.ready.holds.ringed; enough = R.ready.holds.enough }))
 
-  pub reached_ready : (x y : State) → (x.progress.going ≡ true → Ready T s x) → Reached T s x y → y.progress.going ≡ true
-      → Ready T s y
-  reached_ready x y ready R g = let h = going_before x y R g in (R.on h g).0 (ready h)
+    pub reached_ran : {a : Code.Ended} {r' : RunRecord} {mem' : List ℕ} → a.why ≡ why → a.steps ≡ y.progress.steps → Settles v.head.queues r mem r' mem'
+        → Final v.head (rest (viewed v) s x) x.memory a r' mem'
+    reached_ran {a} {r'} {mem'} w n E = subst (λ e. Final v.head e x.memory a r' mem') (ended ∙ R.same) here
+      where
+        ended : Rules.ended (said_stop why) y.progress.steps (stands v.head y) ≡ rest (viewed v) s y
+        ended = sym (replay_stops (session_of (viewed v)) s y.progress.at (stands v.head y) (length s - y.progress.steps) y.progress.steps S.turned.turns)
 
-  pub reached_step : (x y z : State) → Reached T s x y → y.progress.going ≡ true → Ready T s y → Stepped T s y z
-      → Reached T s x z
-  reached_step x y z R g ready S =
-      record {
-        idle = λ n. false_not_true n h;
-        on =
-            λ _ m.
-            let before = R.on h g in
-            let step = next_rest y z S ready m in
-            ((λ _. next_ready y z S ready m), step.0 ∙ before.1, kept_then before.2 step.1);
-        off = λ _ n. let before = R.on h g in last_final y z S x (before.1, before.2) n;
-      }
-    where
-      h : x.progress.going ≡ true
-      h = going_before x y R g
+        at_stop : Settles v.head.queues y.lent y.memory r' mem'
+        at_stop =
+            let stays = S.turned.stays in
+            subst (λ m. Settles v.head.queues y.lent m r' mem') stays.kept (subst (λ z. Settles v.head.queues z mem r' mem') stays.same E)
 
-  pub reached_ran : (x y : State) → Reached T s x y → y.progress.going ≡ false → Ran T s x y
-  reached_ran x y R n = record { idle = R.idle; ends = λ g. R.off g n }
+        here : Final v.head (Rules.ended (said_stop why) y.progress.steps (stands v.head y)) x.memory a r' mem'
+        here =
+            record {
+              why = ap said_stop w;
+              steps = n;
+              lent = at_stop.lent ∙ record_is v.head.machines v.head.queues y.lent y.memory R.ready.valid.machines R.ready.valid.queues R.ready.holds;
+              memory = at_stop.memory ∙ memory_kept v.head y R.kept;
+            }

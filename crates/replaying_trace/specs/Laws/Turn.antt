@@ -1,6 +1,6 @@
 -- One turn on record and memory is the turn on their configuration, by what the code finds.
-use Rattle.std.specs.Prelude.{ℕ, ◌+◌, ◌≤◌, ◌<◌, ◌≡◌, refl, true, List, length}
-use Rattle.std.proofs.Common.{sym, ap, subst, ◌∙◌, arith}
+use Rattle.std.specs.Prelude.{ℕ, ◌+◌, ◌≤◌, ◌<◌, ◌≡◌, refl, true, List, length, Ok, Err}
+use Rattle.std.proofs.Common.{sym, ap, ◌∙◌}
 use borrow.Author.Tests.{lt-ltb}
 use Rattle.numbers.specs.Part.{got, refused}
 use Rattle.numbers.specs.Said.{number_of, place_of}
@@ -8,79 +8,23 @@ use Rattle.numbers.specs.Number.{read_below}
 use Rattle.numbers.specs.Laws.Ranges.{below_range}
 use Rattle.numbers.specs.declared.refusal.Refusal.{Refusal}
 use Rattle.theory_model.specs.Model.{Configuration, take?}
-use Rattle.theory_model.specs.Session.{Session, inside, how_far_in}
+use Rattle.theory_model.specs.Session.{Session, inside}
 use Rattle.theory_files.specs.Tables.{session_of}
 use Rattle.theory_files.specs.Laws.Rows.{transitions_length}
-use Rattle.theory_replay.specs.Rules.{Why, end, outside, refusal}
-use Rattle.theory_replay.specs.Replay.{Turn, stops, kept, moved, turn}
+use Rattle.theory_replay.specs.Rules.{outside}
+use Rattle.theory_replay.specs.Replay.{stops, goes, kept, moved, turn}
 use Rattle.theory_replay.specs.Laws.Turns.{turn_outside, turn_end, turn_unread}
-use Rattle.replaying_step.specs.Parts.{model_in}
-use Rattle.tables.specs.Valid.{MachinesValid, QueuesValid}
-use Rattle.tables.specs.declared.tables.Tables.{Tables}
-use Rattle.replaying_step.specs.Configurations.{run_of, config_of, Holds, Settleable}
-use Rattle.replaying_step.specs.Laws.Settling.{record_is}
-use Rattle.replaying_step.specs.Inside.{position_of, Mapped}
-use Rattle.replaying_step.specs.Laws.Inside.{found_inside, found_outside}
-use Rattle.replaying_step.specs.declared.inside.Position.{Position}
-use Rattle.replaying_step.specs.declared.inside.Position.TheVariants as Found
-use Rattle.replaying_step.specs.Taking.{Takeable, Stays, Takes}
-use Rattle.tables.specs.declared.head.Head.{Head}
+use Rattle.replaying_step.specs.Configurations.{config_of}
+use Rattle.replaying_step.specs.Inside.{Located, Mapped}
+use Rattle.replaying_step.specs.declared.inside.Outside.{Outside}
+use Rattle.replaying_step.specs.Taking.{Takeable, TakeAsked, Stays, Tries}
 use Rattle.replaying_step.specs.declared.runs.RunRecord.{RunRecord}
-use Rattle.replaying_step.specs.declared.taking.Took.TheVariants.{Yes, NotPossible, NoRoom}
-use Rattle.tables.specs.Head.{head_of}
-use Rattle.replaying_trace.specs.Reply.{ran, said_stop}
-use Rattle.replaying_trace.specs.Run.{State, state, stands, Ready, Turned, on, off, Stepped, Stopped, Ends, TurnAsked}
-use Rattle.replaying_trace.specs.declared.progress.Stop.{Stop}
-use Rattle.replaying_trace.specs.declared.progress.Stop.TheVariants.{End, Outside, Unread}
+use Rattle.replaying_step.specs.declared.taking.Untaken.TheVariants as Untaken
+use Rattle.tables.specs.declared.view.TablesView.{TablesView}
+use Rattle.tables.specs.View.{viewed}
+use Rattle.replaying_trace.specs.Run.{State, stands, Ready, Stepped}
+use Rattle.replaying_trace.specs.declared.progress.Stop.TheVariants as Stop
 use Rattle.replaying_trace.specs.declared.progress.Progress.{Progress}
-
--- a turn that stops, as the code has stopped
-pub turned_off : {f : Head} {t : Turn} {x y : State} {why : Stop} (w : Why) → t ≡ stops w → said_stop why ≡ ran w → Stopped f x why y
-    → Turned f t x y
-turned_off w e said S =
-    off w e
-    (record {
-      idle = ap (λ p. p.going) S.progress;
-      why = ap (λ p. said_stop p.why) S.progress ∙ said;
-      steps = ap (λ p. p.steps) S.progress;
-      lent = S.lent;
-      memory = S.memory;
-    })
-
-turned_as : {f : Head} {t u : Turn} {x y : State} → t ≡ u → Turned f u x y → Turned f t x y
-turned_as e (on next g G) = on next (e ∙ g) G
-turned_as e (off w g F) = off w (e ∙ g) F
-
--- a state whose record and memory are those of another
-same_state : {f : Head} {x y : State} {why : Stop} {r : RunRecord} {mem : List ℕ} → Stays x.lent x.memory r mem
-    → Stopped f (state r mem x.progress) why y → Stopped f x why y
-same_state {f} {x} {y} {why} {r} {mem} s S =
-    subst (λ m. Stopped f (state x.lent m x.progress) why y) s.kept
-    (subst (λ r. Stopped f (state r mem x.progress) why y) s.same S)
-
--- THE NUMBER IS TAKEN, or refused
-module _ (f : Head) (rows : List ℕ) (i next : ℕ) (x : State) where
-  abbrev model_turn : Turn
-  model_turn = moved x.progress.at next (take? (model_in f rows) i (stands f x))
-
-  pub turned_untaken : {r : RunRecord} {mem : List ℕ} {why : Stop} {y : State} → Takes f rows i x.lent x.memory NotPossible r mem
-      → said_stop why ≡ ran (refusal 14 x.progress.at) → Stopped f (state r mem x.progress) why y → Turned f model_turn x y
-  turned_untaken (e, s) said S =
-      turned_off (refusal 14 x.progress.at) (ap (moved x.progress.at next) e) said (same_state s S)
-
-  pub turned_full : {r : RunRecord} {mem : List ℕ} {why : Stop} {y : State} → Takes f rows i x.lent x.memory NoRoom r mem
-      → said_stop why ≡ ran (refusal 15 x.progress.at) → Stopped f (state r mem x.progress) why y → Turned f model_turn x y
-  turned_full ((γ, e, n), s) said S =
-      turned_off (refusal 15 x.progress.at)
-      (ap (moved x.progress.at next) e ∙ ap (λ b. kept b x.progress.at next γ) n) said (same_state s S)
-
-  pub turned_on : {r : RunRecord} {mem : List ℕ} {p : Progress} → Takes f rows i x.lent x.memory Yes r mem
-      → p.going ≡ true → p.at ≡ next → p.steps ≡ x.progress.steps + 1 → Turned f model_turn x (state r mem p)
-  turned_on {r} {mem} T g a n =
-      on next
-      (ap (moved x.progress.at next) T.taken
-      ∙ ap (λ b. kept b x.progress.at next (config_of f.machines f.queues r mem)) T.fitting)
-      (record { going = g; at = a; steps = n; holds = T.holds; kept = record { past = T.past; long = T.long } })
 
 -- A TURN whose configuration is inside and whose number is read is that of its transition
 module _ (S : Session) (s : List ℕ) (at : ℕ) (γ : Configuration) where
@@ -89,15 +33,25 @@ module _ (S : Session) (s : List ℕ) (at : ℕ) (γ : Configuration) where
   unfolding turn
   turn_is i h e = rw (i, lt-ltb at (length s) h, e)
 
+-- nothing has moved
+unmoved : {r : RunRecord} {mem : List ℕ} → Stays r mem r mem
+unmoved = record { same = refl; kept = refl }
+
 -- WHAT A STEP'S STATE GIVES to its parts
-module _ {T : Tables} {s : List ℕ} {x : State} (R : Ready T s x) where
-  abbrev f : Head
-  f = head_of T
+module _ (v : TablesView) (s : List ℕ) (x : State) (R : Ready (viewed v) s x) where
+  abbrev S : Session
+  S = session_of (viewed v)
 
-  pub transitions_counted : length (session_of T).model.transitions ≡ T.transitions.count
-  transitions_counted = transitions_length T.transitions.rows T.transitions.count 0
+  abbrev γ : Configuration
+  γ = stands v.head x
 
-  pub ready_mapped : Mapped f T.pool.finals T.pool.arcs T.map.roots x.lent x.memory
+  abbrev at : ℕ
+  at = x.progress.at
+
+  transitions_counted : length S.model.transitions ≡ v.head.transitions
+  transitions_counted = transitions_length v.rows.now v.head.transitions 0
+
+  pub ready_mapped : Mapped v x.lent x.memory
   ready_mapped =
       record {
         machines = R.valid.machines;
@@ -107,7 +61,7 @@ module _ {T : Tables} {s : List ℕ} {x : State} (R : Ready T s x) where
         holds = R.holds;
       }
 
-  pub ready_takeable : {i : ℕ} → i < f.transitions → Takeable f T.transitions.rows x.lent x.memory i
+  ready_takeable : {i : ℕ} → i < v.head.transitions → Takeable v.head v.rows.now x.lent x.memory i
   ready_takeable h =
       record {
         machines = R.valid.machines;
@@ -117,75 +71,59 @@ module _ {T : Tables} {s : List ℕ} {x : State} (R : Ready T s x) where
         holds = R.holds;
       }
 
-  -- what was found of the configuration
-  abbrev found : Position
-  found = position_of f T.pool.finals T.pool.arcs T.map.roots (stands f x)
+  -- the configuration is outside; it is inside, and the trace ends, has no number, or has one
+  pub stepped_outside : {o : Outside} → Located v γ (Err o) → Stepped v s x (Err (Stop.Outside o.0)) x.lent x.memory
+  stepped_outside L =
+      record { turned = record { turns = turn_outside S s at γ L.is.0 ∙ ap (λ n. stops (outside n)) (sym L.is.1); stays = unmoved } }
 
-  is_inside : Found.Inside ≡ found → inside (session_of T) (stands f x) ≡ true
-  is_inside i = found_inside (inside (session_of T) (stands f x)) (how_far_in (session_of T) (stands f x)) i
+  module _ (L : Located v γ (Ok tt)) where
+    pub stepped_end : length s ≤ at → Stepped v s x (Err Stop.End) x.lent x.memory
+    stepped_end h = record { turned = record { turns = turn_end S s at γ L.is h; stays = unmoved } }
 
-  pub stepped_outside : {far : ℕ} {y : State} → Found.Outside far ≡ found → Stopped f x (Outside far) y → Stepped T s x y
-  stepped_outside i S =
-      let (o, e) = found_outside (inside (session_of T) (stands f x)) (how_far_in (session_of T) (stands f x)) i in
-      record {
-        turned =
-            turned_off (outside (how_far_in (session_of T) (stands f x))) (turn_outside (session_of T) s x.progress.at (stands f x) o)
-            (ap (λ n. ran (outside n)) e) S;
-      }
+    pub stepped_unread : {why : Refusal} → at < length s → refused (number_of why) (place_of why) ≡ read_below s at v.head.transitions
+        → Stepped v s x (Err (Stop.Unread why)) x.lent x.memory
+    stepped_unread h e =
+        record {
+          turned =
+              record { turns = turn_unread S s at γ L.is h (ap (read_below s at) transitions_counted ∙ sym e); stays = unmoved };
+        }
 
-  pub stepped_end : {y : State} → Found.Inside ≡ found → length s ≤ x.progress.at → Stopped f x End y → Stepped T s x y
-  stepped_end i h S =
-      record { turned = turned_off end (turn_end (session_of T) s x.progress.at (stands f x) (is_inside i) h) refl S }
+    module _ {t next : ℕ} (h : at < length s) (e : got t next ≡ read_below s at v.head.transitions) where
+      number : Takeable v.head v.rows.now x.lent x.memory t
+      number = ready_takeable (below_range s at v.head.transitions (sym e))
 
-  pub stepped_unread : {y : State} {why : Refusal} → Found.Inside ≡ found → x.progress.at < length s
-      → refused (number_of why) (place_of why) ≡ read_below s x.progress.at f.transitions → Stopped f x (Unread why) y → Stepped T s x y
-  stepped_unread {why = why} i h e S =
-      record {
-        turned =
-            turned_off (refusal (number_of why) (place_of why))
-            (turn_unread (session_of T) s x.progress.at (stands f x) (is_inside i) h
-            (ap (read_below s x.progress.at) transitions_counted ∙ sym e)) refl S;
-      }
+      pub number_asked : TakeAsked v.rows.now x.lent x.memory t
+      number_asked = record { head = v.head; takeable = number }
 
-  pub stepped_taken : {t next : ℕ} {y : State} → Found.Inside ≡ found → x.progress.at < length s
-      → got t next ≡ read_below s x.progress.at f.transitions
-      → Turned f (moved x.progress.at next (take? (model_in f T.transitions.rows) t (stands f x))) x y → Stepped T s x y
-  stepped_taken i h e t =
-      record {
-        turned =
-            turned_as
-            (turn_is (session_of T) s x.progress.at (stands f x) (is_inside i) h
-            (ap (read_below s x.progress.at) transitions_counted ∙ sym e)) t;
-      }
+      turn_moves : turn S s at γ ≡ moved at next (take? S.model t γ)
+      turn_moves = turn_is S s at γ L.is h (ap (read_below s at) transitions_counted ∙ sym e)
 
-  -- the number that was read is a transition's
-  pub number_asked : {t next : ℕ} → got t next ≡ read_below s x.progress.at f.transitions → TurnAsked f T.transitions.rows x t
-  number_asked e =
-      record {
-        takeable = ready_takeable (below_range s x.progress.at f.transitions (sym e));
-        few = omega (arith, R.counted, R.within, R.most);
-      }
+      pub stepped_taken : {r : RunRecord} {mem : List ℕ} {p : Progress} → Tries v.rows.now t x.lent x.memory (Ok tt) r mem → p.at ≡ next
+          → p.steps ≡ x.progress.steps + 1 → Stepped v s x (Ok p) r mem
+      stepped_taken {r} {mem} {p} tries a n =
+          let T = tries v.head number in
+          record {
+            turned =
+                record {
+                  turns =
+                      turn_moves
+                      ∙ ap (moved at next) T.taken
+                      ∙ ap (λ b. kept b at next (config_of v.head.machines v.head.queues r mem)) T.fitting
+                      ∙ ap (λ k. goes (config_of v.head.machines v.head.queues r mem) k) (sym a);
+                  steps = n;
+                  holds = T.holds;
+                  kept = record { past = T.past; long = T.long };
+                };
+          }
 
--- THE FORM OF THE END, in the parts of the record
-module _ {f : Head} {r : RunRecord} {mem : List ℕ} (M : MachinesValid f.machines) (Q : QueuesValid f.queues)
-    (H : Holds f.machines f.queues r mem) where
-  pub held_settleable : Settleable f r.heads r.lengths mem
-  held_settleable = record { queues = Q; ringed = H.ringed; enough = H.enough }
+      pub stepped_untaken : {r : RunRecord} {mem : List ℕ} → Tries v.rows.now t x.lent x.memory (Err Untaken.NotPossible) r mem
+          → Stepped v s x (Err (Stop.NotPossible at)) r mem
+      stepped_untaken tries =
+          let T = tries v.head number in
+          record { turned = record { turns = turn_moves ∙ ap (moved at next) T.0; stays = T.1 } }
 
-  pub held_stopped : {p a : Progress} {why : Stop} {hs mem' : List ℕ} → Ends f r.heads r.lengths mem p why a hs mem'
-      → Stopped f (state r mem p) why (state (run_of r.states hs r.lengths) mem' a)
-  held_stopped E =
-      record {
-        progress = E.progress;
-        lent =
-            ap (λ hs. run_of r.states hs r.lengths) E.settled.heads
-            ∙ record_is f.machines f.queues r mem M Q H;
-        memory = E.settled.memory;
-      }
-
--- a refused step leaves what the configuration was
-pub stays_held : {f : Head} {rows : List ℕ} {r r' : RunRecord} {mem mem' : List ℕ} {i : ℕ} → Takeable f rows r mem i
-    → Stays r mem r' mem' → Holds f.machines f.queues r' mem'
-stays_held {f} {r' = r'} {mem = mem} A s =
-    subst (λ m. Holds f.machines f.queues r' m) (sym s.kept)
-    (subst (λ z. Holds f.machines f.queues z mem) (sym s.same) A.holds)
+      pub stepped_full : {r : RunRecord} {mem : List ℕ} → Tries v.rows.now t x.lent x.memory (Err Untaken.NoRoom) r mem
+          → Stepped v s x (Err (Stop.NoRoom at)) r mem
+      stepped_full tries =
+          let ((γ', m, n), stays) = tries v.head number in
+          record { turned = record { turns = turn_moves ∙ ap (moved at next) m ∙ ap (λ b. kept b at next γ') n; stays = stays } }

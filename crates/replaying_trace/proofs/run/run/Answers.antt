@@ -1,32 +1,25 @@
-use mathlib.Core.Path.{sym, subst}
-use mathlib.Core.Bool.{Bool}
-use Prim.Native.Nat.{◌-◌, ◌<◌}
-use lib.ListN.{length}
-use Rattle.replaying_trace.specs.Run.{state}
-use Rattle.replaying_trace.specs.Laws.Loop.{reached_begin, reached_ready, reached_step, reached_ran, falls}
-use Rattle.replaying_trace.proofs.Turns.{left_if, fewer}
+use mathlib.Core.Path.{refl}
+use native.Mathlib.Omega.{arith}
+use Rattle.replaying_trace.specs.Run.{state, opening}
+use Rattle.replaying_trace.specs.Laws.Loop.{falls, reached_begin, reached_step, halted_settleable, reached_ran}
 use Rattle.replaying_trace.proofs.run.run.Goals as goal
 
-pub loop-p-init : goal.loop-p-init
-loop-p-init c = reached_begin
+pub steps-init : goal.steps-init
+steps-init c = reached_begin c.requires
 
-pub step-p-requires : goal.step-p-requires
-step-p-requires c = reached_ready _ _ c.requires c.loop-p.invariant c.loop-p-test.true
+pub steps-smaller : goal.steps-smaller
+steps-smaller c =
+    let a = falls (state c.steps.r c.steps.memory c.steps.p) c.in-Ok.ensures in
+    omega (arith, a.0, a.1)
 
-pub loop-p-smaller : goal.loop-p-smaller
-loop-p-smaller c =
-    let a = c.args in
-    let p = c.loop-p.p in
-    let q = c.step-p.result in
-    let y = state c.loop-p.r c.loop-p.memory p in
-    let z = state c.step-p.new.r c.step-p.new.memory q in
-    subst (λ (b : Bool). left_if q.going (length a.trace.now - q.at) < left_if b (length a.trace.now - p.at)) (sym c.loop-p-test.true)
-    (fewer q.going (length a.trace.now) p.at q.at (falls y z c.step-p.ensures))
+pub steps-preserved : goal.steps-preserved
+steps-preserved c =
+    reached_step (opening c.args.r.now c.args.memory.now) (state c.steps.r c.steps.memory c.steps.p) c.steps.invariant c.in-Ok.ensures
 
-pub loop-p-preserved : goal.loop-p-preserved
-loop-p-preserved c =
-    let ready = reached_ready _ _ c.requires c.loop-p.invariant c.loop-p-test.true in
-    reached_step _ _ _ c.loop-p.invariant c.loop-p-test.true ready c.step-p.ensures
+pub settle-requires : goal.settle-requires
+settle-requires c =
+    halted_settleable (opening c.args.r.now c.args.memory.now) (state c.steps.r c.steps.memory c.steps.p) c.steps.invariant c.in-Err.ensures
 
-pub returns : goal.returns
-returns c = reached_ran _ _ c.loop-p.invariant c.loop-p-test.false
+pub returns-in-Err : goal.returns-in-Err
+returns-in-Err c =
+    reached_ran (opening c.args.r.now c.args.memory.now) (state c.steps.r c.steps.memory c.steps.p) c.steps.invariant c.in-Err.ensures refl refl c.settle.ensures
