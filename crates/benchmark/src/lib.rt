@@ -10,16 +10,16 @@ use numbers::number::wide;
 use reading_file::reading::read_into;
 use tables::kinds::DiagramState;
 use tables::tables::{MOST_CONTROLS, POOL_ARCS, ROWS};
-use verdicts::verdict::Verdict;
+use verdicts::verdict::{CheckRefusal, Failing, Verdict};
 
 fn sample(
     rows: &[u8; ROWS],
     finals: &[u8; DiagramState::LIMIT],
     arcs: &[u8; POOL_ARCS],
-    roots: [u8; MOST_CONTROLS],
+    roots: &[u8; MOST_CONTROLS],
     i: usize,
 ) -> usize
-    ensures { result ≡ together rows.now finals.now arcs.now roots i }
+    ensures { result ≡ together rows.now finals.now arcs.now roots.now i }
 {
     if i < DiagramState::LIMIT {
         return wide(rows[i]) + wide(finals[i]) + wide(arcs[i]) + wide(roots[i]);
@@ -36,23 +36,21 @@ pub extern "C" fn measured_read(file: &[u8], i: usize) -> usize
     let mut rows = [0u8; ROWS];
     let mut finals = [0u8; DiagramState::LIMIT];
     let mut arcs = [0u8; POOL_ARCS];
-    let read = read_into(file, &mut rows, &mut finals, &mut arcs);
-    let sets = read.sets;
-    let map = sets.map;
-    let roots = map.roots;
-    sample(&rows, &finals, &arcs, roots, i)
+    match read_into(file, &mut rows, &mut finals, &mut arcs) {
+        Ok(read) => sample(&rows, &finals, &arcs, &read.sets.map.roots, i),
+        Err(_) => sample(&rows, &finals, &arcs, &[0u8; MOST_CONTROLS], i),
+    }
 }
 
-fn told(v: Verdict) -> usize
-    ensures { result ≡ told_of v }
+fn told(checked: Result<Verdict, CheckRefusal>) -> usize
+    ensures { result ≡ told_of checked }
 {
-    match v {
-        Verdict::Closed(pairs) => pairs,
-        Verdict::Outside => 3000000000,
-        Verdict::Leaves(control, transition, shown, far) => 2000000000 + shown % 1000000,
-        Verdict::Bad(entry, shown) => 2000000000 + shown % 1000000,
-        Verdict::Refused(why) => 3000000000,
-        Verdict::ShortMemory => 3000000000,
+    match checked {
+        Ok(Verdict::Closed(pairs)) => pairs,
+        Ok(Verdict::Fails(Failing::Outside)) => 3000000000,
+        Ok(Verdict::Fails(Failing::Leaves(_, _, shown, _))) => 2000000000 + shown % 1000000,
+        Ok(Verdict::Fails(Failing::Bad(_, shown))) => 2000000000 + shown % 1000000,
+        Err(_) => 3000000000,
     }
 }
 
@@ -66,6 +64,5 @@ pub extern "C" fn measured_check(
 ) -> usize
     ensures { Told file.now seen.old queue.old contents.old result seen.new queue.new contents.new }
 {
-    let verdict = check(file, seen, queue, contents);
-    told(verdict)
+    told(check(file, seen, queue, contents))
 }
