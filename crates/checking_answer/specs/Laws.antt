@@ -1,5 +1,5 @@
 -- The line that is written of a verdict is the line of checking's reply; and with enough lent it is the line of the file's reply.
-use Rattle.std.specs.Prelude.{ℕ, ◌+◌, ◌*◌, ◌≤◌, ◌≡◌, List, ◌++◌, length, drop, replicate, leb}
+use Rattle.std.specs.Prelude.{ℕ, ◌+◌, ◌*◌, ◌≤◌, ◌≡◌, Result, List, ◌++◌, length, drop, replicate, leb}
 use Rattle.std.proofs.Common.{sym, ap, subst, ◌∙◌, le-leb, arith}
 use Rattle.std.proofs.lemmas.List.{length-replicate}
 use Rattle.theory_files.specs.Reply.{shown_of, line_of, reply_of, reply_to}
@@ -11,6 +11,7 @@ use Rattle.checking_line.specs.Said.{holds, given, Writes}
 use Rattle.verdicts.specs.Said.{said_verdict, shown_in}
 use Rattle.checking_file.specs.Laws.Shows.{checks_shows}
 use Rattle.verdicts.specs.declared.verdict.Verdict.{Verdict}
+use Rattle.verdicts.specs.declared.verdict.CheckRefusal.{CheckRefusal}
 use Rattle.checking_answer.specs.Answer.{line_in, Answers, Lines, most_line, WholeLine}
 
 -- room for a line that shows no more messages than there are, and no more than any verdict shows
@@ -18,7 +19,7 @@ room_for : (room contents shown : ℕ) → shown ≤ contents → shown ≤ most
 room_for room contents shown h k = rw (le-leb shown contents h, le-leb shown contents_least (omega arith))
 
 -- CHECKED AND WRITTEN: ANSWERED
-module _ {file seen queue contents seen₁ queue₁ contents₁ : List ℕ} (v : Verdict)
+module _ {file seen queue contents seen₁ queue₁ contents₁ : List ℕ} (v : Result Verdict CheckRefusal)
     (checks : Checks file seen queue contents (said_verdict v contents₁) seen₁ queue₁ contents₁) where
   few : length (shown_of (said_verdict v contents₁)) ≤ most_shown
   few = subst (λ r. length (shown_of r) ≤ most_shown) (sym checks.reply) (shown_fits (read_lent file seen queue contents) (lent_sound file seen queue contents))

@@ -20,8 +20,8 @@ pub fn answer(
 ) -> usize
     ensures { Answers file.now seen.old queue.old contents.old buffer.old seen.new queue.new contents.new buffer.new result }
 {
-    let verdict = check(file, seen, queue, contents);
-    write_line(buffer, verdict, contents)
+    let checked = check(file, seen, queue, contents);
+    write_line(buffer, checked, contents)
 }
 
 // The line of a file, at the front of the buffer: its length, or 0 where the buffer has no room for it. Tables and contents are of a

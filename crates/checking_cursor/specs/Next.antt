@@ -1,5 +1,5 @@
 -- What finding the next item asks and promises.
-use Rattle.std.specs.Prelude.{ℕ, ◌*◌, ◌≤◌, ◌<◌, ◌≡◌, true, List}
+use Rattle.std.specs.Prelude.{ℕ, ◌*◌, ◌≤◌, ◌<◌, ◌≡◌, true, Option, Some, None, List}
 use Rattle.tables.specs.Limits.{most_bad}
 use Rattle.tables.specs.Rows.{row_length}
 use Rattle.tables.specs.Valid.{MachinesValid, TransitionsValid}
@@ -17,15 +17,19 @@ pub record Movable (h : Head) (rows : List ℕ) : Type 0 where
   pub transitions : TransitionsValid h.machines h.queues (record { count = h.transitions; rows = rows })
   pub bad : h.bad ≤ most_bad
 
--- the first transition from a number on whose machine is in the from-state, or the number of transitions
-pub record Sought (h : Head) (rows : List ℕ) (c first r : ℕ) : Type 0 where
-  pub least : first ≤ r
-  pub most : r ≤ h.transitions
-  pub passed : steps_on (model_in h rows) c first ≡ steps_on (model_in h rows) c r
-  pub at : r < h.transitions → is_at (model_in h rows) c (transition_at rows (r * row_length)) ≡ true
+-- how far a search through the transitions has come: to the one that was found, or past all
+abbrev pub sought_to : Head → Option ℕ → ℕ
+sought_to h (Some i) = i
+sought_to h None = h.transitions
+
+-- the first transition from a number on whose machine is in the from-state
+pub record Sought (h : Head) (rows : List ℕ) (c first : ℕ) (r : Option ℕ) : Type 0 where
+  pub least : first ≤ sought_to h r
+  pub passed : steps_on (model_in h rows) c first ≡ steps_on (model_in h rows) c (sought_to h r)
+  pub at : (i : ℕ) → r ≡ Some i → (i < h.transitions) × (is_at (model_in h rows) c (transition_at rows (i * row_length)) ≡ true)
 
 -- THE CURSOR FOUND: these are the items from it on, it stands, and it has come so far at least
-pub record Found (h : Head) (rows : List ℕ) (these : Session → List Item) (past : ℕ) (r : Cursor) : Type 0 where
+pub record Found (h : Head) (rows : List ℕ) (these : Session → List Item) (past : ℕ) (r : Option Cursor) : Type 0 where
   pub is : (S : Session) → Over h rows S → these S ≡ left S r
   pub stands : Stands h rows r
   pub further : past ≤ place_of r

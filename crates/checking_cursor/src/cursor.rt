@@ -1,4 +1,4 @@
-// Where judging has come to: at the item that is judged next, or at the end.
+// Where judging has come to: the item that is judged next. Where no item is left, there is no cursor.
 use tables::kinds::ControlState;
 
 #[derive(Clone, Copy)]
@@ -8,6 +8,4 @@ pub enum Cursor {
     Step(ControlState, usize),
     // bad entry
     Entry(usize),
-    // no item is left
-    End,
 }

@@ -1,86 +1,67 @@
 // The verdict on tables that were read.
-ghost use Rattle.std.specs.Prelude.{◌≡◌, length, replicate};
-ghost use Rattle.reading_file.specs.Valid.{Valid};
+ghost use Rattle.std.specs.Prelude.{◌≡◌, Some, length, replicate};
 ghost use Rattle.checking_pairs.specs.Pairs.{most_codes};
-ghost use Rattle.checking_items.specs.Promises.{tables_in, memory};
-ghost use Rattle.checking_file.specs.Check.{Room, Concludes};
+ghost use Rattle.reading_file.specs.Session.{tables_in};
+ghost use Rattle.checking_cursor.specs.declared.cursor.Cursor.TheVariants.{Start};
+ghost use Rattle.checking_items.specs.Promises.{Ready};
+ghost use Rattle.checking_session.specs.Promises.{FromJudged};
+ghost use Rattle.checking_file.specs.Check.{Room, lent, Concludes};
 
 use crate::check::TABLE_LEAST;
 use checking_cursor::cursor::Cursor;
+use checking_items::scratch::Scratch;
 use checking_session::session::judge_from;
-use tables::head::Head;
-use verdicts::verdict::Verdict;
+use reading_file::session::Session;
+use verdicts::verdict::{Failing, Verdict};
 
 // The whole table is set to 0.
 pub fn blank(table: &mut [u16])
     ensures { table.new ≡ replicate (length table.old) 0 }
 {
-    let mut i: usize = 0;
-    while i < table.len() {
-        table[i] = 0;
-        i += 1;
-    }
+    table.fill(0);
 }
 
-// All items, over the first n entries of tables that are all 0.
+// All items, over tables as a walk wants them.
+fn judge_all(
+    s: &Session<'_>,
+    seen: &mut [u16],
+    queue: &mut [u16],
+    contents: &mut [u8],
+) -> Result<usize, Failing>
+    requires ready { Ready (lent contents.old seen.old queue.old) }
+    ensures { FromJudged (tables_in s.now) (Some Start) 0 contents.old result (lent contents.new seen.new queue.new) }
+{
+    let mut m = Scratch {
+        seen,
+        queue,
+        contents,
+    };
+    judge_from(s, Some(Cursor::Start), 0, &mut m)
+}
+
+// The same over the first n entries of tables that are all 0, as a verdict.
 fn judge_lent(
-    h: Head,
-    rows: &[u8],
-    finals: &[u8],
-    arcs: &[u8],
-    roots: &[u8],
-    entries: &[u8],
+    s: &Session<'_>,
     n: usize,
     seen: &mut [u16],
     queue: &mut [u16],
     contents: &mut [u8],
 ) -> Verdict
-    requires valid { Valid (tables_in h rows finals arcs roots entries) }
     requires room { Room n seen.old queue.old contents.old }
-    ensures { Concludes (tables_in h rows.entry finals.entry arcs.entry roots.entry entries.entry) (memory contents.entry seen.entry queue.entry) result (memory contents.exit seen.exit queue.exit) }
+    ensures { Concludes (tables_in s.now) (lent contents.old seen.old queue.old) result (lent contents.new seen.new queue.new) }
 {
-    judge_from(
-        h,
-        rows,
-        finals,
-        arcs,
-        roots,
-        entries,
-        Cursor::Start,
-        0,
-        &mut seen[..n],
-        &mut queue[..n],
-        contents,
-    )
+    Verdict::from(judge_all(s, &mut seen[..n], &mut queue[..n], contents))
 }
 
-// The verdict on tables that were read, over scratch tables that are all 0. Slices are lent where reading filled them: by value they
-// would be copied.
+// The verdict on a session, over scratch tables that are all 0.
 pub fn judge_read(
-    h: Head,
-    rows: &[u8],
-    finals: &[u8],
-    arcs: &[u8],
-    roots: &[u8],
-    entries: &[u8],
+    s: &Session<'_>,
     seen: &mut [u16],
     queue: &mut [u16],
     contents: &mut [u8],
 ) -> Verdict
-    requires valid { Valid (tables_in h rows finals arcs roots entries) }
     requires room { Room most_codes seen.old queue.old contents.old }
-    ensures { Concludes (tables_in h rows.entry finals.entry arcs.entry roots.entry entries.entry) (memory contents.entry seen.entry queue.entry) result (memory contents.exit seen.exit queue.exit) }
+    ensures { Concludes (tables_in s.now) (lent contents.old seen.old queue.old) result (lent contents.new seen.new queue.new) }
 {
-    judge_lent(
-        h,
-        rows,
-        finals,
-        arcs,
-        roots,
-        entries,
-        TABLE_LEAST,
-        seen,
-        queue,
-        contents,
-    )
+    judge_lent(s, TABLE_LEAST, seen, queue, contents)
 }

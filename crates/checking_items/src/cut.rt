@@ -5,13 +5,13 @@ ghost use Rattle.checking_items.specs.Cut.{Cuts};
 ghost use Rattle.tables.specs.Valid.{QueuesValid};
 
 use checking_pairs::pairs::AFTER;
-use numbers::number::wide;
+use tables::kinds::Kind;
 use tables::spans::messages_of;
 use tables::tables::{KIND, LENGTH, QUEUE, Queues};
 
 // How an action parts the contents: the side it starts on, the first message that is read after it, and how many messages of
 // its word are taken out and put in.
-#[derive(Clone, Copy)]
+#[derive(Clone, Copy, Debug, PartialEq, Eq)]
 pub struct Cut {
     pub side: usize,
     pub cut: u8,
@@ -26,30 +26,31 @@ pub(crate) fn cut_of(q: Queues, rows: &[u8], row: usize) -> Cut
     requires row_bound { queue_at rows.now row < q.count }
     ensures { Cuts q rows.now row result }
 {
-    let kind = rows[row + KIND];
-    if kind == 0 {
-        return Cut {
+    let messages = q.messages;
+    match Kind::from(rows[row + KIND]) {
+        Kind::Local => Cut {
             side: AFTER,
             cut: 0,
             out: 0,
             into: 0,
-        };
-    }
-    let messages = q.messages;
-    let own = messages_of(messages, rows[row + QUEUE]);
-    let length = wide(rows[row + LENGTH]);
-    if kind == 1 {
-        return Cut {
-            side: 0,
-            cut: own.hi as u8,
-            out: 0,
-            into: length,
-        };
-    }
-    Cut {
-        side: 0,
-        cut: own.lo as u8,
-        out: length,
-        into: 0,
+        },
+        Kind::Send => {
+            let own = messages_of(messages, rows[row + QUEUE]);
+            Cut {
+                side: 0,
+                cut: own.hi as u8,
+                out: 0,
+                into: usize::from(rows[row + LENGTH]),
+            }
+        }
+        Kind::Receive => {
+            let own = messages_of(messages, rows[row + QUEUE]);
+            Cut {
+                side: 0,
+                cut: own.lo as u8,
+                out: usize::from(rows[row + LENGTH]),
+                into: 0,
+            }
+        }
     }
 }

@@ -1,90 +1,89 @@
 // A step or a bad entry, judged by itself.
-ghost use Rattle.std.specs.Prelude.{◌≤◌, length};
-ghost use Rattle.tables.specs.Limits.{contents_least};
-ghost use Rattle.checking_items.specs.Judging.{Scratch, StepAsked, EntryAsked};
-ghost use Rattle.checking_items.specs.Promises.{tables_in, memory, EntryJudged, StepJudged};
+ghost use Rattle.reading_file.specs.Session.{tables_in};
+ghost use Rattle.checking_items.specs.Judging.{StepOf, EntryOf};
+ghost use Rattle.checking_items.specs.Promises.{memory, Ready, SameLent, EntryJudged, StepJudged};
 
 use crate::cut::cut_of;
+use crate::scratch::Scratch;
+use checking_pairs::over::WalkOver;
 use checking_pairs::pairs::{AFTER, Node, Walk};
-use checking_walk::judge::{Judged, judge};
+use checking_walk::judge::{Shown, judge};
 use controls::moves::moved;
-use tables::head::Head;
+use reading_file::session::Session;
 use tables::kinds::{ControlState, DiagramState, Reached};
 use tables::lookup::root_of;
 use tables::tables::WORD;
 
 // The step of a transition from a control state.
 pub fn judge_step(
-    h: Head,
-    rows: &[u8],
-    finals: &[u8],
-    arcs: &[u8],
-    roots: &[u8],
-    entries: &[u8],
+    s: &Session<'_>,
     c: ControlState,
     row: usize,
-    seen: &mut [u16],
-    queue: &mut [u16],
-    contents: &mut [u8],
-) -> Judged
-    requires step_asked { StepAsked (tables_in h rows finals arcs roots entries) c.0 row }
-    requires scratch { Scratch seen.old queue.old }
-    requires contents_least_in_bounds { contents_least ≤ length contents.old }
-    ensures { StepJudged (tables_in h rows.entry finals.entry arcs.entry roots.entry entries.entry) c.0 row contents.old result (memory contents.exit seen.exit queue.exit) }
+    m: &mut Scratch<'_>,
+) -> Result<usize, Shown>
+    requires step { StepOf (tables_in s.now) c.0 row }
+    requires ready { Ready (memory m.old) }
+    ensures judged { StepJudged (tables_in s.now) c.0 row m.old.contents.now result (memory m.new) }
+    ensures same { SameLent m.old m.new }
 {
-    let source = root_of(roots, c);
+    let t = &s.tables;
+    let source = root_of(t.roots, c);
     if source.is_nowhere() {
-        return Judged::Passes(0);
+        return Ok(0);
     }
-    let to = moved(h.machines, rows, row, c);
-    let target = root_of(roots, to);
-    let cut = cut_of(h.queues, rows, row);
-    let w = Walk {
-        cut: cut.cut,
-        sum: h.queues.sum,
-        word: row + WORD,
-        out: cut.out,
-        into: cut.into,
-        entry: false,
+    let to = moved(t.head.machines, t.rows, row, c);
+    let target = root_of(t.roots, to);
+    let cut = cut_of(t.head.queues, t.rows, row);
+    let over = WalkOver {
+        walk: Walk {
+            cut: cut.cut,
+            sum: t.head.queues.sum,
+            word: row + WORD,
+            out: cut.out,
+            into: cut.into,
+            entry: false,
+        },
+        arcs: t.arcs,
+        finals: t.finals,
+        rows: t.rows,
     };
     let root = Node {
         side: cut.side,
         source: source.state(),
         target,
     };
-    judge(arcs, finals, rows, w, root, seen, queue, contents)
+    judge(&over, root, m.seen, m.queue, m.contents)
 }
 
 // A bad entry: contents of its control state that lead from its root to a final state.
 pub fn judge_entry(
-    h: Head,
-    rows: &[u8],
-    finals: &[u8],
-    arcs: &[u8],
-    roots: &[u8],
-    entries: &[u8],
+    s: &Session<'_>,
     control: ControlState,
     root: DiagramState,
-    seen: &mut [u16],
-    queue: &mut [u16],
-    contents: &mut [u8],
-) -> Judged
-    requires entry_asked { EntryAsked (tables_in h rows finals arcs roots entries) control.0 root.0 }
-    requires scratch { Scratch seen.old queue.old }
-    requires contents_least_in_bounds { contents_least ≤ length contents.old }
-    ensures { EntryJudged (tables_in h rows.entry finals.entry arcs.entry roots.entry entries.entry) control.0 root.0 contents.old result (memory contents.exit seen.exit queue.exit) }
+    m: &mut Scratch<'_>,
+) -> Result<usize, Shown>
+    requires entry { EntryOf (tables_in s.now) control.0 root.0 }
+    requires ready { Ready (memory m.old) }
+    ensures judged { EntryJudged (tables_in s.now) control.0 root.0 m.old.contents.now result (memory m.new) }
+    ensures same { SameLent m.old m.new }
 {
-    let source = root_of(roots, control);
+    let t = &s.tables;
+    let source = root_of(t.roots, control);
     if source.is_nowhere() {
-        return Judged::Passes(0);
+        return Ok(0);
     }
-    let w = Walk {
-        cut: 0,
-        sum: h.queues.sum,
-        word: 0,
-        out: 0,
-        into: 0,
-        entry: true,
+    let over = WalkOver {
+        walk: Walk {
+            cut: 0,
+            sum: t.head.queues.sum,
+            word: 0,
+            out: 0,
+            into: 0,
+            entry: true,
+        },
+        arcs: t.arcs,
+        finals: t.finals,
+        rows: t.rows,
     };
     let from = source.state();
     let pair = Node {
@@ -92,5 +91,5 @@ pub fn judge_entry(
         source: from,
         target: Reached::at(root),
     };
-    judge(arcs, finals, rows, w, pair, seen, queue, contents)
+    judge(&over, pair, m.seen, m.queue, m.contents)
 }

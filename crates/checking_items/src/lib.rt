@@ -5,3 +5,4 @@ pub mod begin;
 mod cut;
 pub mod far;
 pub mod item;
+pub mod scratch;

@@ -1,16 +1,14 @@
 -- What judging items one after the other says and asks.
-use Rattle.std.specs.Prelude.{ℕ, ◌+◌, ◌*◌, ◌≤◌, ◌<◌, ◌≡◌, List}
+use Rattle.std.specs.Prelude.{ℕ, ◌+◌, ◌*◌, ◌≤◌, ◌<◌, ◌≡◌, List, Result, Ok, Err}
 use Rattle.tables.specs.Limits.{most_transitions}
 use Rattle.tables.specs.declared.tables.Tables.{Tables}
 use Rattle.reading_file.specs.Valid.{Valid}
 use Rattle.theory_model.specs.Verdict.{Reply}
-use Rattle.theory_files.specs.Reply.{verdict}
 use Rattle.checking_pairs.specs.Pairs.{most_codes}
 use Rattle.checking_cursor.specs.Left.{most_steps}
 use Rattle.checking_items.specs.Judging.{Kept, Scratch}
-use Rattle.verdicts.specs.Said.{said_verdict, shown_in}
-use Rattle.verdicts.specs.declared.verdict.Verdict.{Verdict}
-use Rattle.verdicts.specs.declared.verdict.Verdict.TheVariants.{Closed, Outside, Leaves, Bad, Refused, ShortMemory}
+use Rattle.verdicts.specs.Said.{said_items, shown_items}
+use Rattle.verdicts.specs.declared.verdict.Failing.{Failing}
 
 -- more pairs than any session has (document 01: at most 1,066,385,472), so that every sum on the way stays within a machine number
 abbrev pub ample_pairs : ℕ
@@ -24,19 +22,15 @@ abbrev pub pairs_to_entry : ℕ → ℕ
 pairs_to_entry b = most_codes * (1 + most_steps + b)
 
 -- the pairs of all items till now; none is told where one has failed
-abbrev pub pairs_in : Verdict → ℕ
-pairs_in (Closed pairs) = pairs
-pairs_in Outside = 0
-pairs_in (Leaves control transition shown far) = 0
-pairs_in (Bad number shown) = 0
-pairs_in (Refused why) = 0
-pairs_in ShortMemory = 0
+abbrev pub pairs_in : Result ℕ Failing → ℕ
+pairs_in (Ok pairs) = pairs
+pairs_in (Err failing) = 0
 
 -- SEVERAL ITEMS: all passed, with so many pairs till now; or the first that failed
-pub record Judges (most : ℕ) (o : Reply) (contents₀ : List ℕ) (r : Verdict) (contents₁ seen₁ queue₁ : List ℕ) : Type 0 where
-  pub is : said_verdict r contents₁ ≡ verdict o
+pub record Judges (most : ℕ) (o : Reply) (contents₀ : List ℕ) (r : Result ℕ Failing) (contents₁ seen₁ queue₁ : List ℕ) : Type 0 where
+  pub is : said_items r contents₁ ≡ o
   pub few : pairs_in r ≤ most
-  pub kept : Kept (shown_in r) contents₀ contents₁
+  pub kept : Kept (shown_items r) contents₀ contents₁
   pub scratch : Scratch seen₁ queue₁
 
 -- WHAT IS ASKED for transition i at control state c: tables that were read have both
@@ -44,6 +38,9 @@ pub record TurnAsked (T : Tables) (c i : ℕ) : Type 0 where
   pub valid : Valid T
   pub control : c < T.machines.product
   pub within : i < T.transitions.count
+
+pub turn_of : {T : Tables} {c i : ℕ} → Valid T → (c < T.machines.product) × (i < T.transitions.count) → TurnAsked T c i
+turn_of v w = record { valid = v; control = w.0; within = w.1 }
 
 -- for the steps from there on, where all transitions may be behind
 pub record StepsAsked (T : Tables) (c i : ℕ) : Type 0 where

@@ -1,82 +1,55 @@
 // The bad entries, in their order.
-ghost use Rattle.std.specs.Prelude.{◌<◌, ◌≤◌, length};
-ghost use Rattle.reading_file.specs.Valid.{Valid};
-ghost use Rattle.tables.specs.Limits.{contents_least};
-ghost use Rattle.checking_items.specs.Judging.{Scratch};
-ghost use Rattle.checking_items.specs.Promises.{tables_in, memory};
+ghost use Rattle.std.specs.Prelude.{◌<◌, ◌≤◌};
+ghost use Rattle.reading_file.specs.Session.{tables_in};
+ghost use Rattle.checking_items.specs.Promises.{memory, Ready, SameLent};
 ghost use Rattle.checking_session.specs.Judges.{ample_pairs, pairs_to_entry};
 ghost use Rattle.checking_session.specs.Promises.{OneJudged, EntriesJudged};
 
 use checking_items::item::judge_entry;
-use checking_walk::judge::Judged;
+use checking_items::scratch::Scratch;
+use checking_walk::judge::Shown;
 use numbers::number::wide;
-use tables::head::Head;
+use reading_file::session::Session;
 use tables::kinds::{ControlState, DiagramState};
 use tables::tables::ENTRY;
-use verdicts::verdict::Verdict;
+use verdicts::verdict::Failing;
 
 // Bad entry b, after items with so many pairs.
 pub(crate) fn judge_one(
-    h: Head,
-    rows: &[u8],
-    finals: &[u8],
-    arcs: &[u8],
-    roots: &[u8],
-    entries: &[u8],
+    s: &Session<'_>,
     b: usize,
     pairs: usize,
-    seen: &mut [u16],
-    queue: &mut [u16],
-    contents: &mut [u8],
-) -> Verdict
-    requires valid { Valid (tables_in h rows finals arcs roots entries) }
-    requires b_lt_bad { (b < h.bad) × (pairs ≤ ample_pairs) }
-    requires scratch { Scratch seen.old queue.old }
-    requires contents_least_in_bounds { contents_least ≤ length contents.old }
-    ensures { OneJudged (tables_in h rows.entry finals.entry arcs.entry roots.entry entries.entry) b pairs contents.old result (memory contents.exit seen.exit queue.exit) }
+    m: &mut Scratch<'_>,
+) -> Result<usize, Failing>
+    requires within { (b < s.now.tables.head.bad) × (pairs ≤ ample_pairs) }
+    requires ready { Ready (memory m.old) }
+    ensures judged { OneJudged (tables_in s.now) b pairs m.old.contents.now result (memory m.new) }
+    ensures same { SameLent m.old m.new }
 {
+    let entries = s.tables.entries;
     let control = ControlState::new(wide(entries[b * ENTRY]));
     let root = DiagramState::new(wide(entries[b * ENTRY + 1]));
-    match judge_entry(
-        h, rows, finals, arcs, roots, entries, control, root, seen, queue, contents,
-    ) {
-        Judged::Fails(shown) => Verdict::Bad(b, shown),
-        Judged::Passes(more) => Verdict::Closed(pairs + more),
+    match judge_entry(s, control, root, m) {
+        Ok(more) => Ok(pairs + more),
+        Err(Shown(shown)) => Err(Failing::Bad(b, shown)),
     }
 }
 
 // The bad entries from number `first` on.
 pub(crate) fn judge_entries(
-    h: Head,
-    rows: &[u8],
-    finals: &[u8],
-    arcs: &[u8],
-    roots: &[u8],
-    entries: &[u8],
+    s: &Session<'_>,
     first: usize,
     pairs: usize,
-    seen: &mut [u16],
-    queue: &mut [u16],
-    contents: &mut [u8],
-) -> Verdict
-    requires valid { Valid (tables_in h rows finals arcs roots entries) }
-    requires first_le_bad { (first ≤ h.bad) × (pairs ≤ pairs_to_entry first) }
-    requires scratch { Scratch seen.old queue.old }
-    requires contents_least_in_bounds { contents_least ≤ length contents.old }
-    ensures { EntriesJudged (tables_in h rows.entry finals.entry arcs.entry roots.entry entries.entry) first pairs contents.old result (memory contents.exit seen.exit queue.exit) }
+    m: &mut Scratch<'_>,
+) -> Result<usize, Failing>
+    requires within { (first ≤ s.now.tables.head.bad) × (pairs ≤ pairs_to_entry first) }
+    requires ready { Ready (memory m.old) }
+    ensures judged { EntriesJudged (tables_in s.now) first pairs m.old.contents.now result (memory m.new) }
+    ensures same { SameLent m.old m.new }
 {
-    let count = wide(h.bad);
     let mut sum = pairs;
-    let mut b = first;
-    while b < count {
-        let turn = judge_one(
-            h, rows, finals, arcs, roots, entries, b, sum, seen, queue, contents,
-        );
-        let Verdict::Closed(more) = turn else {
-            return turn;
-        };
-        sum = more;
-        b += 1;
+    for b in first..wide(s.tables.head.bad) {
+        sum = judge_one(s, b, sum, m)?;
     }
-    Verdict::Closed(sum)
+    Ok(sum)
 }

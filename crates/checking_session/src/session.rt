@@ -1,137 +1,89 @@
 // All items from one of them on, and that one alone.
-ghost use Rattle.std.specs.Prelude.{◌*◌, ◌≤◌, length};
-ghost use Rattle.reading_file.specs.Valid.{Valid};
-ghost use Rattle.tables.specs.Limits.{contents_least};
+ghost use Rattle.std.specs.Prelude.{◌<◌, ◌*◌, ◌≤◌};
+ghost use Rattle.reading_file.specs.Session.{tables_in};
 ghost use Rattle.checking_pairs.specs.Pairs.{most_codes};
 ghost use Rattle.checking_cursor.specs.Left.{Stands, place_of};
-ghost use Rattle.checking_items.specs.Judging.{Scratch};
-ghost use Rattle.checking_items.specs.Promises.{tables_in, memory};
-ghost use Rattle.checking_session.specs.Judges.{ample_pairs, pairs_before, StepsAsked};
+ghost use Rattle.checking_items.specs.Promises.{memory, Ready, SameLent};
+ghost use Rattle.checking_session.specs.Judges.{ample_pairs, pairs_before};
 ghost use Rattle.checking_session.specs.Promises.{FromStepJudged, AtJudged, FromJudged};
 
 use crate::entries::{judge_entries, judge_one};
 use crate::steps::{judge_steps, judge_turn};
 use checking_cursor::cursor::Cursor;
 use checking_items::begin::begins_inside;
+use checking_items::scratch::Scratch;
 use numbers::number::wide;
-use tables::head::Head;
-use verdicts::verdict::Verdict;
+use reading_file::session::Session;
+use verdicts::verdict::Failing;
 
 // The steps from transition `first` of control state `from` on, then the bad entries.
 fn judge_from_step(
-    h: Head,
-    rows: &[u8],
-    finals: &[u8],
-    arcs: &[u8],
-    roots: &[u8],
-    entries: &[u8],
+    s: &Session<'_>,
     from: usize,
     first: usize,
     pairs: usize,
-    seen: &mut [u16],
-    queue: &mut [u16],
-    contents: &mut [u8],
-) -> Verdict
-    requires steps_asked { StepsAsked (tables_in h rows finals arcs roots entries) from first }
+    m: &mut Scratch<'_>,
+) -> Result<usize, Failing>
+    requires within { (from < s.now.tables.head.machines.product) × (first ≤ s.now.tables.head.transitions) }
     requires pairs_bound { pairs ≤ pairs_before from first }
-    requires scratch { Scratch seen.old queue.old }
-    requires contents_least_in_bounds { contents_least ≤ length contents.old }
-    ensures { FromStepJudged (tables_in h rows.entry finals.entry arcs.entry roots.entry entries.entry) from first pairs contents.old result (memory contents.exit seen.exit queue.exit) }
+    requires ready { Ready (memory m.old) }
+    ensures judged { FromStepJudged (tables_in s.now) from first pairs m.old.contents.now result (memory m.new) }
+    ensures same { SameLent m.old m.new }
 {
-    let turn = judge_steps(
-        h, rows, finals, arcs, roots, entries, from, first, pairs, seen, queue, contents,
-    );
-    let Verdict::Closed(sum) = turn else {
-        return turn;
-    };
-    judge_entries(
-        h, rows, finals, arcs, roots, entries, 0, sum, seen, queue, contents,
-    )
+    let sum = judge_steps(s, from, first, pairs, m)?;
+    judge_entries(s, 0, sum, m)
 }
 
 // All items from the cursor on, after items with so many pairs.
 pub fn judge_from(
-    h: Head,
-    rows: &[u8],
-    finals: &[u8],
-    arcs: &[u8],
-    roots: &[u8],
-    entries: &[u8],
-    at: Cursor,
+    s: &Session<'_>,
+    at: Option<Cursor>,
     pairs: usize,
-    seen: &mut [u16],
-    queue: &mut [u16],
-    contents: &mut [u8],
-) -> Verdict
-    requires valid { Valid (tables_in h rows finals arcs roots entries) }
-    requires stands { Stands h rows.now at × (pairs ≤ most_codes * place_of at) }
-    requires scratch { Scratch seen.old queue.old }
-    requires contents_least_in_bounds { contents_least ≤ length contents.old }
-    ensures { FromJudged (tables_in h rows.entry finals.entry arcs.entry roots.entry entries.entry) at pairs contents.old result (memory contents.exit seen.exit queue.exit) }
+    m: &mut Scratch<'_>,
+) -> Result<usize, Failing>
+    requires stands { Stands s.now.tables.head s.now.tables.rows.now at × (pairs ≤ most_codes * place_of at) }
+    requires ready { Ready (memory m.old) }
+    ensures judged { FromJudged (tables_in s.now) at pairs m.old.contents.now result (memory m.new) }
+    ensures same { SameLent m.old m.new }
 {
-    match at {
+    let Some(item) = at else {
+        return Ok(pairs);
+    };
+    match item {
         Cursor::Start => {
-            if !begins_inside(h, rows, finals, arcs, roots, entries) {
-                return Verdict::Outside;
+            if !begins_inside(s) {
+                return Err(Failing::Outside);
             }
-            judge_from_step(
-                h, rows, finals, arcs, roots, entries, 0, 0, pairs, seen, queue, contents,
-            )
+            judge_from_step(s, 0, 0, pairs, m)
         }
-        Cursor::Step(c, i) => judge_from_step(
-            h,
-            rows,
-            finals,
-            arcs,
-            roots,
-            entries,
-            wide(c.0),
-            i,
-            pairs,
-            seen,
-            queue,
-            contents,
-        ),
-        Cursor::Entry(b) => judge_entries(
-            h, rows, finals, arcs, roots, entries, b, pairs, seen, queue, contents,
-        ),
-        Cursor::End => Verdict::Closed(pairs),
+        Cursor::Step(c, i) => judge_from_step(s, wide(c.0), i, pairs, m),
+        Cursor::Entry(b) => judge_entries(s, b, pairs, m),
     }
 }
 
 // The item that the cursor stands at, after items with so many pairs.
 pub fn judge_at(
-    h: Head,
-    rows: &[u8],
-    finals: &[u8],
-    arcs: &[u8],
-    roots: &[u8],
-    entries: &[u8],
-    at: Cursor,
+    s: &Session<'_>,
+    at: Option<Cursor>,
     pairs: usize,
-    seen: &mut [u16],
-    queue: &mut [u16],
-    contents: &mut [u8],
-) -> Verdict
-    requires valid { Valid (tables_in h rows finals arcs roots entries) }
-    requires stands { Stands h rows.now at × (pairs ≤ ample_pairs) }
-    requires scratch { Scratch seen.old queue.old }
-    requires contents_least_in_bounds { contents_least ≤ length contents.old }
-    ensures { AtJudged (tables_in h rows.entry finals.entry arcs.entry roots.entry entries.entry) at pairs contents.old result (memory contents.exit seen.exit queue.exit) }
+    m: &mut Scratch<'_>,
+) -> Result<usize, Failing>
+    requires stands { Stands s.now.tables.head s.now.tables.rows.now at × (pairs ≤ ample_pairs) }
+    requires ready { Ready (memory m.old) }
+    ensures judged { AtJudged (tables_in s.now) at pairs m.old.contents.now result (memory m.new) }
+    ensures same { SameLent m.old m.new }
 {
-    match at {
+    let Some(item) = at else {
+        return Ok(pairs);
+    };
+    match item {
         Cursor::Start => {
-            if !begins_inside(h, rows, finals, arcs, roots, entries) {
-                return Verdict::Outside;
+            if !begins_inside(s) {
+                return Err(Failing::Outside);
             }
-            Verdict::Closed(pairs)
+            Ok(pairs)
         }
-        Cursor::Step(c, i) => judge_turn(
-            h, rows, finals, arcs, roots, entries, c, i, pairs, seen, queue, contents,
-        ),
-        Cursor::Entry(b) => judge_one(
-            h, rows, finals, arcs, roots, entries, b, pairs, seen, queue, contents,
-        ),
-        Cursor::End => Verdict::Closed(pairs),
+        Cursor::Step(c, i) => judge_turn(s, c, i, pairs, m),
+        Cursor::Entry(b) => judge_one(s, b, pairs, m),
     }
 }

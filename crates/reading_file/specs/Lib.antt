@@ -5,6 +5,7 @@ pub mod Sets
 pub mod Ends
 pub mod File
 pub mod Valid
+pub mod Session
 pub mod Lent
 pub mod Causes
 pub mod Laws

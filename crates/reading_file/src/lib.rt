@@ -5,4 +5,5 @@ mod bad;
 pub mod ends;
 mod map;
 pub mod reading;
+pub mod session;
 pub mod sets;

@@ -1,5 +1,5 @@
 -- How many messages are shown: the number that checking's answer carries is that of the contents at the front of the buffer.
-use Rattle.std.specs.Prelude.{ℕ, ◌≤◌, List, length}
+use Rattle.std.specs.Prelude.{ℕ, ◌≤◌, List, length, Result}
 use Rattle.std.proofs.Common.{sym, ap, subst, ◌∙◌, arith}
 use Rattle.theory_files.specs.Reply.{reply_to, shown_of}
 use Rattle.theory_files.specs.Checking.{read_lent, Checks, most_shown}
@@ -8,9 +8,10 @@ use Rattle.theory_files.specs.Laws.Shown.{shown_fits, contents_kept}
 use Rattle.verdicts.specs.Said.{said_verdict, Shows}
 use Rattle.verdicts.specs.Laws.Shown.{shows_fewer, shows_refused}
 use Rattle.verdicts.specs.declared.verdict.Verdict.{Verdict}
+use Rattle.verdicts.specs.declared.verdict.CheckRefusal.{CheckRefusal}
 
 -- THE NUMBER OF MESSAGES SHOWN, of what checking promises
-pub checks_shows : {file seen queue contents seen₁ queue₁ contents₁ : List ℕ} (r : Verdict)
+pub checks_shows : {file seen queue contents seen₁ queue₁ contents₁ : List ℕ} (r : Result Verdict CheckRefusal)
     → Checks file seen queue contents (said_verdict r contents₁) seen₁ queue₁ contents₁ → Shows r contents₁
 checks_shows {file} {seen} {queue} {contents} {seen₁} {queue₁} {contents₁} r checks = go (ways file seen queue contents)
   where

@@ -25,8 +25,8 @@ use Rattle.tables.specs.declared.kinds.DiagramState.{DiagramState}
 use Rattle.tables.specs.declared.kinds.Reached.{Reached}
 use Rattle.checking_pairs.specs.declared.pairs.Walk.{Walk}
 use Rattle.checking_pairs.specs.declared.pairs.Node.{Node}
-use Rattle.checking_walk.specs.declared.judge.Judged.{Judged}
-use Rattle.checking_walk.specs.declared.judge.Judged.TheVariants.{Passes, Fails}
+use Rattle.checking_walk.specs.declared.judge.Shown.{Shown}
+use Rattle.std.specs.Prelude.{Result, Ok, Err}
 use Rattle.checking_items.specs.Cut.{Cuts}
 use Rattle.controls.specs.Controls.{Moved}
 use Rattle.checking_items.specs.Judging.{pairs_of, Kept, Scratch, Judging, StepAsked, EntryAsked}
@@ -47,7 +47,7 @@ kept_front u contents contents' n e is long =
     }
 
 -- no more are shown than fit
-fitting : {arcs finals rows : List ℕ} {w : Walk} {x : Pair} {contents seen' queue' contents' : List ℕ} {r : Judged} → ShownFits arcs finals rows w x
+fitting : {arcs finals rows : List ℕ} {w : Walk} {x : Pair} {contents seen' queue' contents' : List ℕ} {r : Result ℕ Shown} → ShownFits arcs finals rows w x
     → WalkJudged arcs finals rows w x contents seen' queue' contents' r → shown_by r ≤ contents_least
 fitting {arcs} {finals} {rows} {w} {x} s j = omega (arith, j.number, by_judged (judged_over arcs finals rows w x) refl)
   where
@@ -56,13 +56,13 @@ fitting {arcs} {finals} {rows} {w} {x} s j = omega (arith, j.number, by_judged (
     by_judged (fails u) e = s.most u e
 
 -- so many pairs and no more
-few_passed : (T : Tables) (p : Valid T) (i : Item) → IsItem (session_of T) i → (r : Judged) (contents : List ℕ)
+few_passed : (T : Tables) (p : Valid T) (i : Item) → IsItem (session_of T) i → (r : Result ℕ Shown) (contents : List ℕ)
     → said_judged r contents ≡ judge_by_search (session_of T) most_codes i → most (session_of T) i ≤ most_codes → pairs_of r ≤ most_codes
 few_passed T v i item r contents e m = go r e
   where
-    go : (r : Judged) → said_judged r contents ≡ judge_by_search (session_of T) most_codes i → pairs_of r ≤ most_codes
-    go (Passes n) e = omega (arith, judge_bound (session_of T) (well_formed T v) i (is_item (session_of T) i item) n (judged_item T v i item ∙ sym e), m)
-    go (Fails n) e = omega arith
+    go : (r : Result ℕ Shown) → said_judged r contents ≡ judge_by_search (session_of T) most_codes i → pairs_of r ≤ most_codes
+    go (Ok n) e = omega (arith, judge_bound (session_of T) (well_formed T v) i (is_item (session_of T) i item) n (judged_item T v i item ∙ sym e), m)
+    go (Err n) e = omega arith
 
 entry_few : (T : Tables) → Valid T → T.pool.count * T.pool.count ≤ most_codes
 entry_few T v =
@@ -120,7 +120,7 @@ pub root_as : {roots : List ℕ} {c r s : ℕ} → RootAt roots c r → s ≡ r 
 root_as {roots} {c} here e = subst (RootAt roots c) (sym e) here
 
 -- nothing was visited or written
-pub judged_none : {o : Model.Judged} → o ≡ passes 0 → {contents seen queue : List ℕ} → Scratch seen queue → Judging o contents (Passes 0) contents seen queue
+pub judged_none : {o : Model.Judged} → o ≡ passes 0 → {contents seen queue : List ℕ} → Scratch seen queue → Judging o contents (Ok 0) contents seen queue
 judged_none e s =
     record {
       is = sym e;
@@ -151,7 +151,7 @@ module _ {T : Tables} {c row : ℕ} (a : StepAsked T c row) where
       }
 
   pub step_none : {source : ℕ} → RootAt T.map.roots c source → source ≡ most_pool → {contents seen queue : List ℕ} → Scratch seen queue
-      → Judging (judged 0) contents (Passes 0) contents seen queue
+      → Judging (judged 0) contents (Ok 0) contents seen queue
   step_none {source} here e s = judged_none (step_nothing T a.valid c row source 0 here e) s
 
   module _ {source : DiagramState} {target : Reached} {k : Cut} (b : Begins T c row source target k) where
@@ -179,7 +179,7 @@ module _ {T : Tables} {c row : ℕ} (a : StepAsked T c row) where
         }
 
     -- the walk's answer is the judgement of the step
-    pub step_walked : {contents contents' seen' queue' : List ℕ} {r : Judged}
+    pub step_walked : {contents contents' seen' queue' : List ℕ} {r : Result ℕ Shown}
         → WalkJudged T.pool.arcs T.pool.finals T.transitions.rows (walk_of T.queues row k) (pair_of (node_of k source target)) contents seen' queue' contents' r
         → length seen' ≡ most_codes → length queue' ≡ most_codes → length contents' ≡ length contents
         → Judging (judged 0) contents r contents' seen' queue'
@@ -213,7 +213,7 @@ module _ {T : Tables} {control root : ℕ} (a : EntryAsked T control root) where
   entry_judgement b = judge_by_search (session_of T) most_codes (entry b (control, root))
 
   pub entry_none : {source : ℕ} → RootAt T.map.roots control source → source ≡ most_pool → {contents seen queue : List ℕ} → Scratch seen queue
-      → Judging (entry_judgement 0) contents (Passes 0) contents seen queue
+      → Judging (entry_judgement 0) contents (Ok 0) contents seen queue
   entry_none {source} here e s = judged_none (entry_nothing T a.valid control root source 0 here e) s
 
   -- its source stands at the root of the control state, its target at the entry's root
@@ -238,7 +238,7 @@ module _ {T : Tables} {control root : ℕ} (a : EntryAsked T control root) where
           into = word_empty (omega (arith, a.valid.transitions.long));
         }
 
-    pub entry_walked : {contents contents' seen' queue' : List ℕ} {r : Judged}
+    pub entry_walked : {contents contents' seen' queue' : List ℕ} {r : Result ℕ Shown}
         → WalkJudged T.pool.arcs T.pool.finals T.transitions.rows (entry_walk_of T.queues) (pair_of (entry_node_of source target)) contents seen' queue' contents' r
         → length seen' ≡ most_codes → length queue' ≡ most_codes → length contents' ≡ length contents
         → Judging (entry_judgement 0) contents r contents' seen' queue'

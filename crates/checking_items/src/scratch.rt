@@ -1,0 +1,7 @@
+// What a caller lends for judging: the two tables of a walk, and the buffer for the contents that are shown.
+#[derive(Drop)]
+pub struct Scratch<'a> {
+    pub seen: &'a mut [u16],
+    pub queue: &'a mut [u16],
+    pub contents: &'a mut [u8],
+}
