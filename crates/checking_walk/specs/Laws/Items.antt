@@ -69,8 +69,3 @@ judged_counts {arcs} {finals} {rows} {w} {root} {contents' = contents'} j =
           (subst (λ r. JudgedMeans S i (said_judged r contents')) e
           (answer_means arcs finals rows w root S W.over W.formed W.few i W.item W.begun j)).1;
     }
-
-pub with_counts : {arcs finals rows : List ℕ} {w : Walk} {root : Pair} {contents seen' queue' contents' : List ℕ} {r : Result ℕ Shown}
-    → WalkJudged arcs finals rows w root contents seen' queue' contents' r
-    → WalkJudged arcs finals rows w root contents seen' queue' contents' r × Counts arcs finals rows w root r
-with_counts j = (j, judged_counts j)

@@ -11,9 +11,6 @@ slice_bounds-code-items-end-2 c = front_long c.requires
 pub loop-code-init : goal.loop-code-init
 loop-code-init c = unmark_begin c.requires
 
-pub loop-code-preserved : goal.loop-code-preserved
-loop-code-preserved c = unmark_next c.loop-code.invariant c.from.ensures (omega (arith, c.from.ensures, front_small c.requires c.loop-code.code-index c.loop-code-test.true))
-
 pub slice_bounds-fill-end : goal.slice_bounds-fill-end
 slice_bounds-fill-end c = tail_within c.requires
 

@@ -12,14 +12,6 @@ returns-then-is_nowhere c =
     let p = c.requires in
     leads_nowhere (jump_missing a.t.now.walk a.t.now.lent p.source c.at.ensures c.follow_word-source.ensures (reached_of a.x.target.0) (nowhere_true _ c.is_nowhere.ensures c.if-is_nowhere.true))
 
-pub state-requires : goal.state-requires
-state-requires c = state_below c.follow_word-source.ensures.most (nowhere_false _ c.is_nowhere.ensures c.if-is_nowhere.false)
-
-pub pair_to-requires : goal.pair_to-requires
-pair_to-requires c =
-    let below = state_below c.follow_word-source.ensures.most (nowhere_false _ c.is_nowhere.ensures c.if-is_nowhere.false) in
-    record { side = inr refl; source = omega (arith, c.state.ensures, below); target = c.follow_word-target.ensures.most }
-
 pub returns : goal.returns
 returns c =
     let p = c.requires in

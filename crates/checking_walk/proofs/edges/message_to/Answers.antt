@@ -3,12 +3,6 @@ use mathlib.Core.Path.{refl}
 use Rattle.checking_walk.specs.Laws.Lowest.{met, low_met, low_next, low_end}
 use Rattle.checking_walk.proofs.edges.message_to.Goals as goal
 
-pub loop-m-init : goal.loop-m-init
-loop-m-init c = refl
-
-pub read-requires : goal.read-requires
-read-requires c = record { arcs_small = c.args.t.now.lent.small; node_fits = c.requires.node_fits; m_lt_most_messages = omega (arith, c.loop-m-test.true, c.requires.end_le_most_messages) }
-
 pub returns-then-eq : goal.returns-then-eq
 returns-then-eq c =
     record { is = (low_met _ _ _ c.loop-m.invariant c.loop-m-test.true (met _ c.read.ensures c.if-eq.ensures), c.loop-m-test.true) }
