@@ -18,6 +18,8 @@ pub struct Walk {
     pub entry: bool,
 }
 
+// A pair: its side by the side's first code, and its two places. That it fits the codes (NodeFits) is asked in contracts and is no ghost
+// field: the laws of crates above build nodes of any three numbers, and each would have to carry the proof with it.
 #[derive(Clone, Copy)]
 pub struct Node {
     pub side: usize,

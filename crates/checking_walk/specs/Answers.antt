@@ -3,7 +3,6 @@ use Rattle.std.specs.Prelude.{◌≡◌, List, ℕ, ◌<◌}
 use Rattle.std.specs.Prelude as Code
 use Rattle.theory_exploration.specs.Search as Search
 use Rattle.theory_model.specs.Verdict.{Pair}
-use Rattle.checking_walk.specs.declared.search.Searched.{Searched}
 use Rattle.checking_pairs.specs.Marks.{Tables, view}
 
 -- a failing pair's place, or none, with the list of the pairs found
@@ -11,17 +10,13 @@ abbrev pub said_failing : Code.Option ℕ → List (Search.Found Pair) → Searc
 said_failing (Code.Some k) L = Search.found k L
 said_failing Code.None L = Search.finished L
 
--- the answer over the tables that the search left
-abbrev pub said_outcome : Searched → List ℕ → List ℕ → Search.Outcome Pair
-said_outcome r seen queue = said_failing r.failing (view seen queue r.found)
-
 -- a failing pair was found
 abbrev pub Within : Code.Option ℕ → ℕ → Type 0
 Within (Code.Some k) tail = k < tail
 Within Code.None tail = Unit {0}
 
 -- the answer is that of the definition, and the tables show the list that it speaks of
-pub record Answered (seen queue : List ℕ) (r : Searched) (o : Search.Outcome Pair) : Type 0 where
-  pub is : said_outcome r seen queue ≡ o
-  pub tables : Tables seen queue r.found
-  pub within : Within r.failing r.found
+pub record Answered (seen queue : List ℕ) (tail : ℕ) (r : Code.Option ℕ) (o : Search.Outcome Pair) : Type 0 where
+  pub is : said_failing r (view seen queue tail) ≡ o
+  pub tables : Tables seen queue tail
+  pub within : Within r tail

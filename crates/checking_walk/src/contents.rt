@@ -5,6 +5,7 @@ ghost use Rattle.checking_walk.specs.Shown.{part_over, shown_over, Placed, Laid,
 ghost use Rattle.tables.specs.Limits.{contents_least};
 
 use crate::edges::edge_to;
+use checking_pairs::marks::Marks;
 use checking_pairs::over::WalkOver;
 
 // A word of the table of transitions, laid last message first. Returns the next place.
@@ -33,16 +34,17 @@ fn lay_part(t: &WalkOver<'_>, letter: u8, contents: &mut [u8], n: usize) -> usiz
     n + 1
 }
 
-// The contents of the pair at place k of the queue, last message first. Returns their number.
-fn backwards(t: &WalkOver<'_>, seen: &[u16], queue: &[u16], k: usize, contents: &mut [u8]) -> usize
-    requires placed { Placed seen.now queue.now k }
-    requires k_in_bounds { length (shown_over t.now.arcs.now t.now.rows.now t.now.walk seen.now queue.now k) ≤ length contents.old }
-    ensures { Laid (shown_over t.now.arcs.now t.now.rows.now t.now.walk seen.now queue.now k) 0 contents.old contents.new result }
+// The contents of the pair at place k of the queue, last message first. Returns their number. The places are followed from parent to
+// parent, so no range has them.
+fn backwards(t: &WalkOver<'_>, found: &Marks<'_>, k: usize, contents: &mut [u8]) -> usize
+    requires placed { Placed found.now.seen.now found.now.queue.now k }
+    requires k_in_bounds { length (shown_over t.now.arcs.now t.now.rows.now t.now.walk found.now.seen.now found.now.queue.now k) ≤ length contents.old }
+    ensures { Laid (shown_over t.now.arcs.now t.now.rows.now t.now.walk found.now.seen.now found.now.queue.now k) 0 contents.old contents.new result }
 {
     let mut at = k;
     let mut n: usize = 0;
     while 0 < at {
-        let edge = edge_to(t, seen, queue, at);
+        let edge = edge_to(t, found, at);
         n = lay_part(t, edge.letter, contents, n);
         at = edge.parent;
     }
@@ -50,19 +52,13 @@ fn backwards(t: &WalkOver<'_>, seen: &[u16], queue: &[u16], k: usize, contents: 
 }
 
 // The contents of the pair at place k of the queue fill the front of the buffer. Returns their number.
-pub(crate) fn show(
-    t: &WalkOver<'_>,
-    seen: &[u16],
-    queue: &[u16],
-    k: usize,
-    contents: &mut [u8],
-) -> usize
-    requires placed { Placed seen.now queue.now k }
-    requires k_len_bound { length (shown_over t.now.arcs.now t.now.rows.now t.now.walk seen.now queue.now k) ≤ contents_least }
+pub(crate) fn show(t: &WalkOver<'_>, found: &Marks<'_>, k: usize, contents: &mut [u8]) -> usize
+    requires placed { Placed found.now.seen.now found.now.queue.now k }
+    requires k_len_bound { length (shown_over t.now.arcs.now t.now.rows.now t.now.walk found.now.seen.now found.now.queue.now k) ≤ contents_least }
     requires contents_least_in_bounds { contents_least ≤ length contents.old }
-    ensures { Shown (shown_over t.now.arcs.now t.now.rows.now t.now.walk seen.now queue.now k) contents.old contents.new result }
+    ensures { Shown (shown_over t.now.arcs.now t.now.rows.now t.now.walk found.now.seen.now found.now.queue.now k) contents.old contents.new result }
 {
-    let n = backwards(t, seen, queue, k, contents);
+    let n = backwards(t, found, k, contents);
     contents[..n].reverse();
     n
 }

@@ -7,6 +7,7 @@ ghost use Rattle.checking_pairs.specs.Pairs.{most_codes, pair_of, decode, NodeFi
 ghost use Rattle.checking_pairs.specs.Over.{read_from};
 ghost use Rattle.checking_walk.specs.Shown.{letter_over, LowestBelow, Placed, EdgeOf};
 
+use checking_pairs::marks::Marks;
 use checking_pairs::moves::{read, step};
 use checking_pairs::over::WalkOver;
 use checking_pairs::pairs::Node;
@@ -61,14 +62,14 @@ fn letter_of(t: &WalkOver<'_>, from: usize, code: usize) -> u8
 }
 
 // The edge that a pair was found along; the first pair has none.
-pub(crate) fn edge_to(t: &WalkOver<'_>, seen: &[u16], queue: &[u16], k: usize) -> Edge
-    requires placed { Placed seen.now queue.now k }
+pub(crate) fn edge_to(t: &WalkOver<'_>, found: &Marks<'_>, k: usize) -> Edge
+    requires placed { Placed found.now.seen.now found.now.queue.now k }
     requires k_nonzero { 0 < k }
-    ensures { EdgeOf t.now.arcs.now t.now.rows.now t.now.walk seen.now queue.now k result }
+    ensures { EdgeOf t.now.arcs.now t.now.rows.now t.now.walk found.now.seen.now found.now.queue.now k result }
 {
-    let code = usize::from(queue[k]);
-    let parent = usize::from(seen[code]) - 1;
-    let from = usize::from(queue[parent]);
+    let code = usize::from(found.queue[k]);
+    let parent = usize::from(found.seen[code]) - 1;
+    let from = usize::from(found.queue[parent]);
     Edge {
         parent,
         letter: letter_of(t, from, code),

@@ -7,7 +7,7 @@ ghost use Rattle.checking_walk.specs.Judged.{ShownFits, WalkJudged, Counts};
 
 use crate::contents::show;
 use crate::search::search;
-use checking_pairs::marks::clear;
+use checking_pairs::marks::Marks;
 use checking_pairs::over::WalkOver;
 use checking_pairs::pairs::Node;
 
@@ -32,15 +32,20 @@ pub fn judge(
     ensures walk_judged { WalkJudged t.now.arcs.now t.now.finals.now t.now.rows.now t.now.walk (pair_of root) contents.old seen.new queue.new contents.new result }
     ensures counts { Counts t.now.arcs.now t.now.finals.now t.now.rows.now t.now.walk (pair_of root) result }
 {
-    let s = search(t, root, seen, queue);
-    match s.failing {
+    let mut found = Marks {
+        seen,
+        queue,
+        tail: 0,
+    };
+    match search(t, root, &mut found) {
         None => {
-            clear(seen, queue, s.found);
-            Ok(s.found)
+            let n = found.tail;
+            found.clear();
+            Ok(n)
         }
         Some(k) => {
-            let n = show(t, seen, queue, k, contents);
-            clear(seen, queue, s.found);
+            let n = show(t, &found, k, contents);
+            found.clear();
             Err(Shown(n))
         }
     }

@@ -16,7 +16,6 @@ use Rattle.theory_model.specs.Judge.{same}
 use Rattle.tables.specs.Lookup.{final_at}
 use Rattle.checking_pairs.specs.declared.pairs.Node.{Node}
 use Rattle.std.specs.Prelude as Code
-use Rattle.checking_walk.specs.declared.search.Searched.{Searched}
 use Rattle.tables.specs.Kinds.{reached_of}
 use Rattle.checking_pairs.specs.Pairs.{most_codes, side_of, decode, pair_of, NodeFits}
 use Rattle.tables.specs.Laws.Lookup.{reached_small}
@@ -43,7 +42,7 @@ module _ {M : ℕ} {δ : Pair → ℕ → Option Pair} {p : Pair → Bool} {seen
   exploring_begin T = record { tables = T; taken = omega arith; is = ap (λ n. search M δ same p n 0 (view seen queue tail)) (sub-zero most_codes) }
 
   module _ {k : ℕ} {o : Search.Outcome Pair} (E : Exploring M δ p seen queue tail k o) where
-    pub exploring_end : tail ≤ k → Answered seen queue (record { failing = Code.None; found = tail }) o
+    pub exploring_end : tail ≤ k → Answered seen queue tail Code.None o
     exploring_end h =
         record {
           is =
@@ -62,7 +61,7 @@ module _ {M : ℕ} {δ : Pair → ℕ → Option Pair} {p : Pair → Bool} {seen
       fuel : most_codes - k ≡ suc (most_codes - (k + 1))
       fuel = one_more_lem (omega (arith, tables_most E.tables))
 
-      pub exploring_found : p (decode (get_or queue k 0)) ≡ true → Answered seen queue (record { failing = Code.Some k; found = tail }) o
+      pub exploring_found : p (decode (get_or queue k 0)) ≡ true → Answered seen queue tail (Code.Some k) o
       exploring_found t =
           record {
             is =
@@ -123,13 +122,10 @@ pub begins : {seen queue seen' queue' : List ℕ} {r : ℕ} {x y : Pair} → Pus
     → view seen' queue' r ≡ record { at = y; parent = 0 } ∷ []
 begins p e = p.shows.is ∙ ap (λ x. record { at = x; parent = 0 } ∷ []) e
 
-pub answered_as : {seen queue : List ℕ} {r : Searched} {o o' : Search.Outcome Pair} → o ≡ o' → Answered seen queue r o → Answered seen queue r o'
-answered_as {seen} {queue} {r} e a = subst (Answered seen queue r) e a
+pub answered_as : {seen queue : List ℕ} {tail : ℕ} {r : Code.Option ℕ} {o o' : Search.Outcome Pair} → o ≡ o' → Answered seen queue tail r o
+    → Answered seen queue tail r o'
+answered_as {seen} {queue} {tail} {r} e a = subst (Answered seen queue tail r) e a
 
-pub answered_none : {seen queue : List ℕ} {r : Searched} {o : Search.Outcome Pair} → r.failing ≡ Code.None → Answered seen queue r o
-    → Answered seen queue (record { failing = Code.None; found = r.found }) o
-answered_none {seen} {queue} {r} {o} e a = subst (λ f. Answered seen queue (record { failing = f; found = r.found }) o) e a
-
-pub answered_some : {seen queue : List ℕ} {r : Searched} {k : ℕ} {o : Search.Outcome Pair} → r.failing ≡ Code.Some k → Answered seen queue r o
-    → Answered seen queue (record { failing = Code.Some k; found = r.found }) o
-answered_some {seen} {queue} {r} {k} {o} e a = subst (λ f. Answered seen queue (record { failing = f; found = r.found }) o) e a
+pub answered_at : {seen queue : List ℕ} {tail : ℕ} {r r' : Code.Option ℕ} {o : Search.Outcome Pair} → r ≡ r' → Answered seen queue tail r o
+    → Answered seen queue tail r' o
+answered_at {seen} {queue} {tail} {o = o} e a = subst (λ r. Answered seen queue tail r o) e a

@@ -65,35 +65,39 @@ module _ (arcs rows : List ℕ) (w : Walk) {seen queue : List ℕ} {tail : ℕ} 
 
 -- THE JUDGEMENT, by the search's answer
 module _ (arcs finals rows : List ℕ) (w : Walk) (root : Pair) {seen queue : List ℕ} where
-  pub judged_finished : {tail : ℕ} → Answered seen queue (record { failing = None; found = tail }) (search_over arcs finals rows w root)
+  pub judged_finished : {tail : ℕ} → Answered seen queue tail None (search_over arcs finals rows w root)
       → judged_over arcs finals rows w root ≡ passes tail
   unfolding judged_over
   judged_finished a = sym (ap (settled_over arcs finals rows w) a.is) ∙ ap passes (view_length a.tables)
 
-  pub judged_found : {k tail : ℕ} → Answered seen queue (record { failing = Some k; found = tail }) (search_over arcs finals rows w root)
+  pub judged_found : {k tail : ℕ} → Answered seen queue tail (Some k) (search_over arcs finals rows w root)
       → judged_over arcs finals rows w root ≡ fails (shown_over arcs rows w seen queue k)
   unfolding judged_over
   judged_found {k} a = sym (ap (settled_over arcs finals rows w) a.is) ∙ ap fails (shown_from_lem arcs rows w a.tables k k a.within)
 
--- what the code answers then
-module _ {arcs finals rows : List ℕ} {w : Walk} {root : Pair} {contents seen queue : List ℕ} where
-  pub judges_passes : {n : ℕ} → judged_over arcs finals rows w root ≡ passes n → Blank seen queue
-      → WalkJudged arcs finals rows w root contents seen queue contents (Ok n)
-  judges_passes e b =
+as_cleared : {seen queue seen' queue' : List ℕ} → Blank seen queue → seen' ≡ seen → queue' ≡ queue → Blank seen' queue'
+as_cleared b s q = rw (s, q) b
+
+-- what the code answers then, over tables that were cleared
+module _ {arcs finals rows : List ℕ} {w : Walk} {root : Pair} {contents seen queue seen' queue' : List ℕ} (b : Blank seen queue) (p : seen' ≡ seen)
+    (q : queue' ≡ queue) where
+  pub judges_passes : {n : ℕ} → judged_over arcs finals rows w root ≡ passes n
+      → WalkJudged arcs finals rows w root contents seen' queue' contents (Ok n)
+  judges_passes e =
       record {
         reply = sym e;
-        blank = b;
+        blank = as_cleared b p q;
         number = ap (λ j. length (contents_shown j)) (sym e);
         shown = ap (λ j. contents_shown j ++ drop (length (contents_shown j)) contents) (sym e);
       }
 
-  pub judges_fails : {u contents' : List ℕ} {n : ℕ} → judged_over arcs finals rows w root ≡ fails u → Blank seen queue → Shown u contents contents' n
-      → WalkJudged arcs finals rows w root contents seen queue contents' (Err (record { 0 = n }))
-  judges_fails {u} {contents'} {n} e b s =
+  pub judges_fails : {u contents' : List ℕ} {n : ℕ} → judged_over arcs finals rows w root ≡ fails u → Shown u contents contents' n
+      → WalkJudged arcs finals rows w root contents seen' queue' contents' (Err (record { 0 = n }))
+  judges_fails {u} {contents'} {n} e s =
       record {
         reply =
             ap fails (ap (take n) s.is ∙ take_at u (drop n contents) n (sym s.number)) ∙ sym e;
-        blank = b;
+        blank = as_cleared b p q;
         number = s.number ∙ ap (λ j. length (contents_shown j)) (sym e);
         shown =
             s.is ∙ ap (λ k. u ++ drop k contents) s.number

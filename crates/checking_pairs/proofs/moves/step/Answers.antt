@@ -1,8 +1,5 @@
-use native.Mathlib.Omega.{arith}
-use mathlib.Core.Path.{refl}
-use mathlib.Core.Logic.{inr}
 use Rattle.tables.specs.Kinds.{reached_of}
-use Rattle.tables.specs.Laws.Lookup.{nowhere_true, nowhere_false, state_below}
+use Rattle.tables.specs.Laws.Lookup.{nowhere_true, nowhere_false}
 use Rattle.checking_pairs.specs.Laws.Moves.{leads_nowhere, leads_as, jump_missing, jump_is}
 use Rattle.checking_pairs.proofs.moves.step.Goals as goal
 

@@ -1,4 +1,4 @@
-use Rattle.checking_walk.specs.Laws.Shown.{back_begin, back_room, back_next, back_end}
+use Rattle.checking_walk.specs.Laws.Shown.{back_room, back_next, back_end}
 use Rattle.checking_walk.proofs.contents.backwards.Goals as goal
 
 pub lay_part-n-requires : goal.lay_part-n-requires

@@ -1,5 +1,4 @@
 use native.Mathlib.Omega.{arith}
-use mathlib.Core.Path.{refl}
 use Rattle.checking_walk.specs.Laws.Lowest.{met, low_met, low_next, low_end}
 use Rattle.checking_walk.proofs.edges.message_to.Goals as goal
 

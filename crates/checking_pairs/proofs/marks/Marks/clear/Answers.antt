@@ -1,6 +1,5 @@
-use Rattle.std.proofs.Common.{arith}
-use Rattle.checking_pairs.specs.Laws.Clearing.{tail_within, front_long, front_small, unmark_begin, unmark_next, unmark_end, emptied}
-use Rattle.checking_pairs.proofs.marks.clear.Goals as goal
+use Rattle.checking_pairs.specs.Laws.Clearing.{tail_within, front_long, unmark_begin, unmark_end, emptied}
+use Rattle.checking_pairs.proofs.marks.Marks.clear.Goals as goal
 
 pub slice_bounds-code-items-end : goal.slice_bounds-code-items-end
 slice_bounds-code-items-end c = tail_within c.requires
