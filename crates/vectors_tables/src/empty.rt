@@ -1,14 +1,13 @@
 // Tables whose entries are all 0, which stand for a file that is refused.
-use tables::empty::{empty_machines, empty_queues};
 use tables::kinds::DiagramState;
 use tables::tables::{
-    BadList, ENTRIES, MOST_CONTROLS, Map, POOL_ARCS, Pool, ROWS, Tables, Transitions,
+    BadList, ENTRIES, MOST_CONTROLS, Machines, Map, POOL_ARCS, Pool, Queues, ROWS, Tables, Transitions,
 };
 
 pub(crate) fn empty_tables() -> Tables {
     Tables {
-        machines: empty_machines(),
-        queues: empty_queues(),
+        machines: Machines::default(),
+        queues: Queues::default(),
         transitions: Transitions {
             count: 0,
             rows: [0u8; ROWS],

@@ -43,7 +43,7 @@ fn answer_in<W: Write>(
     fill(buffer, entry(question, FILL));
     match write_asked(file, question, buffer) {
         Ok(length) => write!(output, "wrote {length}")?,
-        Err(why) => write!(output, "refused {} at {}", why.number(), why.place())?,
+        Err(why) => write!(output, "refused {} at 0", why.number())?,
     }
     writeln!(output, " {}", digest(buffer))
 }
