@@ -4,9 +4,8 @@ ghost use Rattle.expression.specs.Said.{said_drawing};
 ghost use Rattle.c_expression.specs.Drawn.{told_drawn, pool_least, pool_out, pool_after};
 
 use c_replies::told::{Told, refused};
-use expression::draw::{Drawing, ExpressionRefusal, MOST_TEXT};
+use expression::draw::{Drawing, ExpressionRefusal};
 use numbers::put::put_word;
-use numbers::refusal::{OUTSIDE_GRAMMAR, TEXT_TOO_LONG, TOO_MANY_STATES};
 use tables::kinds::DiagramState;
 use tables::tables::{POOL_ARCS, Pool};
 
@@ -28,10 +27,7 @@ pub fn tell_drawn(drawn: &Result<Drawing, ExpressionRefusal>) -> Told
             third: 0,
             fourth: 0,
         },
-        Err(ExpressionRefusal::TooLong) => refused(TEXT_TOO_LONG, MOST_TEXT),
-        Err(ExpressionRefusal::Outside(place)) => refused(OUTSIDE_GRAMMAR, *place),
-        Err(ExpressionRefusal::Offender(excess, place)) => refused(excess.number(), *place),
-        Err(ExpressionRefusal::TooManyStates) => refused(TOO_MANY_STATES, 0),
+        Err(refusal) => refused(refusal.number(), refusal.place()),
     }
 }
 

@@ -9,27 +9,27 @@ use Rattle.expression.specs.declared.draw.ExpressionRefusal.TheVariants.{TooLong
 use Rattle.expression.specs.declared.draw.Drawing.{Drawing}
 use Rattle.numbers.specs.Refusals.{text_too_long, outside_grammar, too_many_states}
 
--- the number of a refusal, and its value
+-- the number of a refusal, and its place; of a text that is too long, how long one may be
 abbrev pub refusal_number : ExpressionRefusal → ℕ
 refusal_number TooLong = text_too_long
 refusal_number (Outside p) = outside_grammar
 refusal_number (Offender o p) = said_excess o
 refusal_number TooManyStates = too_many_states
 
-abbrev pub refusal_value : ExpressionRefusal → ℕ
-refusal_value TooLong = most_text
-refusal_value (Outside p) = p
-refusal_value (Offender o p) = p
-refusal_value TooManyStates = 0
+abbrev pub refusal_place : ExpressionRefusal → ℕ
+refusal_place TooLong = most_text
+refusal_place (Outside p) = p
+refusal_place (Offender o p) = p
+refusal_place TooManyStates = 0
 
 abbrev pub said_reply : Result Drawing ExpressionRefusal → Reply
 said_reply (Ok d) = root d.root.0
-said_reply (Err e) = refused (refusal_number e) (refusal_value e)
+said_reply (Err e) = refused (refusal_number e) (refusal_place e)
 
 -- beside a refusal the pool is all 0
 abbrev pub said_drawing : Result Drawing ExpressionRefusal → Drawn
 said_drawing (Ok d) = record { reply = root d.root.0; pool = d.pool }
-said_drawing (Err e) = turned_away (refusal_number e) (refusal_value e)
+said_drawing (Err e) = turned_away (refusal_number e) (refusal_place e)
 
 -- the automaton that the parse leaves in a part and two tables
 abbrev pub automaton_of : Part → List ℕ → List ℕ → Automaton

@@ -2,7 +2,7 @@
 ghost use Rattle.std.specs.Prelude.{◌≡◌};
 ghost use Rattle.expression.specs.Expression.{draw, expression};
 ghost use Rattle.expression.specs.declared.draw.ExpressionRefusal.TheVariants.{Outside, Offender};
-ghost use Rattle.expression.specs.Said.{said_drawing, automaton_of};
+ghost use Rattle.expression.specs.Said.{refusal_number, refusal_place, said_drawing, automaton_of};
 
 use expression_parse::cycle::parse;
 use expression_parse::parts::{Part, Stuck};
@@ -11,6 +11,7 @@ use expression_scan::limits::{Excess, Offence, check};
 use expression_sets::sets::{MOST_OCCURRENCES, Occurrences, Occurring};
 use expression_states::grow::States;
 use expression_states::next::Moves;
+use numbers::refusal::{OUTSIDE_GRAMMAR, TEXT_TOO_LONG, TOO_MANY_STATES};
 use tables::kinds::DiagramState;
 use tables::tables::{POOL_ARCS, Pool};
 
@@ -35,6 +36,32 @@ pub enum ExpressionRefusal {
     Offender(Excess, usize),
     // more states than a diagram may have
     TooManyStates,
+}
+
+impl ExpressionRefusal {
+    // The number of the refusal, of document 02.
+    pub fn number(self) -> usize
+        ensures { result ≡ refusal_number self }
+    {
+        match self {
+            ExpressionRefusal::TooLong => TEXT_TOO_LONG,
+            ExpressionRefusal::Outside(_) => OUTSIDE_GRAMMAR,
+            ExpressionRefusal::Offender(excess, _) => excess.number(),
+            ExpressionRefusal::TooManyStates => TOO_MANY_STATES,
+        }
+    }
+
+    // Its place; of a text that is too long, how long one may be.
+    pub fn place(self) -> usize
+        ensures { result ≡ refusal_place self }
+    {
+        match self {
+            ExpressionRefusal::TooLong => MOST_TEXT,
+            ExpressionRefusal::Outside(place) => place,
+            ExpressionRefusal::Offender(_, place) => place,
+            ExpressionRefusal::TooManyStates => 0,
+        }
+    }
 }
 
 impl From<Stuck> for ExpressionRefusal {

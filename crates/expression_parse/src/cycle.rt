@@ -1,4 +1,6 @@
 // The grammar goes round: a group holds alternatives, an alternative holds items, and an item may be a group.
+// The text, the place and the number of the next occurrence stand side by side: the place and the number are those of the part that was read, and
+// a struct of the three would be made anew at each call.
 ghost use Rattle.expression_parse.specs.Steps.{Ready, ItemReady, Alternatives, Alternative, Item, Whole};
 
 use crate::parts::{Part, Stuck, ends, number, skip, stands};

@@ -78,9 +78,6 @@ entries_same f g (suc left) i T e =
 
 -- AN ARC, by the place that an iterator finds
 module _ (N : List ℕ) {x : ℕ} where
-  pub arc_none : x ≡ 0 → 0 ≡ arc_to N x
-  arc_none e = rw (eq-eqb x 0 e)
-
   pub arc_set : {o : Option ℕ} → (x ≡ 0 → ⊥) → o ≡ position (λ y. eqb y x) N → said_place o ≡ arc_to N x
   arc_set e p = ap said_place p ∙ place_is N x ∙ rw (ne_eqb x 0 e)
 
@@ -113,12 +110,6 @@ row_next d {N} {M} {T} {arcs} {z} {row} {m} {v} {x} w long l f g =
           h ∙ ap (λ u. arc_to N (meet z u)) (k.each m l) ∙ ap (λ j. arc_to N (meet z (marked j L))) (sym d) in
           ap₂ (λ a u. set a (row + m) u) (w.is L k) here ∙ sym (entries_one (row_entry N z L row) m row T);
     }
-
-pub row_end : {N M T arcs : List ℕ} {z row m : ℕ} → RowFilled N z M row T arcs m → m ≤ most_messages → most_messages ≤ m
-    → FillsRow N z M row T arcs
-row_end {N} {M} {T} {arcs} {z} {row} {m} w a b =
-    let e : m ≡ most_messages = omega arith in
-    record { fills = λ L k. w.is L k ∙ ap (λ j. entries_from (row_entry N z L row) j row T) e }
 
 -- ONE ROW MORE: the rows of the states before i
 pub record ArcsFilled (N : List ℕ) (first : ℕ) (F M T arcs : List ℕ) (i : ℕ) : Type 0 where
@@ -154,21 +145,7 @@ arcs_next d {N} {F} {M} {T} {first = first} {z} {i} {row} w l found r h =
     let e : z ≡ next_of first F (get_or N i 0) = found ∙ ap (next_of first F) (get_or_default N i d 0 l) in
     record { is = λ L k. row_more N F L T first z i row (w.is L k) e r (h.fills L k) }
 
-pub arcs_end : {N F M T arcs : List ℕ} {first i : ℕ} → ArcsFilled N first F M T arcs i → i ≤ length N → length N ≤ i
-    → FillsArcs N first F M T arcs
-arcs_end {N} {F} {M} {T} {arcs} {first} {i} w a b =
-    let e : i ≡ length N = omega arith in
-    record { fills = λ L k. w.is L k ∙ ap (λ j. entries_from (arc_entry N first F L) (j * most_messages) 0 T) e }
-
--- FINAL MARKS
-module _ (skips : Bool) (last : ℕ) {x : ℕ} where
-  pub final_start : x ≡ 0 → cond skips 1 0 ≡ final_mark skips last x
-  final_start e = rw (eq-eqb x 0 e)
-
-  pub final_set : (x ≡ 0 → ⊥) → cond (not (eqb (meet x last) 0)) 1 0 ≡ final_mark skips last x
-  final_set e = rw (ne_eqb x 0 e)
-
--- one mark more
+-- FINAL MARKS: one mark more
 pub record FinalsFilled (skips : Bool) (last : ℕ) (N T finals : List ℕ) (i : ℕ) : Type 0 where
   pub is : finals ≡ entries_from (λ k. final_mark skips last (get_or N k 0)) i 0 T
 
@@ -185,9 +162,3 @@ finals_next d {skips} {last} {N} {T} {finals} {i} {v} w l found =
       is =
           ap₂ (λ a u. set a i u) w.is e ∙ ap (λ k. set (entries_from f i 0 T) k (f k)) (sym (zero-add i)) ∙ sym (entries_one f i 0 T);
     }
-
-pub finals_end : {skips : Bool} {last : ℕ} {N T finals : List ℕ} {i : ℕ} → FinalsFilled skips last N T finals i → i ≤ length N → length N ≤ i
-    → finals ≡ entries_from (λ k. final_mark skips last (get_or N k 0)) (length N) 0 T
-finals_end {skips} {last} {N} {T} {finals} {i} w a b =
-    let e : i ≡ length N = omega arith in
-    w.is ∙ ap (λ n. entries_from (λ k. final_mark skips last (get_or N k 0)) n 0 T) e

@@ -16,9 +16,6 @@ pub record Checking (s : List ℕ) (inside : Bool) (opened closed count at : ℕ
   pub closes : closed ≤ at
   pub counts : count ≤ at
 
-pub checking_begins : (s : List ℕ) → Checking s false 0 0 0 0
-checking_begins s = record { is = refl; opens = omega arith; closes = omega arith; counts = omega arith }
-
 more_most : (test : Bool) (n : ℕ) → more test n ≤ n + 1
 more_most true n = omega arith
 more_most false n = omega arith

@@ -1,6 +1,6 @@
 -- The number of a run, clipped digit by digit.
 use Rattle.std.specs.Prelude.{◌≡◌, refl, Bool, true, false, cond, List, [], ◌∷◌, ℕ, ◌+◌, ◌-◌, ◌*◌, ◌≤◌, ◌<◌, leb, ltb, length, get_or, drop}
-use Rattle.std.proofs.Common.{sym, ap, subst, ◌∙◌, drop_of_length-le, arith, leb-true, ltb-true, ltb-false, lt-ltb, le-ltb, zero-add}
+use Rattle.std.proofs.Common.{sym, ap, subst, ◌∙◌, drop_of_length-le, arith, leb-true, ltb-true, ltb-false, le-ltb}
 use Rattle.theory_model.specs.Laws.Basics.{by_test, and_is}
 use Rattle.theory_grammar.specs.Grammar.{Digit}
 use Rattle.theory_grammar.specs.Parse.{is_digit}
@@ -22,9 +22,6 @@ value_least n (b ∷ u) = by (is_digit b) (value_least (n * 10 + (b - 48)) u)
         → n ≤ cond t (value_from (n * 10 + (b - 48)) u) n
     by true h = omega arith
     by false h = omega arith
-
-pub clip_small : (n : ℕ) → n < message_limit → clip n ≡ n
-clip_small n h = ap (λ t. cond t n message_limit) (lt-ltb n message_limit h)
 
 pub clip_large : (n : ℕ) → message_limit ≤ n → clip n ≡ message_limit
 clip_large n h = ap (λ t. cond t n message_limit) (le-ltb n message_limit h)
@@ -62,9 +59,6 @@ pub record Running (s : List ℕ) (n i : ℕ) : Type 0 where
   pub number : clip (value_from n (drop i s)) ≡ clip (value_from 0 s)
   pub behind : i + leading is_digit (drop i s) ≡ leading is_digit s
   pub clipped : clip n ≡ n
-
-pub running_begins : (s : List ℕ) → Running s 0 0
-running_begins s = record { number = refl; behind = zero-add (leading is_digit s); clipped = refl }
 
 module _ {s : List ℕ} {n i : ℕ} (R : Running s n i) where
   pub running_on : {m : ℕ} → i < length s → is_digit (get_or s i 0) ≡ true → m ≡ clip (n * 10 + (get_or s i 0 - 48)) → Running s m (i + 1)

@@ -108,9 +108,6 @@ pub record Gathering (x : ℕ) (F : List ℕ) (sum rest i : ℕ) : Type 0 where
   pub left : gather_from (most_occurrences - i) i rest F sum ≡ gather x F
   pub within : i ≤ most_occurrences
 
-pub gathering_begins : (x : ℕ) (F : List ℕ) → Gathering x F 0 x 0
-gathering_begins x F = record { left = refl; within = omega arith }
-
 module _ {x : ℕ} {F : List ℕ} {sum rest i : ℕ} (W : Gathering x F sum rest i) where
   -- nothing is left
   pub gathering_empty : rest ≡ 0 → sum ≡ gather x F

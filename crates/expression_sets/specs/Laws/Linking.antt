@@ -1,6 +1,6 @@
 -- Sets of occurrences as the code makes them: the set of one, and the loop that adds to what may follow.
 use Rattle.std.specs.Prelude.{◌≡◌, cond, List, ℕ, suc, ◌+◌, ◌-◌, ◌*◌, ◌/◌, ◌%◌, ◌^◌, ◌≤◌, ◌<◌, eqb, length, get_or, set}
-use Rattle.std.proofs.Common.{sym, ap, ◌∙◌, lt-ltb, le-ltb, eq-eqb, ne_eqb, arith, one-mul, mod-eq_of_lt, pow-suc, sub-eq-zero_of_le, length-set}
+use Rattle.std.proofs.Common.{sym, ap, ◌∙◌, lt-ltb, eq-eqb, ne_eqb, arith, one-mul, mod-eq_of_lt, pow-suc, sub-eq-zero_of_le, length-set}
 use Rattle.std.proofs.lemmas.List.{get_or_default, set-get_or}
 use Rattle.std.proofs.Math.Nat.{one-le-pow, pow-le-pow_right}
 use Rattle.numbers.specs.Laws.Parts.{one_more_lem}
@@ -12,9 +12,6 @@ pub only_shift : (k : ℕ) → k < most_occurrences → 1 * 2 ^ k % 4294967296 �
 only_shift k h =
     let small : 2 ^ k < 4294967296 = omega (arith, pow-suc 2 k, one-le-pow k 2 (omega arith), pow-le-pow_right {n = 2} (omega arith) {i = suc k} {j = 32} h) in
     rw (one-mul, lt-ltb k most_occurrences h, mod-eq_of_lt small)
-
-pub only_none : (k : ℕ) → most_occurrences ≤ k → only k ≡ 0
-only_none k h = ap (λ t. cond t (2 ^ k) 0) (le-ltb k most_occurrences h)
 
 -- A LOOP that adds to what may follow: what is left of the set, from the occurrence i on, goes into this table
 pub record Linking (from to : ℕ) (F₀ : List ℕ) (rest i : ℕ) (F : List ℕ) : Type 0 where

@@ -108,9 +108,6 @@ pub record Marked (S₀ : List ℕ) (n₀ z : ℕ) (M S : List ℕ) (n m : ℕ) 
   pub within : n ≤ n₀ + m
   pub few : m ≤ most_messages
 
-pub marked_begin : (z : ℕ) (M S : List ℕ) (n : ℕ) → Marked S n z M S n 0
-marked_begin z M S n = record { adding = λ L k. adding_begin z L S n; long = refl; within = omega arith; few = omega arith }
-
 module _ {S₀ M S : List ℕ} {n₀ z n m : ℕ} (W : Marked S₀ n₀ z M S n m) where
   -- the entry is read where there is one, so it is the same by any default
   pub marked_next : (d : ℕ) {S' : List ℕ} {n' w : ℕ} → length M ≡ most_messages → m < most_messages → w ≡ meet z (get_or M m d)

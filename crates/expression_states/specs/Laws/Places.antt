@@ -1,19 +1,10 @@
--- What comes next at a state, and the places of sets among the states.
+-- The places of sets among the states.
 use Rattle.std.specs.Prelude.{◌≡◌, refl, Bool, true, false, cond, not, List, [], ◌∷◌, ℕ, ◌+◌, eqb, position, is_some, Option, Some, None}
 use Rattle.std.specs.List.{position_from}
 use Rattle.std.proofs.lemmas.Iterator.Adapters.{position_from-zero}
-use Rattle.std.proofs.Common.{sym, ap, ◌∙◌, eq-eqb, ne_eqb, arith}
+use Rattle.std.proofs.Common.{sym, ap, ◌∙◌, ne_eqb, arith}
 use Rattle.theory_exploration.specs.Marks.{mem}
-use Rattle.theory_occurrences.specs.Sets.{gather}
-use Rattle.expression_states.specs.States.{next_of, said_place, place_from}
-
--- what comes next at the start, and at a set
-module _ (first : ℕ) (F : List ℕ) {x : ℕ} where
-  pub next_start : x ≡ 0 → first ≡ next_of first F x
-  next_start e = rw (eq-eqb x 0 e)
-
-  pub next_set_lem : (x ≡ 0 → ⊥) → gather x F ≡ next_of first F x
-  next_set_lem e = rw (ne_eqb x 0 e)
+use Rattle.expression_states.specs.States.{said_place, place_from}
 
 -- PLACES, as an iterator finds them
 place_from_is : (N : List ℕ) (i y : ℕ) → said_place (position_from (λ x. eqb x y) i N) ≡ place_from i N y
