@@ -1,12 +1,12 @@
 -- Tables that are filled entry by entry: one entry more, one row more, and what an entry then holds.
-use Rattle.std.specs.Prelude.{◌≡◌, Bool, true, false, cond, not, List, [], ◌∷◌, eqb, position, Option, length, set}
+use Rattle.std.specs.Prelude.{◌≡◌, Bool, true, false, cond, List, [], ◌∷◌, eqb, position, Option, length, set}
 use Rattle.expression_states.specs.States.{said_place}
 use Rattle.expression_states.specs.Laws.Places.{place_is}
 use Rattle.std.proofs.lemmas.List.{get_or_default}
 use Rattle.std.proofs.Math.Path.{refl, ap, ap₂}
 use Rattle.std.proofs.Common.{sym, ◌∙◌, add-zero, zero-add}
 use Prim.Native.Nat.{ℕ, zero, suc, ◌+◌, ◌-◌, ◌*◌, ◌/◌, ◌%◌, ◌≤◌, ◌<◌}
-use borrow.Author.Tests.{eq-eqb, ne_eqb, eqb-true, eqb-false}
+use borrow.Author.Tests.{ne_eqb, eqb-true, eqb-false}
 use native.Mathlib.Omega.{arith}
 use Rattle.std.proofs.Math.Nat.{add-sub_cancel_left}
 use Rattle.std.proofs.Math.ListN.{get_or, length-set}
@@ -17,7 +17,7 @@ use Rattle.theory_occurrences.specs.Sets.{meet, marked}
 use Rattle.expression_states.specs.States.{next_of, place_from}
 use Rattle.expression_sets.specs.Marks.{Marks}
 use Rattle.expression_pool.specs.Filled.{entries_from, arc_to, row_entry, arc_entry, final_mark}
-use Rattle.expression_pool.specs.Fills.{FillsRow, FillsArcs}
+use Rattle.expression_pool.specs.Fills.{FillsRow}
 
 module _ (f : ℕ → ℕ) where
   -- so many, and then so many more
