@@ -21,7 +21,8 @@ pub fn blank(table: &mut [u16])
     table.fill(0);
 }
 
-// All items, over tables as a walk wants them.
+// All items, over tables as a walk wants them. The tables are cut off at the call and not in the literal of `Scratch`: there the check knows nothing of what
+// they end as.
 fn judge_all(
     s: &Session<'_>,
     seen: &mut [u16],
