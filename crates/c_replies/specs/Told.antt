@@ -1,15 +1,17 @@
 -- What a call tells: the kind of the reply, and for each kind the numbers of document 01 in its order, 0 where there are fewer than four.
-use Rattle.std.specs.Prelude.{ℕ, ◌≡◌, List, ◌∷◌, length, drop}
+use Rattle.std.specs.Prelude.{ℕ, ◌≡◌, List, ◌∷◌, length, drop, Result, Ok, Err}
 use Rattle.reading_file.specs.Said as Session
 use Rattle.theory_model.specs.Verdict.{closed, outside, leaves, bad}
 use Rattle.theory_files.specs.Reply.{FileReply, refused, verdict}
 use Rattle.membership.specs.Member as Member
 use Rattle.writing_file.specs.Write as Write
-use Rattle.numbers.specs.Said.{number_of, place_of}
+use Rattle.verdicts.specs.Said.{why_number, why_place}
+use Rattle.verdicts.specs.declared.verdict.Failing.{Failing}
+use Rattle.verdicts.specs.declared.verdict.Failing.TheVariants.{Outside, Leaves, Bad}
 use Rattle.verdicts.specs.declared.verdict.Verdict.{Verdict}
-use Rattle.verdicts.specs.declared.verdict.Verdict.TheVariants.{Closed, Outside, Leaves, Bad, Refused, ShortMemory}
+use Rattle.verdicts.specs.declared.verdict.Verdict.TheVariants.{Closed, Fails}
+use Rattle.verdicts.specs.declared.verdict.CheckRefusal.{CheckRefusal}
 use Rattle.c_replies.specs.declared.told.Told.{Told}
-use Rattle.numbers.specs.Refusals.{short_memory}
 
 -- the kinds
 abbrev pub CLOSED : ℕ
@@ -74,13 +76,15 @@ told_written (Write.wrote n) = told_of WRITTEN n 0 0 0
 told_written (Write.refusal k p) = told_refusal k p
 
 -- the same of a verdict by value, which has how many messages are shown
-abbrev pub told_verdict : Verdict → Told
-told_verdict (Closed n) = told_of CLOSED n 0 0 0
-told_verdict Outside = told_of OUTSIDE 0 0 0 0
-told_verdict (Leaves c t n f) = told_of LEAVES c.0 t n f
-told_verdict (Bad b n) = told_of BAD b n 0 0
-told_verdict (Refused why) = told_refusal (number_of why) (place_of why)
-told_verdict ShortMemory = told_refusal short_memory 0
+abbrev pub told_failing : Failing → Told
+told_failing Outside = told_of OUTSIDE 0 0 0 0
+told_failing (Leaves c t n f) = told_of LEAVES c.0 t n f
+told_failing (Bad b n) = told_of BAD b n 0 0
+
+abbrev pub told_verdict : Result Verdict CheckRefusal → Told
+told_verdict (Ok (Closed n)) = told_of CLOSED n 0 0 0
+told_verdict (Ok (Fails f)) = told_failing f
+told_verdict (Err why) = told_refusal (why_number why) (why_place why)
 
 -- the reply's space needs so many entries, and the numbers fill its front
 abbrev pub reply_least : ℕ

@@ -1,18 +1,16 @@
 // What a replay tells, and the record of its run as numbers.
 ghost use Rattle.std.specs.Prelude.{◌≡◌, ◌++◌, ◌≤◌, length, drop};
 ghost use Rattle.theory_replay.specs.Rules.{refusal};
-ghost use Rattle.replaying_trace.specs.Reply.{ran, said_stop};
+ghost use Rattle.replaying_trace.specs.Reply.{ran, said_stop, said_replay, steps_of};
 ghost use Rattle.c_replies.specs.Replays.{told_replay, record_out, record_least, run_after};
 
 use crate::told::{Told, counted, tell_refusal};
-use numbers::refusal::{
-    MOST_BYTES, NOT_POSSIBLE, QUEUE_FULL, SHORT_MEMORY, TOO_LONG, number, place,
-};
+use numbers::refusal::{MOST_BYTES, NOT_POSSIBLE, QUEUE_FULL, SHORT_MEMORY, TOO_LONG};
 use replaying_step::runs::RunRecord;
-use replaying_trace::progress::{Ended, Stop};
+use replaying_trace::progress::{Ended, ReplayRefusal, Stop};
 use tables::tables::{MOST_MACHINES, MOST_QUEUES};
 
-// The kinds of a replay, as the header names them.
+// The kinds of a replay, constants as those of `told` are.
 pub const END: usize = 9;
 
 pub const LEFT: usize = 10;
@@ -38,8 +36,25 @@ fn step_refused(number: usize, place: usize, steps: usize) -> Told
     }
 }
 
-pub fn tell_replay(e: Ended) -> Told
-    ensures { result ≡ told_replay (said_stop e.why) e.steps }
+pub fn tell_replay(e: Result<Ended, ReplayRefusal>) -> Told
+    ensures { result ≡ told_replay (said_replay e) (steps_of e) }
+{
+    match e {
+        Ok(ended) => tell_ended(ended),
+        Err(ReplayRefusal::File(why)) => tell_refusal(why),
+        Err(ReplayRefusal::TraceTooLong) => Told {
+            kind: TRACE_REFUSED,
+            first: TOO_LONG,
+            second: MOST_BYTES,
+            third: 0,
+            fourth: 0,
+        },
+        Err(ReplayRefusal::MemoryShort) => counted(MEMORY_REFUSED, SHORT_MEMORY),
+    }
+}
+
+fn tell_ended(e: Ended) -> Told
+    ensures { result ≡ told_replay (ran (said_stop e.why)) e.steps }
 {
     let why = e.why;
     let steps = e.steps;
@@ -52,24 +67,9 @@ pub fn tell_replay(e: Ended) -> Told
             third: 0,
             fourth: 0,
         },
-        Stop::Unread(refusal) => step_refused(number(refusal), place(refusal), steps),
+        Stop::Unread(refusal) => step_refused(refusal.number(), refusal.place(), steps),
         Stop::NotPossible(at) => step_refused(NOT_POSSIBLE, at, steps),
         Stop::NoRoom(at) => step_refused(QUEUE_FULL, at, steps),
-        Stop::FileRefused(refusal) => tell_refusal(refusal),
-        Stop::TraceTooLong => Told {
-            kind: TRACE_REFUSED,
-            first: TOO_LONG,
-            second: MOST_BYTES,
-            third: 0,
-            fourth: 0,
-        },
-        Stop::MemoryShort => Told {
-            kind: MEMORY_REFUSED,
-            first: SHORT_MEMORY,
-            second: 0,
-            third: 0,
-            fourth: 0,
-        },
     }
 }
 
@@ -96,14 +96,12 @@ fn put_record(run: &mut [usize], r: RunRecord)
 }
 
 // The numbers of a replay that ran; after a refusal of file, trace or memory the space is as it was.
-pub fn put_run(run: &mut [usize], why: Stop, r: RunRecord)
+pub fn put_run(run: &mut [usize], e: Result<Ended, ReplayRefusal>, r: RunRecord)
     requires { record_least ≤ length run.old }
-    ensures { run.new ≡ run_after (said_stop why) r run.old }
+    ensures { run.new ≡ run_after (said_replay e) r run.old }
 {
-    match why {
-        Stop::FileRefused(_) => {}
-        Stop::TraceTooLong => {}
-        Stop::MemoryShort => {}
-        _ => put_record(run, r),
+    match e {
+        Ok(_) => put_record(run, r),
+        Err(_) => {}
     }
 }

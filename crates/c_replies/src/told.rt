@@ -3,18 +3,15 @@ ghost use Rattle.std.specs.Prelude.{◌≡◌, ◌≤◌, length};
 ghost use Rattle.numbers.specs.Said.{number_of, place_of};
 ghost use Rattle.membership.specs.Said.{said_member};
 ghost use Rattle.writing_file.specs.Write.{said_written};
-ghost use Rattle.c_replies.specs.Told.{told_of, told_verdict, told_member, told_written, told_refusal, reply_least, Tells};
+ghost use Rattle.c_replies.specs.Told.{told_of, told_failing, told_verdict, told_member, told_written, told_refusal, reply_least, Tells};
 
-use membership::reply::Member;
+use membership::reply::{Member, MemberRefusal};
 use numbers::number::wide;
-use numbers::refusal::{
-    BUFFER_SHORT, EARLIER_QUEUE, NO_CONTROL, NO_MESSAGE, NOT_READABLE, Refusal, SHORT_MEMORY,
-    number, place,
-};
-use verdicts::verdict::Verdict;
-use writing_file::write::Written;
+use numbers::refusal::{EARLIER_QUEUE, NO_CONTROL, NO_MESSAGE, Refusal};
+use verdicts::verdict::{CheckRefusal, Failing, Verdict};
+use writing_file::write::WriteRefusal;
 
-// The kinds, as the header names them.
+// The kinds. Constants and no enum: the header of C names these numbers, and a call answers one of them.
 pub const CLOSED: usize = 0;
 
 pub const OUTSIDE: usize = 1;
@@ -88,54 +85,60 @@ pub fn refused(number: usize, place: usize) -> Told
 pub fn tell_refusal(why: Refusal) -> Told
     ensures { result ≡ told_refusal (number_of why) (place_of why) }
 {
-    refused(number(why), place(why))
+    refused(why.number(), why.place())
 }
 
-pub fn tell_verdict(v: Verdict) -> Told
-    ensures { result ≡ told_verdict v }
+fn tell_failing(failing: Failing) -> Told
+    ensures { result ≡ told_failing failing }
 {
-    match v {
-        Verdict::Closed(pairs) => counted(CLOSED, pairs),
-        Verdict::Outside => bare(OUTSIDE),
-        Verdict::Leaves(control, transition, shown, far) => Told {
+    match failing {
+        Failing::Outside => bare(OUTSIDE),
+        Failing::Leaves(control, transition, shown, far) => Told {
             kind: LEAVES,
             first: wide(control.0),
             second: transition,
             third: shown,
             fourth: far,
         },
-        Verdict::Bad(entry, shown) => Told {
+        Failing::Bad(entry, shown) => Told {
             kind: BAD,
             first: entry,
             second: shown,
             third: 0,
             fourth: 0,
         },
-        Verdict::Refused(why) => tell_refusal(why),
-        Verdict::ShortMemory => refused(SHORT_MEMORY, 0),
     }
 }
 
-pub fn tell_member(m: Member) -> Told
+pub fn tell_verdict(v: Result<Verdict, CheckRefusal>) -> Told
+    ensures { result ≡ told_verdict v }
+{
+    match v {
+        Ok(Verdict::Closed(pairs)) => counted(CLOSED, pairs),
+        Ok(Verdict::Fails(failing)) => tell_failing(failing),
+        Err(why) => refused(why.number(), why.place()),
+    }
+}
+
+pub fn tell_member(m: Result<Member, MemberRefusal>) -> Told
     ensures { result ≡ told_member (said_member m) }
 {
     match m {
-        Member::Yes(far) => counted(YES, far),
-        Member::No(far) => counted(NO, far),
-        Member::Unread(why) => tell_refusal(why),
-        Member::NoControl => refused(NO_CONTROL, 0),
-        Member::NoMessage(at) => refused(NO_MESSAGE, at),
-        Member::EarlierQueue(at) => refused(EARLIER_QUEUE, at),
+        Ok(Member::Yes(far)) => counted(YES, far),
+        Ok(Member::No(far)) => counted(NO, far),
+        Err(MemberRefusal::File(why)) => tell_refusal(why),
+        Err(MemberRefusal::NoControl) => refused(NO_CONTROL, 0),
+        Err(MemberRefusal::NoMessage(at)) => refused(NO_MESSAGE, at),
+        Err(MemberRefusal::EarlierQueue(at)) => refused(EARLIER_QUEUE, at),
     }
 }
 
-pub fn tell_written(w: Written) -> Told
+pub fn tell_written(w: Result<usize, WriteRefusal>) -> Told
     ensures { result ≡ told_written (said_written w) }
 {
     match w {
-        Written::Length(length) => counted(WRITTEN, length),
-        Written::NotReadable => refused(NOT_READABLE, 0),
-        Written::TooShort => refused(BUFFER_SHORT, 0),
+        Ok(length) => counted(WRITTEN, length),
+        Err(why) => refused(why.number(), 0),
     }
 }
 
