@@ -1,6 +1,6 @@
 // Field 6: the bad entries.
-ghost use Rattle.std.specs.Prelude.{◌≡◌, ◌≤◌};
-ghost use Rattle.numbers.specs.Said.{said, said_with};
+ghost use Rattle.std.specs.Prelude.{◌≡◌, ◌≤◌, ◌*◌, replicate};
+ghost use Rattle.numbers.specs.Said.{said_with};
 ghost use Rattle.tables.specs.Limits.{most_controls, most_bad};
 ghost use Rattle.reading_file.specs.Bad.{read_entries, read_bad};
 
@@ -29,13 +29,18 @@ fn read_entries(
 }
 
 #[tactic(auto, using(numbers::specs::Laws::Parts::handed_on, numbers::specs::Laws::Parts::handed_on_with), unfolding(crate::specs::Bad::read_bad))]
-pub(crate) fn read_bad(r: &mut Reader<'_>, product: usize, n: u8) -> Result<BadList, Refusal>
-    requires { product ≤ most_controls }
-    ensures read { said result r.new.place ≡ read_bad r.old.bytes.now r.old.place product n }
+pub(crate) fn read_bad(
+    r: &mut Reader<'_>,
+    product: usize,
+    n: u8,
+    bad: &mut BadList,
+) -> Result<(), Refusal>
+    requires product_le_most_controls { product ≤ most_controls }
+    requires no_rows { bad.old.rows ≡ replicate (most_bad * 2) 0 }
+    ensures read { said_with (λ _. bad.new) result r.new.place ≡ read_bad r.old.bytes.now r.old.place product n }
     ensures bytes { r.new.bytes ≡ r.old.bytes }
 {
     let count = r.within(0, MOST_BAD)?;
-    let mut rows = [0u8; ENTRIES];
-    read_entries(r, product, n, usize::from(count), &mut rows)?;
-    Ok(BadList { count, rows })
+    bad.count = count;
+    read_entries(r, product, n, usize::from(count), &mut bad.rows)
 }

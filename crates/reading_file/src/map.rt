@@ -1,6 +1,6 @@
 // Field 5: the root of each control state.
-ghost use Rattle.std.specs.Prelude.{◌≡◌, ◌≤◌};
-ghost use Rattle.numbers.specs.Said.{said, said_with};
+ghost use Rattle.std.specs.Prelude.{◌≡◌, ◌≤◌, replicate};
+ghost use Rattle.numbers.specs.Said.{said_with};
 ghost use Rattle.tables.specs.Limits.{most_controls};
 ghost use Rattle.reading_file.specs.Map.{read_roots, read_map};
 
@@ -25,12 +25,16 @@ fn read_roots(
 }
 
 #[tactic(auto, using(numbers::specs::Laws::Parts::handed_on_with), unfolding(crate::specs::Map::read_map))]
-pub(crate) fn read_map(r: &mut Reader<'_>, product: usize, n: u8) -> Result<Map, Refusal>
-    requires { product ≤ most_controls }
-    ensures read { said result r.new.place ≡ read_map r.old.bytes.now r.old.place product n }
+pub(crate) fn read_map(
+    r: &mut Reader<'_>,
+    product: usize,
+    n: u8,
+    map: &mut Map,
+) -> Result<(), Refusal>
+    requires product_le_most_controls { product ≤ most_controls }
+    requires no_roots { map.old.roots ≡ replicate most_controls 0 }
+    ensures read { said_with (λ _. map.new) result r.new.place ≡ read_map r.old.bytes.now r.old.place product n }
     ensures bytes { r.new.bytes ≡ r.old.bytes }
 {
-    let mut roots = [0u8; MOST_CONTROLS];
-    read_roots(r, n, product, &mut roots)?;
-    Ok(Map { roots })
+    read_roots(r, n, product, &mut map.roots)
 }

@@ -12,7 +12,9 @@ use reading_model::fields::read_model;
 use reading_pool::pool::read_pool;
 use tables::head::Head;
 use tables::kinds::DiagramState;
-use tables::tables::{BadList, POOL_ARCS, Pool, ROWS, SetTables, Tables, Transitions};
+use tables::tables::{
+    BadList, ENTRIES, MOST_CONTROLS, Map, POOL_ARCS, Pool, ROWS, SetTables, Tables, Transitions,
+};
 
 // What reading answers beside the three large tables. Those are lent: handed on by value they would be copied at every return. The sets stay as
 // they were read. The order of the fields moves the instructions of reading by some percent, by another amount for each file.
@@ -40,7 +42,24 @@ fn read_open(
     let machines = model.machines;
     let queues = model.queues;
     let states = read_pool(r, queues.sum, finals, arcs)?;
-    let sets = read_ends(r, machines.product, queues, states, finals, arcs)?;
+    let mut sets = SetTables {
+        map: Map {
+            roots: [0u8; MOST_CONTROLS],
+        },
+        bad: BadList {
+            count: 0,
+            rows: [0u8; ENTRIES],
+        },
+    };
+    read_ends(
+        r,
+        machines.product,
+        &queues,
+        states,
+        finals,
+        arcs,
+        &mut sets,
+    )?;
     Ok(HeadRead {
         sets,
         head: Head {

@@ -1,8 +1,9 @@
 // Fields 5 and 6, the sets: the root of each control state, and the bad entries.
 ghost use Rattle.std.specs.Prelude.{◌≡◌, ◌≤◌};
-ghost use Rattle.numbers.specs.Said.{said};
+ghost use Rattle.numbers.specs.Said.{said_with};
 ghost use Rattle.tables.specs.Limits.{most_controls};
 ghost use Rattle.reading_file.specs.Sets.{read_sets};
+ghost use Rattle.reading_file.specs.Lent.{NoSets};
 
 use crate::bad::read_bad;
 use crate::map::read_map;
@@ -10,13 +11,19 @@ use numbers::reader::Reader;
 use numbers::refusal::Refusal;
 use tables::tables::SetTables;
 
-#[tactic(auto, using(numbers::specs::Laws::Parts::handed_on), unfolding(crate::specs::Sets::read_sets))]
-pub fn read_sets(r: &mut Reader<'_>, product: usize, n: u8) -> Result<SetTables, Refusal>
-    requires { product ≤ most_controls }
-    ensures read { said result r.new.place ≡ read_sets r.old.bytes.now r.old.place product n }
+#[tactic(auto, using(numbers::specs::Laws::Parts::handed_on_with), unfolding(crate::specs::Sets::read_sets))]
+pub fn read_sets(
+    r: &mut Reader<'_>,
+    product: usize,
+    n: u8,
+    sets: &mut SetTables,
+) -> Result<(), Refusal>
+    requires product_le_most_controls { product ≤ most_controls }
+    requires no_sets { NoSets sets.old }
+    ensures read { said_with (λ _. sets.new) result r.new.place ≡ read_sets r.old.bytes.now r.old.place product n }
     ensures bytes { r.new.bytes ≡ r.old.bytes }
 {
-    let map = read_map(r, product, n)?;
-    let bad = read_bad(r, product, n)?;
-    Ok(SetTables { map, bad })
+    read_map(r, product, n, &mut sets.map)?;
+    read_bad(r, product, n, &mut sets.bad)?;
+    Ok(())
 }

@@ -49,22 +49,22 @@ fn none_fails(found: &mut FoundNodes, arcs: &[u8], finals: &[u8], q: &Queues) ->
 
 // THE TEST OF QUEUE ORDER, of the pool with these arcs and final marks, from the roots of so many control states and of the bad entries.
 pub fn in_queue_order(
-    q: Queues,
+    q: &Queues,
     finals: &[u8],
     arcs: &[u8],
     controls: usize,
-    sets: SetTables,
+    sets: &SetTables,
 ) -> bool
-    requires count_le_most_queues { q.count ≤ most_queues }
-    requires count_bound { first_message q.messages q.count ≤ most_messages }
+    requires count_le_most_queues { q.now.count ≤ most_queues }
+    requires count_bound { first_message q.now.messages q.now.count ≤ most_messages }
     requires finals_len { length finals.now ≡ most_pool }
     requires arcs_small { ArcsSmall arcs.now }
-    requires roots_small { RootsSmall sets.map.roots }
-    requires bad_small { BadSmall sets.bad.rows sets.bad.count }
-    ensures { (P : Pool) → P.finals ≡ finals.now → P.arcs ≡ arcs.now → result ≡ in_queue_order q P controls sets }
+    requires roots_small { RootsSmall sets.now.map.roots }
+    requires bad_small { BadSmall sets.now.bad.rows sets.now.bad.count }
+    ensures { (P : Pool) → P.finals ≡ finals.now → P.arcs ≡ arcs.now → result ≡ in_queue_order q.now P controls sets.now }
 {
     let mut found = FoundNodes::none();
     found.find_roots(&sets.map.roots, controls);
     found.find_bad(&sets.bad.rows, sets.bad.count);
-    none_fails(&mut found, arcs, finals, &q)
+    none_fails(&mut found, arcs, finals, q)
 }

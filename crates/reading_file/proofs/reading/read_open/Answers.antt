@@ -36,15 +36,15 @@ pub read_ends-requires-clause-pool_valid : goal.read_ends-requires-clause-pool_v
 read_ends-requires-clause-pool_valid c =
     pool_valid _ _ _ (model_valid _ _ (sym c.in_ok-model.ensures.read)).queues.sum_most (sym c.in_ok-states.ensures.read)
 
-pub returns-in_err-sets : goal.returns-in_err-sets
+pub returns-in_err-read_ends : goal.returns-in_err-read_ends
 unfolding read_file read_with
-returns-in_err-sets c =
+returns-in_err-read_ends c =
     let e = rw c.requires.begins at c.in_ok-model.ensures.read in
-    handed_on_with _ _ _ _ c.from_residual-in_err-sets.ensures.1
-    ∙ rw (le-leb _ _ c.if-r-gt-MOST_BYTES.false, ← e, ← c.read_model.ensures.bytes, ← c.in_ok-states.ensures.read, ← c.read_pool.ensures.bytes, ← c.in_err-sets.ensures.read)
+    handed_on_with _ _ _ _ c.from_residual-in_err-read_ends.ensures.1
+    ∙ rw (le-leb _ _ c.if-r-gt-MOST_BYTES.false, ← e, ← c.read_model.ensures.bytes, ← c.in_ok-states.ensures.read, ← c.read_pool.ensures.bytes, ← c.in_err-read_ends.ensures.read)
 
 pub returns : goal.returns
 unfolding read_file read_with
 returns c =
     let e = rw c.requires.begins at c.in_ok-model.ensures.read in
-    rw (le-leb _ _ c.if-r-gt-MOST_BYTES.false, ← e, ← c.read_model.ensures.bytes, ← c.in_ok-states.ensures.read, ← c.read_pool.ensures.bytes, ← c.in_ok-sets.ensures.read)
+    rw (le-leb _ _ c.if-r-gt-MOST_BYTES.false, ← e, ← c.read_model.ensures.bytes, ← c.in_ok-states.ensures.read, ← c.read_pool.ensures.bytes, ← c.in_ok-read_ends.ensures.read)
