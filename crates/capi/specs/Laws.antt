@@ -1,33 +1,38 @@
 -- Laws of what is told, and of each call.
-use Rattle.std.specs.Prelude.{ℕ, ◌*◌, ◌≤◌, ◌<◌, ◌≡◌, refl, Bool, true, false, ◌&&◌, List, ◌++◌, length, drop, leb}
+use Rattle.std.specs.Prelude.{ℕ, ◌*◌, ◌≤◌, ◌<◌, ◌≡◌, refl, Bool, true, false, ◌&&◌, List, ◌++◌, length, drop, leb, Result, Ok, Err}
 use Rattle.std.proofs.Common.{sym, ap, ap₂, ◌∙◌, le-leb, arith}
 use Rattle.std.proofs.lemmas.Bool.{lt-leb}
 use Rattle.numbers.specs.Limits.{most_bytes}
 use Rattle.numbers.specs.Part.{Part, got, refused}
 use Rattle.reading_file.specs.Said.{read, refusal, said_answer}
-use Rattle.reading_file.specs.File.{read_file, read_reply_of, tables_read, Reads}
+use Rattle.reading_file.specs.File.{read_file, read_reply_of, tables_read, handed, Reads}
 use Rattle.reading_file.specs.Valid.{Valid}
 use Rattle.tables.specs.declared.tables.Tables.{Tables}
-use Rattle.reading_file.specs.declared.reading.Reading.{Reading}
+use Rattle.numbers.specs.declared.refusal.Refusal.{Refusal}
+use Rattle.numbers.specs.Said.{number_of, place_of}
 use Rattle.theory_model.specs.Laws.Basics.{is_and}
 use Rattle.theory_files.specs.Reply.{shown_of}
 use Rattle.theory_files.specs.Checking.{Checked, check_of, Checks}
 use Rattle.verdicts.specs.Said.{said_verdict, shown_in}
 use Rattle.verdicts.specs.declared.verdict.Verdict.{Verdict}
-use Rattle.verdicts.specs.declared.verdict.Verdict.TheVariants.{Closed, Outside, Leaves, Bad, Refused, ShortMemory}
+use Rattle.verdicts.specs.declared.verdict.Verdict.TheVariants.{Closed, Fails}
+use Rattle.verdicts.specs.declared.verdict.Failing.TheVariants.{Outside, Leaves, Bad}
+use Rattle.verdicts.specs.declared.verdict.CheckRefusal.{CheckRefusal}
 use Rattle.checking_file.specs.Laws.Shows.{checks_shows}
 use Rattle.membership.specs.Member.{member_of}
 use Rattle.membership.specs.Said.{said_member}
 use Rattle.membership.specs.Laws.Asking.{read_valid}
 use Rattle.membership.specs.declared.reply.Member.{Member}
+use Rattle.membership.specs.declared.reply.MemberRefusal.{MemberRefusal}
 use Rattle.numbers.specs.Put.{Put}
 use Rattle.replaying_step.specs.declared.runs.RunRecord.{RunRecord}
 use Rattle.theory_replay.specs.Rules.{room as queueRoom}
-use Rattle.replaying_trace.specs.Reply.{Reply, Outcome, lent_to, replay_to, replay_of, said_stop, Replays}
+use Rattle.replaying_trace.specs.Reply.{Reply, Outcome, lent_to, replay_to, replay_of, said_replay, steps_of, Replays}
 use Rattle.replaying_trace.specs.declared.progress.Ended.{Ended}
+use Rattle.replaying_trace.specs.declared.progress.ReplayRefusal.{ReplayRefusal}
 use Rattle.theory_format.specs.Spelled.{spelled}
 use Rattle.writing_file.specs.Write.{buffer_after, said_written}
-use Rattle.writing_file.specs.declared.write.Written.{Written}
+use Rattle.writing_file.specs.declared.write.WriteRefusal.{WriteRefusal}
 use Rattle.c_tables.specs.Flat.{flat, tables_least}
 use Rattle.c_tables.specs.Taken.{tables_at}
 use Rattle.c_tables.specs.Written.{write_reply_at, WritesFlat}
@@ -92,7 +97,7 @@ module _ (file space reply : List ℕ) where
   pub read_unheard : length reply < reply_least → ReadCall file space reply NO_QUEUE_ROOM space reply
   read_unheard h = read_none (second_none (leb tables_least (length space)) (reply_fits reply) (lt-leb reply_least (length reply) h))
 
-module _ {file space reply reply₁ : List ℕ} {t : Told} {r : ℕ} (h : tables_least ≤ length space) (l : reply_least ≤ length reply) (x : Reading) (reads : Reads (read_file file) x) (told : t ≡ told_answer (said_answer x.answer)) (tells : Tells t reply reply₁ r) where
+module _ {file space reply reply₁ : List ℕ} {t : Told} {r : ℕ} (h : tables_least ≤ length space) (l : reply_least ≤ length reply) (x : Result Tables Refusal) (reads : Reads (read_file file) x) (told : t ≡ told_answer (said_answer x)) (tells : Tells t reply reply₁ r) where
   called : {space₁ : List ℕ} → space₁ ≡ space_after (read_file file) space → ReadCall file space reply r space₁ reply₁
   called e =
       let roomy = is_and (leb tables_least (length space)) (reply_fits reply) (le-leb tables_least (length space) h) (le-leb reply_least (length reply) l) in
@@ -103,14 +108,15 @@ module _ {file space reply reply₁ : List ℕ} {t : Told} {r : ℕ} (h : tables
         reply = tells_reply (room space reply) roomy same tells;
       }
 
-  pub read_refused : {k p : ℕ} → said_answer x.answer ≡ refusal k p → ReadCall file space reply r space reply₁
-  read_refused e = called (unread (read_file file) space (sym e ∙ reads.reply))
+  pub read_refused : {why : Refusal} → x ≡ Err why → ReadCall file space reply r space reply₁
+  read_refused e = called (unread (read_file file) space (sym (ap said_answer e) ∙ reads.reply))
 
-  pub read_filled : {space₁ : List ℕ} {z : ℕ} → said_answer x.answer ≡ read → Put space 0 tables_least (flat x.tables) space₁ z
+  pub read_filled : {space₁ : List ℕ} {z : ℕ} {T : Tables} → x ≡ Ok T → Put space 0 tables_least (flat T) space₁ z
       → ReadCall file space reply r space₁ reply₁
-  read_filled e w =
-      let answered = sym e ∙ reads.reply in
-      called (filled (read_file file) x.tables (read_valid file answered reads.tables) reads.tables answered h w)
+  read_filled {T = T} e w =
+      let answered = sym (ap said_answer e) ∙ reads.reply in
+      let same : T ≡ tables_read (read_file file) = sym (ap handed e) ∙ reads.tables in
+      called (filled (read_file file) T (read_valid file answered same) same answered h w)
 
 -- WRITING
 module _ (tables buffer reply : List ℕ) where
@@ -129,7 +135,7 @@ module _ (tables buffer reply : List ℕ) where
         buffer = kept (reply_fits reply) buffer buffer_then e;
       }
 
-  pub write_told : {buffer₁ reply₁ : List ℕ} {r : ℕ} {t : Told} → reply_least ≤ length reply → (w : Written) → WritesFlat tables buffer w buffer₁
+  pub write_told : {buffer₁ reply₁ : List ℕ} {r : ℕ} {t : Told} → reply_least ≤ length reply → (w : Result ℕ WriteRefusal) → WritesFlat tables buffer w buffer₁
       → t ≡ told_written (said_written w) → Tells t reply reply₁ r → WriteCall tables buffer reply r buffer₁ reply₁
   write_told h w writes told tells =
       let e = le-leb reply_least (length reply) h in
@@ -150,7 +156,7 @@ module _ (file : List ℕ) (control : ℕ) (contents reply : List ℕ) where
         reply = kept (reply_fits reply) reply (reply_after (told_member (member_of file control contents)) reply) e;
       }
 
-  pub member_told : {t : Told} {reply₁ : List ℕ} {r : ℕ} → reply_least ≤ length reply → (m : Member) → said_member m ≡ member_of file control contents
+  pub member_told : {t : Told} {reply₁ : List ℕ} {r : ℕ} → reply_least ≤ length reply → (m : Result Member MemberRefusal) → said_member m ≡ member_of file control contents
       → t ≡ told_member (said_member m) → Tells t reply reply₁ r → MemberCall file control contents reply r reply₁
   member_told h m is told tells =
       let e = le-leb reply_least (length reply) h in
@@ -158,13 +164,13 @@ module _ (file : List ℕ) (control : ℕ) (contents reply : List ℕ) where
       record { kind = tells_kind (reply_fits reply) e same tells; reply = tells_reply (reply_fits reply) e same tells }
 
 -- CHECKING
-told_verdict_lem : (v : Verdict) (contents : List ℕ) → shown_in v ≡ length (shown_of (said_verdict v contents)) → told_verdict v ≡ told_reply (said_verdict v contents)
-told_verdict_lem (Closed n) contents e = refl
-told_verdict_lem Outside contents e = refl
-told_verdict_lem (Leaves c t n f) contents e = ap (λ (k : ℕ). told_of LEAVES c.0 t k f) e
-told_verdict_lem (Bad b n) contents e = ap (λ (k : ℕ). told_of BAD b k 0 0) e
-told_verdict_lem (Refused why) contents e = refl
-told_verdict_lem ShortMemory contents e = refl
+told_verdict_lem : (v : Result Verdict CheckRefusal) (contents : List ℕ) → shown_in v ≡ length (shown_of (said_verdict v contents))
+    → told_verdict v ≡ told_reply (said_verdict v contents)
+told_verdict_lem (Ok (Closed n)) contents e = refl
+told_verdict_lem (Ok (Fails Outside)) contents e = refl
+told_verdict_lem (Ok (Fails (Leaves c t n f))) contents e = ap (λ (k : ℕ). told_of LEAVES c.0 t k f) e
+told_verdict_lem (Ok (Fails (Bad b n))) contents e = ap (λ (k : ℕ). told_of BAD b k 0 0) e
+told_verdict_lem (Err why) contents e = refl
 
 module _ (file seen queue contents reply : List ℕ) where
   abbrev whole : Checked
@@ -181,7 +187,7 @@ module _ (file seen queue contents reply : List ℕ) where
         contents = kept (reply_fits reply) contents whole.contents e;
       }
 
-  pub check_told : {seen₁ queue₁ contents₁ reply₁ : List ℕ} {r : ℕ} {t : Told} → reply_least ≤ length reply → (v : Verdict)
+  pub check_told : {seen₁ queue₁ contents₁ reply₁ : List ℕ} {r : ℕ} {t : Told} → reply_least ≤ length reply → (v : Result Verdict CheckRefusal)
       → Checks file seen queue contents (said_verdict v contents₁) seen₁ queue₁ contents₁ → t ≡ told_verdict v
       → Tells t reply reply₁ r → CheckCall file seen queue contents reply r seen₁ queue₁ contents₁ reply₁
   check_told {contents₁ = contents₁} {t = t} h v checks told tells =
@@ -214,8 +220,8 @@ module _ (file trace memory run reply : List ℕ) where
   replay_unheard h = replay_none (second_none (leb record_least (length run)) (reply_fits reply) (lt-leb reply_least (length reply) h))
 
   pub replay_told_lem : {memory₁ run₁ reply₁ : List ℕ} {r : ℕ} {t : Told} → record_least ≤ length run → reply_least ≤ length reply
-      → (e : Ended) (after : RunRecord) → Replays file trace memory blank e after memory₁ → run₁ ≡ run_after (said_stop e.why) after run
-      → t ≡ told_replay (said_stop e.why) e.steps → Tells t reply reply₁ r
+      → (e : Result Ended ReplayRefusal) (after : RunRecord) → Replays file trace memory blank e after memory₁ → run₁ ≡ run_after (said_replay e) after run
+      → t ≡ told_replay (said_replay e) (steps_of e) → Tells t reply reply₁ r
       → ReplayCall file trace memory run reply r memory₁ run₁ reply₁
   replay_told_lem {run₁ = run₁} {t = t} h l e after replays put told tells =
       let o = outcome_of file trace memory in

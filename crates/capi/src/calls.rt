@@ -14,9 +14,9 @@ use c_tables::write::write_flat;
 use checking_file::check::check;
 use expression::draw::expression;
 use membership::member::member;
-use reading_file::reading::{Answer, read};
+use reading_file::reading::read;
 use replaying_step::runs::RunRecord;
-use replaying_trace::run::replay_from;
+use replaying_trace::run::replay;
 use tables::tables::{MOST_MACHINES, MOST_QUEUES};
 
 // The number of the layout.
@@ -41,12 +41,9 @@ pub extern "C" fn swarmbanner_read(file: &[u8], space: &mut [u8], reply: &mut [u
     if reply.len() < REPLY_LEAST {
         return NO_ROOM;
     }
-    let reading = read(file);
-    let answer = reading.answer;
-    match answer {
-        Answer::Refused(why) => put_told(reply, tell_refusal(why)),
-        Answer::Read => {
-            let tables = reading.tables;
+    match read(file) {
+        Err(why) => put_told(reply, tell_refusal(why)),
+        Ok(tables) => {
             put_flat(space, tables);
             put_told(reply, bare(READ))
         }
@@ -118,16 +115,13 @@ pub extern "C" fn swarmbanner_replay(
     if reply.len() < REPLY_LEAST {
         return NO_ROOM;
     }
-    let blank = RunRecord {
+    let mut record = RunRecord {
         states: [0u8; MOST_MACHINES as usize],
         heads: [0usize; MOST_QUEUES as usize],
         lengths: [0usize; MOST_QUEUES as usize],
     };
-    let replayed = replay_from(blank, file, trace, memory);
-    let ended = replayed.ended;
-    let why = ended.why;
-    let record = replayed.record;
-    put_run(run, why, record);
+    let ended = replay(&mut record, file, trace, memory);
+    put_run(run, &ended, &record);
     put_told(reply, tell_replay(ended))
 }
 
@@ -143,9 +137,7 @@ pub extern "C" fn swarmbanner_expression(text: &[u8], pool: &mut [u8], reply: &m
     if reply.len() < REPLY_LEAST {
         return NO_ROOM;
     }
-    let drawing = expression(text);
-    let said = drawing.reply;
-    let tables = drawing.pool;
-    put_drawn(pool, said, tables);
-    put_told(reply, tell_drawn(said, tables.count))
+    let drawn = expression(text);
+    put_drawn(pool, &drawn);
+    put_told(reply, tell_drawn(&drawn))
 }

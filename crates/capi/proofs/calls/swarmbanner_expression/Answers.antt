@@ -8,4 +8,4 @@ pub returns-then-reply-lt-REPLY_LEAST : goal.returns-then-reply-lt-REPLY_LEAST
 returns-then-reply-lt-REPLY_LEAST c = expression_unheard c.args.text.now c.args.pool.now c.args.reply.now c.if-reply-lt-REPLY_LEAST.true
 
 pub returns : goal.returns
-returns c = expression_told c.args.text.now c.args.pool.now c.args.reply.now c.if-pool-lt-POOL_LEAST.false c.if-reply-lt-REPLY_LEAST.false c.expression-drawing.result c.expression-drawing.ensures c.put_drawn.ensures c.tell_drawn.ensures c.put_told.ensures
+returns c = expression_told c.args.text.now c.args.pool.now c.args.reply.now c.if-pool-lt-POOL_LEAST.false c.if-reply-lt-REPLY_LEAST.false c.expression-drawn.result c.expression-drawn.ensures c.put_drawn.ensures c.tell_drawn.ensures c.put_told.ensures

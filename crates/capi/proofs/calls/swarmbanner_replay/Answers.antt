@@ -8,4 +8,4 @@ pub returns-then-reply-lt-REPLY_LEAST : goal.returns-then-reply-lt-REPLY_LEAST
 returns-then-reply-lt-REPLY_LEAST c = replay_unheard c.args.file.now c.args.trace.now c.args.memory.now c.args.run.now c.args.reply.now c.if-reply-lt-REPLY_LEAST.true
 
 pub returns : goal.returns
-returns c = replay_told_lem c.args.file.now c.args.trace.now c.args.memory.now c.args.run.now c.args.reply.now c.if-run-lt-RECORD_LEAST.false c.if-reply-lt-REPLY_LEAST.false c.replay_from-replayed.result.ended c.replay_from-replayed.result.«record» c.replay_from-replayed.ensures c.put_run.ensures c.tell_replay.ensures c.put_told.ensures
+returns c = replay_told_lem c.args.file.now c.args.trace.now c.args.memory.now c.args.run.now c.args.reply.now c.if-run-lt-RECORD_LEAST.false c.if-reply-lt-REPLY_LEAST.false c.replay-ended.result c.replay-ended.new.r c.replay-ended.ensures c.put_run.ensures c.tell_replay.ensures c.put_told.ensures
