@@ -1,4 +1,7 @@
 // A digest of all entries of the tables, used or not.
+ghost use Rattle.std.specs.Prelude.{◌<◌};
+ghost use Rattle.streams.specs.Lent.{modulus};
+
 use streams::lent::RunningDigest;
 use tables::tables::{Machines, Queues, Tables};
 
@@ -17,7 +20,9 @@ fn queues(digest: &mut RunningDigest, q: &Queues) {
     digest.number(q.sum as u16);
 }
 
-pub fn digest(t: &Tables) -> u64 {
+pub fn digest(t: &Tables) -> u64
+    ensures { result < modulus }
+{
     let mut digest = RunningDigest::new();
     machines(&mut digest, &t.machines);
     queues(&mut digest, &t.queues);
