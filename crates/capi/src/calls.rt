@@ -121,7 +121,7 @@ pub extern "C" fn swarmbanner_replay(
         lengths: [0usize; MOST_QUEUES as usize],
     };
     let ended = replay(&mut record, file, trace, memory);
-    put_run(run, &ended, &record);
+    put_run(run, ended, record);
     put_told(reply, tell_replay(ended))
 }
 

@@ -1,4 +1,6 @@
 // The line of a file with memory that is just enough, and with each part of it one short.
+ghost use Rattle.std.specs.Prelude.{◌<◌};
+
 use checking_answer::{MOST_LINE, answer as answer_in};
 use std::io::Write;
 use streams::print_front;
@@ -14,7 +16,11 @@ pub(crate) fn answer<W: Write>(output: &mut W, file: &[u8]) -> Option<()> {
 fn answer_with<W: Write, const SEEN: usize, const QUEUE: usize, const CONTENTS: usize>(
     output: &mut W,
     file: &[u8],
-) -> Option<()> {
+) -> Option<()>
+    requires seen { SEEN < 65536 }
+    requires queue { QUEUE < 65536 }
+    requires contents { CONTENTS < 65536 }
+{
     let mut seen = [7u16; SEEN];
     let mut queue = [7u16; QUEUE];
     let mut contents = [7u8; CONTENTS];

@@ -23,7 +23,15 @@ pub(crate) fn answer<R: Read, W: Write>(
     if memory.len() < room {
         return None;
     }
-    answer_in(output, file, &trace[..length], &mut memory[..room], head[2], head[3]).ok()
+    answer_in(
+        output,
+        file,
+        &trace[..length],
+        &mut memory[..room],
+        head[2],
+        head[3],
+    )
+    .ok()
 }
 
 // Answers the replay in this memory.

@@ -1,5 +1,5 @@
 // The line of one replay: the reply, the numbers of the record and the digest of the memory, with bars between them.
-use numbers::refusal::{NOT_POSSIBLE, QUEUE_FULL};
+use numbers::refusal::{MOST_BYTES, NOT_POSSIBLE, QUEUE_FULL, SHORT_MEMORY, TOO_LONG};
 use replaying_step::runs::RunRecord;
 use replaying_trace::progress::{Ended, ReplayRefusal, Stop};
 use std::io;
@@ -21,12 +21,15 @@ fn ended<W: Write>(output: &mut W, ended: Ended) -> io::Result<()> {
 }
 
 fn refused<W: Write>(output: &mut W, why: ReplayRefusal) -> io::Result<()> {
-    let what = match why {
-        ReplayRefusal::File(_) => "file",
-        ReplayRefusal::TraceTooLong => "trace",
-        ReplayRefusal::MemoryShort => "memory",
-    };
-    write!(output, "{what} refused {} at {}", why.number(), why.place())
+    match why {
+        ReplayRefusal::File(why) => {
+            write!(output, "file refused {} at {}", why.number(), why.place())
+        }
+        ReplayRefusal::TraceTooLong => {
+            write!(output, "trace refused {} at {}", TOO_LONG, MOST_BYTES)
+        }
+        ReplayRefusal::MemoryShort => write!(output, "memory refused {} at 0", SHORT_MEMORY),
+    }
 }
 
 fn numbers<W: Write>(output: &mut W, numbers: &[usize]) -> io::Result<()> {

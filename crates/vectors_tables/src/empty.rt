@@ -1,7 +1,8 @@
 // Tables whose entries are all 0, which stand for a file that is refused.
 use tables::kinds::DiagramState;
 use tables::tables::{
-    BadList, ENTRIES, MOST_CONTROLS, Machines, Map, POOL_ARCS, Pool, Queues, ROWS, Tables, Transitions,
+    BadList, ENTRIES, MOST_CONTROLS, Machines, Map, POOL_ARCS, Pool, Queues, ROWS, Tables,
+    Transitions,
 };
 
 pub(crate) fn empty_tables() -> Tables {

@@ -31,7 +31,13 @@ fn main(rt: HostRuntime) {
     let mut question = [0u8; SPACE];
     let mut buffer = [0u8; SPACE];
     for _ in 0..MOST_RECORDS {
-        let told = answer_next(&mut input, &mut output, &mut file, &mut question, &mut buffer);
+        let told = answer_next(
+            &mut input,
+            &mut output,
+            &mut file,
+            &mut question,
+            &mut buffer,
+        );
         if told.is_none() {
             return;
         }

@@ -14,7 +14,11 @@ fn refused<W: Write>(output: &mut W, why: Refusal) -> io::Result<()> {
 
 fn found<W: Write>(output: &mut W, t: &Tables) -> io::Result<()> {
     let (m, q) = (&t.machines, &t.queues);
-    write!(output, "read {} {} {} {}", m.count, m.product, q.count, q.sum)?;
+    write!(
+        output,
+        "read {} {} {} {}",
+        m.count, m.product, q.count, q.sum
+    )?;
     let (rows, states, bad) = (t.transitions.count, t.pool.count, t.bad.count);
     writeln!(output, " {rows} {states} {bad} {}", digest(t))
 }
