@@ -5,6 +5,7 @@ use Rattle.tables.specs.Limits.{most_pool, most_controls, most_bad}
 use Rattle.tables.specs.Rows.{rows_length}
 use Rattle.tables.specs.Pool.{pool_arcs}
 use Rattle.tables.specs.Head.{tables_of}
+use Rattle.tables.specs.declared.head.Head.{Head}
 use Rattle.tables.specs.declared.tables.SetTables.{SetTables}
 use Rattle.tables.specs.declared.tables.Tables.{Tables}
 use Rattle.reading_file.specs.declared.reading.HeadRead.{HeadRead}
@@ -17,9 +18,13 @@ Blank rows finals arcs = (rows ≡ replicate rows_length 0) × ((finals ≡ repl
 abbrev pub NoSets : SetTables → Type 0
 NoSets D = (D.map.roots ≡ replicate most_controls 0) × (D.bad.rows ≡ replicate (most_bad * 2) 0)
 
+-- the tables of the three lent tables, the sets and a head
+abbrev pub headed : List ℕ → List ℕ → List ℕ → SetTables → Head → Tables
+headed rows finals arcs D h = tables_of h rows finals arcs D.map.roots D.bad.rows
+
 -- the tables of a head and the three lent tables: rows, final marks, arcs
 abbrev pub lent_tables : List ℕ → List ℕ → List ℕ → HeadRead → Tables
-lent_tables rows finals arcs h = tables_of h.head rows finals arcs h.sets.map.roots h.sets.bad.rows
+lent_tables rows finals arcs h = headed rows finals arcs h.sets h.head
 
 -- the reading into the three lent tables
 abbrev pub lent_reading : Result HeadRead Refusal → List ℕ → List ℕ → List ℕ → Result Tables Refusal

@@ -3,7 +3,7 @@
 ghost use Rattle.std.specs.Prelude.{◌≡◌, OnErr};
 ghost use Rattle.numbers.specs.Said.{said_with};
 ghost use Rattle.reading_file.specs.File.{Reads, read_file};
-ghost use Rattle.reading_file.specs.Lent.{Blank, lent_tables, lent_reading};
+ghost use Rattle.reading_file.specs.Lent.{Blank, NoSets, headed, lent_reading};
 
 use crate::ends::read_ends;
 use numbers::reader::Reader;
@@ -30,10 +30,12 @@ fn read_open(
     rows: &mut [u8; ROWS],
     finals: &mut [u8; DiagramState::LIMIT],
     arcs: &mut [u8; POOL_ARCS],
-) -> Result<HeadRead, Refusal>
+    sets: &mut SetTables,
+) -> Result<Head, Refusal>
     requires blank { Blank rows.old finals.old arcs.old }
+    requires no_sets { NoSets sets.old }
     requires begins { r.old.place ≡ 0 }
-    ensures { said_with (lent_tables rows.new finals.new arcs.new) result r.new.place ≡ read_file r.old.bytes.now }
+    ensures { said_with (headed rows.new finals.new arcs.new sets.new) result r.new.place ≡ read_file r.old.bytes.now }
 {
     if MOST_BYTES < r.bytes.len() {
         return Err(Refusal::TooLong);
@@ -42,33 +44,13 @@ fn read_open(
     let machines = model.machines;
     let queues = model.queues;
     let states = read_pool(r, queues.sum, finals, arcs)?;
-    let mut sets = SetTables {
-        map: Map {
-            roots: [0u8; MOST_CONTROLS],
-        },
-        bad: BadList {
-            count: 0,
-            rows: [0u8; ENTRIES],
-        },
-    };
-    read_ends(
-        r,
-        machines.product,
-        &queues,
+    read_ends(r, machines.product, &queues, states, finals, arcs, sets)?;
+    Ok(Head {
+        machines,
+        queues,
+        transitions: model.transitions,
         states,
-        finals,
-        arcs,
-        &mut sets,
-    )?;
-    Ok(HeadRead {
-        sets,
-        head: Head {
-            machines,
-            queues,
-            transitions: model.transitions,
-            states,
-            bad: sets.bad.count,
-        },
+        bad: sets.bad.count,
     })
 }
 
@@ -84,13 +66,24 @@ pub fn read_into(
     ensures cleared { OnErr result (Blank rows.new finals.new arcs.new) }
 {
     let mut r = Reader::new(s, 0);
-    let read = read_open(&mut r, rows, finals, arcs);
-    if read.is_err() {
-        *rows = [0u8; ROWS];
-        *finals = [0u8; DiagramState::LIMIT];
-        *arcs = [0u8; POOL_ARCS];
+    let mut sets = SetTables {
+        map: Map {
+            roots: [0u8; MOST_CONTROLS],
+        },
+        bad: BadList {
+            count: 0,
+            rows: [0u8; ENTRIES],
+        },
+    };
+    match read_open(&mut r, rows, finals, arcs, &mut sets) {
+        Ok(head) => Ok(HeadRead { sets, head }),
+        Err(why) => {
+            *rows = [0u8; ROWS];
+            *finals = [0u8; DiagramState::LIMIT];
+            *arcs = [0u8; POOL_ARCS];
+            Err(why)
+        }
     }
-    read
 }
 
 // The tables of a session file, or why it is refused.
