@@ -7,7 +7,7 @@ use crate::QUEUE_ROOM;
 use tables::tables::MOST_QUEUES;
 
 // The ring begins at base in the memory. Its oldest message stands at its place head, and so many messages wait.
-#[derive(Clone, Copy)]
+#[derive(Clone, Copy, Debug, PartialEq, Eq)]
 pub struct QueueRing {
     pub base: usize,
     pub head: usize,

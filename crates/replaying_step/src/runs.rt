@@ -2,7 +2,7 @@
 use tables::tables::{MOST_MACHINES, MOST_QUEUES};
 
 // Each machine's state, and for each queue where its oldest message stands in its ring and how many messages wait; 0 beyond the counts.
-#[derive(Clone, Copy)]
+#[derive(Clone, Copy, Debug, PartialEq, Eq)]
 pub struct RunRecord {
     pub states: [u8; MOST_MACHINES as usize],
     pub heads: [usize; MOST_QUEUES as usize],

@@ -8,14 +8,14 @@ use replaying_step::inside::Outside;
 use replaying_step::runs::RunRecord;
 
 // The place in the trace that a replay has come to, and the steps taken.
-#[derive(Clone, Copy)]
+#[derive(Clone, Copy, Debug, PartialEq, Eq)]
 pub struct Progress {
     pub at: usize,
     pub steps: usize,
 }
 
 // Why a replay ended. Places of a step are in the trace.
-#[derive(Clone, Copy)]
+#[derive(Clone, Copy, Debug, PartialEq, Eq)]
 pub enum Stop {
     // the end of the trace
     End,
@@ -46,7 +46,7 @@ impl From<Refusal> for Stop {
 }
 
 // Why a replay does not begin.
-#[derive(Clone, Copy)]
+#[derive(Clone, Copy, Debug, PartialEq, Eq)]
 pub enum ReplayRefusal {
     // the file is refused
     File(Refusal),
@@ -64,14 +64,14 @@ impl From<Refusal> for ReplayRefusal {
     }
 }
 
-#[derive(Clone, Copy)]
+#[derive(Clone, Copy, Debug, PartialEq, Eq)]
 pub struct Ended {
     pub why: Stop,
     pub steps: usize,
 }
 
 // After a replay; where there was none the record is the one before.
-#[derive(Clone, Copy)]
+#[derive(Clone, Copy, Debug, PartialEq, Eq)]
 pub struct Replayed {
     pub record: RunRecord,
     pub ended: Result<Ended, ReplayRefusal>,
