@@ -9,7 +9,7 @@ use numbers::put::put_word;
 use tables::kinds::DiagramState;
 use tables::tables::{POOL_ARCS, Pool};
 
-// The kind of a diagram, as the header names it.
+// The kind of a diagram, as the header names it: a constant, since C compares numbers.
 pub const DRAWN: usize = 15;
 
 // Bytes that the pool's space needs: final marks and arcs.

@@ -126,10 +126,7 @@ pub fn tell_member(m: Result<Member, MemberRefusal>) -> Told
     match m {
         Ok(Member::Yes(far)) => counted(YES, far),
         Ok(Member::No(far)) => counted(NO, far),
-        Err(MemberRefusal::File(why)) => tell_refusal(why),
-        Err(MemberRefusal::NoControl) => refused(NO_CONTROL, 0),
-        Err(MemberRefusal::NoMessage(at)) => refused(NO_MESSAGE, at),
-        Err(MemberRefusal::EarlierQueue(at)) => refused(EARLIER_QUEUE, at),
+        Err(why) => refused(why.number(), why.place()),
     }
 }
 

@@ -20,7 +20,7 @@ fn has_room(room: usize, contents: usize, shown: usize) -> bool
 
 fn put_closed(s: &mut [u8], pairs: usize) -> usize
     requires { 52 ≤ length s.old }
-    ensures { Put s.old 0 52 (line (closed pairs)) s.new result }
+    ensures { Put s.old 0 18 (line (closed pairs)) s.new result }
 {
     let word = put_word(s, 0, b"closed");
     let number = put_spaced(s, word, 10, pairs);
@@ -29,7 +29,7 @@ fn put_closed(s: &mut [u8], pairs: usize) -> usize
 
 fn put_outside(s: &mut [u8]) -> usize
     requires { 52 ≤ length s.old }
-    ensures { Put s.old 0 52 (line outside) s.new result }
+    ensures { Put s.old 0 8 (line outside) s.new result }
 {
     let word = put_word(s, 0, b"outside");
     put_byte(s, word, b'\n')
@@ -37,7 +37,7 @@ fn put_outside(s: &mut [u8]) -> usize
 
 fn put_refused(s: &mut [u8], cause: usize, place: usize) -> usize
     requires { 52 ≤ length s.old }
-    ensures { Put s.old 0 52 (refused_line cause place) s.new result }
+    ensures { Put s.old 0 33 (refused_line cause place) s.new result }
 {
     let word = put_word(s, 0, b"refused");
     let number = put_spaced(s, word, 10, cause);
@@ -61,7 +61,7 @@ fn put_leaves(s: &mut [u8], control: usize, transition: usize, shown: &[u8], far
 
 fn put_bad(s: &mut [u8], entry: usize, shown: &[u8]) -> usize
     requires { 4 * length shown.now + 52 ≤ length s.old }
-    ensures { Put s.old 0 (4 * length shown.now + 52) (line (bad entry shown.now)) s.new result }
+    ensures { Put s.old 0 (4 * length shown.now + 27) (line (bad entry shown.now)) s.new result }
 {
     let word = put_word(s, 0, b"bad");
     let number = put_spaced(s, word, 10, entry);

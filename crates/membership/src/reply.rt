@@ -5,7 +5,7 @@ ghost use Rattle.membership.specs.Said.{why_number, why_place};
 
 use numbers::refusal::{EARLIER_QUEUE, NO_CONTROL, NO_MESSAGE, Refusal};
 
-// With how many messages are followed: of a yes, all of them.
+// With how many messages are followed: of a yes, all of them. A no is an answer and no error, so it is no `Err`.
 #[derive(Clone, Copy, Debug, PartialEq, Eq)]
 pub enum Member {
     Yes(usize),

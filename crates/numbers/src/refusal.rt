@@ -5,7 +5,8 @@ ghost use Rattle.numbers.specs.Said.{number_of, place_of};
 // The most bytes of an input.
 pub const MOST_BYTES: usize = 16384;
 
-// The numbers of the refusals, of documents 01 and 02, each with what is so.
+// The numbers of the refusals, of documents 01 and 02, each with what is so. They are constants: each is told to C and printed, and the refusals that
+// have them are of several enums, one for each service.
 
 // More bytes than an input may have.
 pub const TOO_LONG: usize = 1;

@@ -8,6 +8,7 @@ pub fn read_input<R: Read>(input: &mut R, space: &mut [u8]) -> io::Result<usize>
     ensures { IfOk result (λ n. n ≤ length space.new) }
 {
     let mut done: usize = 0;
+    // how far each read comes only the system knows, so no range has it
     while done < space.len() {
         match input.read(&mut space[done..])? {
             0 => return Ok(done),

@@ -57,24 +57,24 @@ put_listed messages x y = put_then x y (omega arith)
 
 -- THE LINES
 module _ {a b c d : List ℕ} {p q r : ℕ} where
-  pub put_closed : (n : ℕ) → Put a 0 6 closed_word b p → Put b p 11 (spaced n) c q → Put c q 1 newline d r → Put a 0 52 (line (closed n)) d r
+  pub put_closed : (n : ℕ) → Put a 0 6 closed_word b p → Put b p 11 (spaced n) c q → Put c q 1 newline d r → Put a 0 18 (line (closed n)) d r
   unfolding line
   put_closed n x y z = put_then x (put_then {most = 12} y z (omega arith)) (omega arith)
 
-pub put_outside : {a b c : List ℕ} {p r : ℕ} → Put a 0 7 outside_word b p → Put b p 1 newline c r → Put a 0 52 (line outside) c r
+pub put_outside : {a b c : List ℕ} {p r : ℕ} → Put a 0 7 outside_word b p → Put b p 1 newline c r → Put a 0 8 (line outside) c r
 unfolding line
 put_outside x y = put_then x y (omega arith)
 
 module _ {a b c d e f : List ℕ} {p q s t r : ℕ} where
   pub put_refused : (k n : ℕ) → Put a 0 7 refused_word b p → Put b p 11 (spaced k) c q → Put c q 3 at_word d s → Put d s 11 (spaced n) e t
-      → Put e t 1 newline f r → Put a 0 52 (refused_line k n) f r
+      → Put e t 1 newline f r → Put a 0 33 (refused_line k n) f r
   unfolding refused_line
   put_refused k n u v w x y =
       put_then u (put_then {most = 26} v (put_then {most = 15} w (put_then {most = 12} x y (omega arith)) (omega arith)) (omega arith)) (omega arith)
 
   pub put_bad : (number : ℕ) (shown : List ℕ) → Put a 0 3 bad_word b p → Put b p 11 (spaced number) c q
       → Put c q 11 (spaced (length shown)) d s → Put d s (1 + 4 * length shown) (listed shown) e t → Put e t 1 newline f r
-      → Put a 0 (4 * length shown + 52) (line (bad number shown)) f r
+      → Put a 0 (4 * length shown + 27) (line (bad number shown)) f r
   unfolding line
   put_bad number shown u v w x y =
       put_then u

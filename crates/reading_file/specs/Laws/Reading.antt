@@ -10,19 +10,44 @@ use Rattle.numbers.specs.declared.refusal.Refusal.{Refusal}
 use Rattle.numbers.specs.declared.refusal.Refusal.TheVariants.{TooLong, Ends, NotShortest, OutOfRange, PassesLimit, OtherQueue, NotAscending, NotInQueueOrder, Trailing, StartsEmpty}
 use Rattle.tables.specs.declared.tables.Tables.{Tables}
 
--- the result that says a reply, with tables T where all was read
-unsaid : Tables → ReadReply → Result Tables Refusal
-unsaid T read = Ok T
-unsaid T (refusal k p) =
-    cond (eqb k 1) (Err TooLong)
-    (cond (eqb k 3) (Err (Ends p))
-    (cond (eqb k 4) (Err (NotShortest p))
-    (cond (eqb k 5) (Err (OutOfRange p))
-    (cond (eqb k 6) (Err (PassesLimit p))
-    (cond (eqb k 7) (Err (OtherQueue p))
-    (cond (eqb k 8) (Err (NotAscending p))
-    (cond (eqb k 9) (Err (NotInQueueOrder p))
-    (cond (eqb k 10) (Err (Trailing p)) (Err StartsEmpty)))))))))
+-- the result that says a reply, with this value where all was read
+module _ {A : Type 0} where
+  unsaid : A → ReadReply → Result A Refusal
+  unsaid x read = Ok x
+  unsaid x (refusal k p) =
+      cond (eqb k 1) (Err TooLong)
+      (cond (eqb k 3) (Err (Ends p))
+      (cond (eqb k 4) (Err (NotShortest p))
+      (cond (eqb k 5) (Err (OutOfRange p))
+      (cond (eqb k 6) (Err (PassesLimit p))
+      (cond (eqb k 7) (Err (OtherQueue p))
+      (cond (eqb k 8) (Err (NotAscending p))
+      (cond (eqb k 9) (Err (NotInQueueOrder p))
+      (cond (eqb k 10) (Err (Trailing p)) (Err StartsEmpty)))))))))
+
+  -- a result without what was read: the answer alone
+  abbrev pub answer_of : Result A Refusal → Result (Unit {0}) Refusal
+  answer_of (Ok x) = Ok tt
+  answer_of (Err why) = Err why
+
+module _ {A : Type 0} where
+  unsaid_answer : (r : Result A Refusal) → unsaid tt (said_answer r) ≡ answer_of r
+  unfolding unsaid
+  unsaid_answer (Ok x) = refl
+  unsaid_answer (Err TooLong) = refl
+  unsaid_answer (Err (Ends p)) = refl
+  unsaid_answer (Err (NotShortest p)) = refl
+  unsaid_answer (Err (OutOfRange p)) = refl
+  unsaid_answer (Err (PassesLimit p)) = refl
+  unsaid_answer (Err (OtherQueue p)) = refl
+  unsaid_answer (Err (NotAscending p)) = refl
+  unsaid_answer (Err (NotInQueueOrder p)) = refl
+  unsaid_answer (Err (Trailing p)) = refl
+  unsaid_answer (Err StartsEmpty) = refl
+
+  -- no two answers say the same
+  pub said_apart : (a b : Result A Refusal) → said_answer a ≡ said_answer b → answer_of a ≡ answer_of b
+  said_apart a b e = sym (unsaid_answer a) ∙ ap (unsaid tt) e ∙ unsaid_answer b
 
 unsaid_said : (r : Result Tables Refusal) → unsaid (handed r) (said_answer r) ≡ r
 unfolding unsaid
@@ -39,12 +64,12 @@ unsaid_said (Err (Trailing p)) = refl
 unsaid_said (Err StartsEmpty) = refl
 
 -- no two results say the same of the same tables
-pub said_apart : (a b : Result Tables Refusal) → said_answer a ≡ said_answer b → handed a ≡ handed b → a ≡ b
-said_apart a b e f = sym (unsaid_said a) ∙ ap₂ unsaid f e ∙ unsaid_said b
+pub results_apart : (a b : Result Tables Refusal) → said_answer a ≡ said_answer b → handed a ≡ handed b → a ≡ b
+results_apart a b e f = sym (unsaid_said a) ∙ ap₂ unsaid f e ∙ unsaid_said b
 
 -- THE PROMISE LEAVES ONE READING
 pub reading_one : (x : Part Tables) (r r' : Result Tables Refusal) → Reads x r → Reads x r' → r ≡ r'
-reading_one x r r' h h' = said_apart r r' (h.reply ∙ sym h'.reply) (h.tables ∙ sym h'.tables)
+reading_one x r r' h h' = results_apart r r' (h.reply ∙ sym h'.reply) (h.tables ∙ sym h'.tables)
 
 -- one answer and one set of tables for each file
 pub reading_alone : (x : Part Tables) (r r' : Result Tables Refusal) → Reads x r → Reads x r'
