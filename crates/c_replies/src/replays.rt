@@ -73,7 +73,7 @@ fn tell_ended(e: Ended) -> Told
     }
 }
 
-// The record's numbers, at the front of the space.
+// The record's numbers, at the front of the space. Twelve stores prove by computing; three loops would each ask for an invariant.
 fn put_record(run: &mut [usize], r: RunRecord)
     requires { record_least ≤ length run.old }
     ensures { run.new ≡ record_out r ++ drop record_least run.old }

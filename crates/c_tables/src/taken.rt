@@ -23,7 +23,7 @@ fn part_at<const N: usize>(tables: &[u8], at: usize) -> [u8; N]
     bytes
 }
 
-// The product of the first entries.
+// The product of the first entries. `controls` has that of the machines from one on, the last first, as its definition goes.
 fn product(states: &[u8], count: usize) -> usize
     requires count_le_most_machines { count ≤ most_machines }
     requires states_len { length states.now ≡ most_machines }

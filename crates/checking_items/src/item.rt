@@ -55,7 +55,8 @@ pub fn judge_step(
     judge(&over, root, m.seen, m.queue, m.contents)
 }
 
-// A bad entry: contents of its control state that lead from its root to a final state.
+// A bad entry: contents of its control state that lead from its root to a final state. It shares with a step the call of `judge`; what a walk needs of
+// either, one function would be handed as parameters.
 pub fn judge_entry(
     s: &Session<'_>,
     control: ControlState,

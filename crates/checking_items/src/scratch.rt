@@ -1,4 +1,5 @@
-// What a caller lends for judging: the two tables of a walk, and the buffer for the contents that are shown.
+// What a caller lends for judging: the two tables of a walk, and the buffer for the contents that are shown. That they are ready stays a clause of each
+// function: the check does not cover a ghost field beside a `&mut`.
 #[derive(Drop)]
 pub struct Scratch<'a> {
     pub seen: &'a mut [u16],

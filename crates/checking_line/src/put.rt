@@ -1,4 +1,5 @@
-// Numbers and messages in decimal, each put into a buffer from a place on. Each function answers the place after what it put.
+// Numbers and messages in decimal, each put into a buffer from a place on. Each function answers the place after what it put. The digits are put by hand,
+// since the promise `Writes` says of a lent buffer every byte, by the definition `digits`.
 ghost use Rattle.std.specs.Prelude.{◌+◌, ◌*◌, ◌≤◌, ◌<◌, ◌≡◌, ◌∷◌, length};
 ghost use Rattle.theory_model.specs.Line.{digits, spaced_all, listed};
 ghost use Rattle.numbers.specs.Put.{Put};

@@ -5,6 +5,7 @@ ghost use Rattle.checking_pairs.specs.Pairs.{most_codes, decode};
 ghost use Rattle.checking_pairs.specs.Marks.{Tables, Pushed, Blank};
 ghost use Rattle.checking_pairs.specs.Kept.{Kept};
 
+// What holds of the tables stays a clause of each function: the check does not cover a ghost field beside a `&mut`.
 #[derive(Drop)]
 pub struct Marks<'a> {
     // At the number of a pair that was found 1 more than the place in the queue that it was found from; else 0.

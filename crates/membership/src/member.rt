@@ -38,7 +38,7 @@ fn queue_of(q: &Queues, m: Message) -> u8
 fn followed(at: Reached) -> usize
     ensures { result ≡ one_more (reached_of at.0) 0 }
 {
-    if at.is_nowhere() { 0 } else { 1 }
+    usize::from(!at.is_nowhere())
 }
 
 // Every message is held to its number and its queue, also where the diagram has nowhere to go.

@@ -40,7 +40,7 @@ fn main(rt: HostRuntime) {
     }
 }
 
-// Answers the next record of the stream, if there is one. The contents of a question, or a trace, go into the second space, the memory of a replay is
+// Answers the next record of the stream, if there is one. Each of the two programs has this for itself, since what it lends to an answer differs. The contents of a question, or a trace, go into the second space, the memory of a replay is
 // the third.
 fn answer_next<R: Read, W: Write>(
     input: &mut R,

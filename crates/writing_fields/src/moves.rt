@@ -55,7 +55,7 @@ fn put_action(w: &mut Writer<'_>, rows: &[u8], row: usize)
     w.entries(rows, row + WORD, length as usize);
 }
 
-// The kind, and the action of kinds 1 and 2.
+// The kind, and the action of kinds 1 and 2. The byte goes out as it is, whatever it is, so no `Kind` is made of it to be asked one thing.
 fn put_kind(w: &mut Writer<'_>, rows: &[u8], row: usize)
     requires room { Room w.old 516 }
     requires row_bound { row ≤ 10000 }
