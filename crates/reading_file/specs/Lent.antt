@@ -1,7 +1,7 @@
 -- The reading where rows, final marks and arcs went into lent tables.
-use Rattle.std.specs.Prelude.{ℕ, ◌≡◌, ◌*◌, List, Result, Ok, Err, replicate}
+use Rattle.std.specs.Prelude.{ℕ, ◌≡◌, List, Result, Ok, Err, replicate}
 use Rattle.numbers.specs.declared.refusal.Refusal.{Refusal}
-use Rattle.tables.specs.Limits.{most_pool, most_controls, most_bad}
+use Rattle.tables.specs.Limits.{most_pool}
 use Rattle.tables.specs.Rows.{rows_length}
 use Rattle.tables.specs.Pool.{pool_arcs}
 use Rattle.tables.specs.Head.{tables_of}
@@ -13,10 +13,6 @@ use Rattle.reading_file.specs.declared.reading.HeadRead.{HeadRead}
 -- WHAT IS ASKED of the lent tables: all entries are 0
 abbrev pub Blank : List ℕ → List ℕ → List ℕ → Type 0
 Blank rows finals arcs = (rows ≡ replicate rows_length 0) × ((finals ≡ replicate most_pool 0) × (arcs ≡ replicate pool_arcs 0))
-
--- WHAT IS ASKED of the lent sets: their entries are 0
-abbrev pub NoSets : SetTables → Type 0
-NoSets D = (D.map.roots ≡ replicate most_controls 0) × (D.bad.rows ≡ replicate (most_bad * 2) 0)
 
 -- the tables of the three lent tables, the sets and a head
 abbrev pub headed : List ℕ → List ℕ → List ℕ → SetTables → Head → Tables

@@ -35,11 +35,11 @@ pub(crate) fn read_bad(
     n: u8,
     bad: &mut BadList,
 ) -> Result<(), Refusal>
-    requires product_le_most_controls { product ≤ most_controls }
-    requires no_rows { bad.old.rows ≡ replicate (most_bad * 2) 0 }
+    requires { product ≤ most_controls }
     ensures read { said_with (λ _. bad.new) result r.new.place ≡ read_bad r.old.bytes.now r.old.place product n }
     ensures bytes { r.new.bytes ≡ r.old.bytes }
 {
+    bad.rows = [0u8; ENTRIES];
     let count = r.within(0, MOST_BAD)?;
     bad.count = count;
     read_entries(r, product, n, usize::from(count), &mut bad.rows)

@@ -6,7 +6,6 @@ ghost use Rattle.reading_pool.specs.Lent.{lent_pool};
 ghost use Rattle.tables.specs.Limits.{most_controls};
 ghost use Rattle.tables.specs.Valid.{QueuesValid, PoolValid};
 ghost use Rattle.reading_file.specs.Ends.{read_ends};
-ghost use Rattle.reading_file.specs.Lent.{NoSets};
 
 use crate::sets::read_sets;
 use numbers::reader::Reader;
@@ -14,7 +13,7 @@ use numbers::refusal::Refusal;
 use reading_order::order::in_queue_order;
 use tables::tables::{Queues, SetTables};
 
-// Over so many control states, these queues, and the pool of so many states with these final marks and arcs. The sets go into tables of 0.
+// Over so many control states, these queues, and the pool of so many states with these final marks and arcs. The sets that are lent are those read, whatever they were.
 pub fn read_ends(
     r: &mut Reader<'_>,
     product: usize,
@@ -27,7 +26,6 @@ pub fn read_ends(
     requires product_le_most_controls { product ≤ most_controls }
     requires queues_valid { QueuesValid q.now }
     requires pool_valid { PoolValid q.now.sum (lent_pool states finals.now arcs.now) }
-    requires no_sets { NoSets sets.old }
     ensures read { said_with (λ _. sets.new) result r.new.place ≡ read_ends r.old.bytes.now r.old.place product q.now (lent_pool states finals.now arcs.now) }
     ensures bytes { r.new.bytes ≡ r.old.bytes }
 {

@@ -31,10 +31,10 @@ pub(crate) fn read_map(
     n: u8,
     map: &mut Map,
 ) -> Result<(), Refusal>
-    requires product_le_most_controls { product ≤ most_controls }
-    requires no_roots { map.old.roots ≡ replicate most_controls 0 }
+    requires { product ≤ most_controls }
     ensures read { said_with (λ _. map.new) result r.new.place ≡ read_map r.old.bytes.now r.old.place product n }
     ensures bytes { r.new.bytes ≡ r.old.bytes }
 {
+    map.roots = [0u8; MOST_CONTROLS];
     read_roots(r, n, product, &mut map.roots)
 }

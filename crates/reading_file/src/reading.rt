@@ -3,7 +3,7 @@
 ghost use Rattle.std.specs.Prelude.{◌≡◌, OnErr};
 ghost use Rattle.numbers.specs.Said.{said_with};
 ghost use Rattle.reading_file.specs.File.{Reads, read_file};
-ghost use Rattle.reading_file.specs.Lent.{Blank, NoSets, headed, lent_reading};
+ghost use Rattle.reading_file.specs.Lent.{Blank, headed, lent_reading};
 
 use crate::ends::read_ends;
 use numbers::reader::Reader;
@@ -33,7 +33,6 @@ fn read_open(
     sets: &mut SetTables,
 ) -> Result<Head, Refusal>
     requires blank { Blank rows.old finals.old arcs.old }
-    requires no_sets { NoSets sets.old }
     requires begins { r.old.place ≡ 0 }
     ensures { said_with (headed rows.new finals.new arcs.new sets.new) result r.new.place ≡ read_file r.old.bytes.now }
 {

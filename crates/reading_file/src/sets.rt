@@ -3,7 +3,6 @@ ghost use Rattle.std.specs.Prelude.{◌≡◌, ◌≤◌};
 ghost use Rattle.numbers.specs.Said.{said_with};
 ghost use Rattle.tables.specs.Limits.{most_controls};
 ghost use Rattle.reading_file.specs.Sets.{read_sets};
-ghost use Rattle.reading_file.specs.Lent.{NoSets};
 
 use crate::bad::read_bad;
 use crate::map::read_map;
@@ -18,8 +17,7 @@ pub fn read_sets(
     n: u8,
     sets: &mut SetTables,
 ) -> Result<(), Refusal>
-    requires product_le_most_controls { product ≤ most_controls }
-    requires no_sets { NoSets sets.old }
+    requires { product ≤ most_controls }
     ensures read { said_with (λ _. sets.new) result r.new.place ≡ read_sets r.old.bytes.now r.old.place product n }
     ensures bytes { r.new.bytes ≡ r.old.bytes }
 {
