@@ -66,7 +66,7 @@ pub record Performs (a : Action) (rows : List ℕ) (row : ℕ) (r : RunRecord) (
   pub shifts : (q : Queues) → Shiftable q rows row r.heads r.lengths mem → Shifts q a r.heads r.lengths mem t r'.heads r'.lengths mem'
 
 abbrev pub Sends : List ℕ → ℕ → RunRecord → List ℕ → Result ⊤ Untaken → RunRecord → List ℕ → Type 0
-Sends rows row r mem t r' mem' = Performs (send (queue_at rows row) (word_at rows row)) rows row r mem t r' mem'
+Sends rows row r mem t r' mem' = Performs (send (queue_at rows row) (word_at rows row)) rows row r mem t r' mem' × (r'.heads ≡ r.heads)
 
 abbrev pub Receives : List ℕ → ℕ → RunRecord → List ℕ → Result ⊤ Untaken → RunRecord → Type 0
 Receives rows row r mem t r' = Performs (receive (queue_at rows row) (word_at rows row)) rows row r mem t r' mem
