@@ -1,14 +1,12 @@
 // The search over the pairs of a walk, breadth first in lent tables.
 ghost use Rattle.std.specs.Prelude.{◌≡◌, suc, ◌-◌, ◌<◌, ◌≤◌, length};
-ghost use Rattle.theory_exploration.specs.Search.{search as searched};
 ghost use Rattle.tables.specs.Limits.{most_messages};
-ghost use Rattle.theory_model.specs.Judge.{same};
 ghost use Rattle.checking_pairs.specs.Pairs.{most_codes, pair_of, NodeFits};
 ghost use Rattle.checking_pairs.specs.Marks.{view, Tables, Pushed, Swept, Blank};
 ghost use Rattle.checking_pairs.specs.Over.{go_over, wrong_over, search_over, read_from};
 ghost use Rattle.checking_pairs.specs.Leads.{said_next, Small};
 ghost use Rattle.checking_pairs.specs.Kept.{Kept};
-ghost use Rattle.checking_walk.specs.Answers.{Answered};
+ghost use Rattle.checking_walk.specs.Answers.{search_on, Answered};
 
 use checking_pairs::marks::Marks;
 use checking_pairs::moves::{read, step};
@@ -82,7 +80,7 @@ fn fails(t: &WalkOver<'_>, x: Node) -> bool
 fn explore(t: &WalkOver<'_>, found: &mut Marks<'_>) -> Option<usize>
     requires { Tables found.old.seen.now found.old.queue.now found.old.tail }
     ensures kept { Kept found.old found.new }
-    ensures answered { Answered found.new.seen.now found.new.queue.now found.new.tail result (searched (suc t.now.walk.sum) (go_over t.now.arcs.now t.now.rows.now t.now.walk) same (wrong_over t.now.finals.now t.now.walk.entry) most_codes 0 (view found.old.seen.now found.old.queue.now found.old.tail)) }
+    ensures answered { Answered found.new.seen.now found.new.queue.now found.new.tail result (search_on t.now.arcs.now t.now.finals.now t.now.rows.now t.now.walk (view found.old.seen.now found.old.queue.now found.old.tail)) }
 {
     let mut k: usize = 0;
     while k < found.tail {
