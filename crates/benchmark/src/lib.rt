@@ -42,6 +42,7 @@ pub extern "C" fn measured_read(file: &[u8], i: usize) -> usize
     }
 }
 
+// A function and no `From`: the number means something to the benchmark alone.
 fn told(checked: Result<Verdict, CheckRefusal>) -> usize
     ensures { result ≡ told_of checked }
 {

@@ -15,7 +15,7 @@ pub const DRAWN: usize = 15;
 // Bytes that the pool's space needs: final marks and arcs.
 pub const POOL_LEAST: usize = DiagramState::LIMIT + POOL_ARCS;
 
-// The root and the number of states, or the refusal.
+// The root and the number of states, or the refusal. A function, as those of `c_replies::told` are.
 pub fn tell_drawn(drawn: &Result<Drawing, ExpressionRefusal>) -> Told
     ensures { result ≡ told_drawn (said_drawing drawn.now).reply (said_drawing drawn.now).pool.count }
 {

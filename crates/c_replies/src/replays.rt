@@ -36,6 +36,7 @@ fn step_refused(number: usize, place: usize, steps: usize) -> Told
     }
 }
 
+// A function, as those of `told` are.
 pub fn tell_replay(e: Result<Ended, ReplayRefusal>) -> Told
     ensures { result ≡ told_replay (said_replay e) (steps_of e) }
 {

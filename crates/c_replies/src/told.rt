@@ -35,7 +35,7 @@ pub const WRITTEN: usize = 14;
 // Entries that the reply's space needs.
 pub const REPLY_LEAST: usize = 4;
 
-#[derive(Clone, Copy)]
+#[derive(Clone, Copy, Debug, PartialEq, Eq)]
 pub struct Told {
     pub kind: usize,
     pub first: usize,
@@ -82,6 +82,7 @@ pub fn refused(number: usize, place: usize) -> Told
     }
 }
 
+// One function for what each service answers: `From` impls would be these bodies, and a call would not say which answer it tells.
 pub fn tell_refusal(why: Refusal) -> Told
     ensures { result ≡ told_refusal (number_of why) (place_of why) }
 {
