@@ -11,6 +11,7 @@ use native.Mathlib.Omega.{arith}
 use Rattle.std.proofs.Math.Nat.{add-sub_cancel_left}
 use Rattle.std.proofs.Math.ListN.{get_or, length-set}
 use Rattle.std.proofs.Math.Seq.{get_or-set_same, get_or-set_other}
+use Rattle.std.specs.Int.Bits.{bit_and}
 use Rattle.tables.specs.Limits.{most_messages}
 use Rattle.theory_model.specs.Laws.Basics.{by_test}
 use Rattle.theory_occurrences.specs.Sets.{meet, marked}
@@ -97,19 +98,25 @@ pub row_begin : (N : List ℕ) (z : ℕ) (M : List ℕ) (row : ℕ) (T : List �
 unfolding entries_from
 row_begin N z M row T = record { is = λ L k. refl }
 
--- the entry is read where there is one, so it is the same by any default
-pub row_next : (d : ℕ) {N M T arcs : List ℕ} {z row m v x : ℕ} → RowFilled N z M row T arcs m → length M ≡ most_messages → m < most_messages
-    → x ≡ meet z (get_or M m d) → v ≡ arc_to N x → RowFilled N z M row T (set arcs (row + m) v) (m + 1)
-row_next d {N} {M} {T} {arcs} {z} {row} {m} {v} {x} w long l f g =
-    let h : v ≡ arc_to N (meet z (get_or M m 0)) = g ∙ ap (arc_to N) (f ∙ ap (meet z) (get_or_default M m d 0 (omega (arith, long, l)))) in
+pub row_next : {N M T arcs : List ℕ} {z row m v : ℕ} → RowFilled N z M row T arcs m → m < most_messages → v ≡ arc_to N (bit_and z (get_or M m 0))
+    → RowFilled N z M row T (set arcs (row + m) v) (m + 1)
+unfolding meet
+row_next {N} {M} {T} {arcs} {z} {row} {m} {v} w l h =
     record {
       is =
           λ L k.
           let d : row + m - row ≡ m = add-sub_cancel_left row m in
           let here : v ≡ row_entry N z L row (row + m) =
-          h ∙ ap (λ u. arc_to N (meet z u)) (k.each m l) ∙ ap (λ j. arc_to N (meet z (marked j L))) (sym d) in
+          h ∙ ap (λ u. arc_to N (bit_and z u)) (k.each m l) ∙ ap (λ j. arc_to N (bit_and z (marked j L))) (sym d) in
           ap₂ (λ a u. set a (row + m) u) (w.is L k) here ∙ sym (entries_one (row_entry N z L row) m row T);
     }
+
+-- the entry is read where there is one, so it is the same by any default
+pub row_entry_next : (d : ℕ) {N M T arcs : List ℕ} {z row m v x : ℕ} → RowFilled N z M row T arcs m → length M ≡ most_messages → m < most_messages
+    → x ≡ meet z (get_or M m d) → v ≡ arc_to N x → RowFilled N z M row T (set arcs (row + m) v) (m + 1)
+unfolding meet
+row_entry_next d {N} {M} {z = z} {m = m} w long l f g =
+    row_next w l (g ∙ ap (arc_to N) (f ∙ ap (bit_and z) (get_or_default M m d 0 (omega (arith, long, l)))))
 
 -- ONE ROW MORE: the rows of the states before i
 pub record ArcsFilled (N : List ℕ) (first : ℕ) (F M T arcs : List ℕ) (i : ℕ) : Type 0 where
@@ -139,11 +146,16 @@ row_more N F L T first z i row w e r h =
         ap (λ u. arc_to N (meet u (marked (k - row) L))) (e ∙ ap (λ j. next_of first F (get_or N j 0)) q)
         ∙ ap (λ m. arc_to N (meet (next_of first F (get_or N (k / most_messages) 0)) (marked m L))) d
 
-pub arcs_next : (d : ℕ) {N F M T arcs arcs' : List ℕ} {first z i row : ℕ} → ArcsFilled N first F M T arcs i → i < length N
-    → z ≡ next_of first F (get_or N i d) → row ≡ i * most_messages → FillsRow N z M row arcs arcs' → ArcsFilled N first F M T arcs' (i + 1)
-arcs_next d {N} {F} {M} {T} {first = first} {z} {i} {row} w l found r h =
-    let e : z ≡ next_of first F (get_or N i 0) = found ∙ ap (next_of first F) (get_or_default N i d 0 l) in
+pub arcs_next : {N F M T arcs arcs' : List ℕ} {first z i row : ℕ} → ArcsFilled N first F M T arcs i → z ≡ next_of first F (get_or N i 0)
+    → row ≡ i * most_messages → FillsRow N z M row arcs arcs' → ArcsFilled N first F M T arcs' (i + 1)
+arcs_next {N} {F} {M} {T} {arcs} {arcs'} {first} {z} {i} {row} w e r h =
     record { is = λ L k. row_more N F L T first z i row (w.is L k) e r (h.fills L k) }
+
+-- by any default, where there is such a state
+pub arcs_entry_next : (d : ℕ) {N F M T arcs arcs' : List ℕ} {first z i row : ℕ} → ArcsFilled N first F M T arcs i → i < length N
+    → z ≡ next_of first F (get_or N i d) → row ≡ i * most_messages → FillsRow N z M row arcs arcs' → ArcsFilled N first F M T arcs' (i + 1)
+arcs_entry_next d {N} {F} {first = first} {i = i} w l e r h =
+    arcs_next w (e ∙ ap (next_of first F) (get_or_default N i d 0 l)) r h
 
 -- FINAL MARKS: one mark more
 pub record FinalsFilled (skips : Bool) (last : ℕ) (N T finals : List ℕ) (i : ℕ) : Type 0 where
@@ -153,12 +165,17 @@ pub finals_begin : (skips : Bool) (last : ℕ) (N T : List ℕ) → FinalsFilled
 unfolding entries_from
 finals_begin skips last N T = record { is = refl }
 
-pub finals_next : (d : ℕ) {skips : Bool} {last : ℕ} {N T finals : List ℕ} {i v : ℕ} → FinalsFilled skips last N T finals i → i < length N
-    → v ≡ final_mark skips last (get_or N i d) → FinalsFilled skips last N T (set finals i v) (i + 1)
-finals_next d {skips} {last} {N} {T} {finals} {i} {v} w l found =
-    let e : v ≡ final_mark skips last (get_or N i 0) = found ∙ ap (final_mark skips last) (get_or_default N i d 0 l) in
+pub finals_next : {skips : Bool} {last : ℕ} {N T finals : List ℕ} {i v : ℕ} → FinalsFilled skips last N T finals i
+    → v ≡ final_mark skips last (get_or N i 0) → FinalsFilled skips last N T (set finals i v) (i + 1)
+finals_next {skips} {last} {N} {T} {finals} {i} {v} w e =
     let f : ℕ → ℕ = λ k. final_mark skips last (get_or N k 0) in
     record {
       is =
           ap₂ (λ a u. set a i u) w.is e ∙ ap (λ k. set (entries_from f i 0 T) k (f k)) (sym (zero-add i)) ∙ sym (entries_one f i 0 T);
     }
+
+-- by any default, where there is such a state
+pub finals_entry_next : (d : ℕ) {skips : Bool} {last : ℕ} {N T finals : List ℕ} {i v : ℕ} → FinalsFilled skips last N T finals i → i < length N
+    → v ≡ final_mark skips last (get_or N i d) → FinalsFilled skips last N T (set finals i v) (i + 1)
+finals_entry_next d {skips} {last} {N} {i = i} w l e =
+    finals_next w (e ∙ ap (final_mark skips last) (get_or_default N i d 0 l))

@@ -1,9 +1,10 @@
 -- One round of the loops that gather occurrences, and their ends.
 use Rattle.std.specs.Prelude.{◌≡◌, refl, List, ℕ, zero, suc, ◌+◌, ◌-◌, ◌/◌, ◌%◌, ◌≤◌, ◌<◌, length, get_or, set, replicate}
-use Rattle.std.proofs.Common.{sym, ◌∙◌, arith, sub-eq-zero_of_le, length-set, get_or-set_same, get_or-set_other}
+use Rattle.std.proofs.Common.{sym, subst, ◌∙◌, arith, sub-eq-zero_of_le, length-set, get_or-set_same, get_or-set_other}
 use Rattle.std.proofs.Math.Path.{ap}
 use borrow.Author.Tests.{eq-eqb, ne_eqb}
 use Rattle.std.proofs.lemmas.List.{length-replicate, get_or_default}
+use Rattle.std.specs.Int.Bits.{bit_or}
 use Rattle.numbers.specs.Laws.Parts.{one_more_lem}
 use Rattle.numbers.specs.Laws.Written.{at_or_other, zeros_hold}
 use Rattle.tables.specs.Limits.{most_messages}
@@ -116,14 +117,17 @@ module _ {x : ℕ} {F : List ℕ} {sum rest i : ℕ} (W : Gathering x F sum rest
   pub gathering_without : {more : ℕ} → i < most_occurrences → (rest % 2 ≡ 1 → ⊥) → more ≡ sum → Gathering x F more (rest / 2) (i + 1)
   gathering_without h e m = record { left = rw m (sym (gather_skip F rest sum h e) ∙ W.left); within = omega arith }
 
+  pub gathering_with : i < most_occurrences → rest % 2 ≡ 1 → Gathering x F (bit_or sum (get_or F i 0)) (rest / 2) (i + 1)
+  unfolding joined
+  gathering_with h e = record { left = sym (gather_on F rest sum h e) ∙ W.left; within = omega arith }
+
   -- the entry is read where there is one, so it is the same by any default
-  pub gathering_with : (d : ℕ) {more : ℕ} → length F ≡ most_occurrences → i < most_occurrences → rest % 2 ≡ 1 → more ≡ joined sum (get_or F i d)
+  pub gathering_entry : (d : ℕ) {more : ℕ} → length F ≡ most_occurrences → i < most_occurrences → rest % 2 ≡ 1 → more ≡ joined sum (get_or F i d)
       → Gathering x F more (rest / 2) (i + 1)
-  gathering_with d {more} l h e m =
-      record {
-        left = rw (m, get_or_default F i d 0 (omega (arith, l, h))) (sym (gather_on F rest sum h e) ∙ W.left);
-        within = omega arith;
-      }
+  unfolding joined
+  gathering_entry d {more} l h e m =
+      let same : more ≡ bit_or sum (get_or F i 0) = m ∙ ap (bit_or sum) (get_or_default F i d 0 (omega (arith, l, h))) in
+      subst (λ s. Gathering x F s (rest / 2) (i + 1)) (sym same) (gathering_with h e)
 
   pub gathering_ends : most_occurrences ≤ i → sum ≡ gather x F
   gathering_ends h = sym (gather_end F rest sum h) ∙ W.left

@@ -1,6 +1,6 @@
 -- Sets of occurrences as the code makes them: the set of one, and the loop that adds to what may follow.
-use Rattle.std.specs.Prelude.{◌≡◌, cond, List, ℕ, suc, ◌+◌, ◌-◌, ◌*◌, ◌/◌, ◌%◌, ◌^◌, ◌≤◌, ◌<◌, eqb, length, get_or, set}
-use Rattle.std.proofs.Common.{sym, ap, ◌∙◌, lt-ltb, eq-eqb, ne_eqb, arith, one-mul, mod-eq_of_lt, pow-suc, sub-eq-zero_of_le, length-set}
+use Rattle.std.specs.Prelude.{◌≡◌, refl, cond, List, ℕ, suc, ◌+◌, ◌-◌, ◌*◌, ◌/◌, ◌%◌, ◌^◌, ◌≤◌, ◌<◌, eqb, length, get_or, set}
+use Rattle.std.proofs.Common.{sym, ap, subst, ◌∙◌, lt-ltb, eq-eqb, ne_eqb, arith, one-mul, mod-eq_of_lt, pow-suc, sub-eq-zero_of_le, length-set}
 use Rattle.std.proofs.lemmas.List.{get_or_default, set-get_or}
 use Rattle.std.proofs.Math.Nat.{one-le-pow, pow-le-pow_right}
 use Rattle.numbers.specs.Laws.Parts.{one_more_lem}
@@ -17,7 +17,6 @@ only_shift k h =
 pub record Linking (from to : ℕ) (F₀ : List ℕ) (rest i : ℕ) (F : List ℕ) : Type 0 where
   pub is : link_from (most_occurrences - i) i rest to F ≡ link from to F₀
   pub within : i ≤ most_occurrences
-  pub long : length F ≡ most_occurrences
 
 -- the definition's steps, n being the number of all occurrences
 module _ (n rest to : ℕ) (F : List ℕ) {i : ℕ} where
@@ -30,30 +29,47 @@ module _ (n rest to : ℕ) (F : List ℕ) {i : ℕ} where
   unfolding link_from
   done h = rw (sub-eq-zero_of_le h)
 
-pub linking_begins : (to : ℕ) {from rest : ℕ} {F : List ℕ} → rest ≡ from → length F ≡ most_occurrences → Linking from to F rest 0 F
-linking_begins to {F = F} e l = record { is = ap (λ x. link x to F) e; within = omega arith; long = l }
+pub linking_begins : (from to : ℕ) (F : List ℕ) → Linking from to F from 0 F
+linking_begins from to F = record { is = refl; within = omega arith }
 
 module _ {from to : ℕ} {F₀ : List ℕ} {rest i : ℕ} {F : List ℕ} (W : Linking from to F₀ rest i F) (h : i < most_occurrences) {G : List ℕ} where
-  step : G ≡ cond (eqb (rest % 2) 1) (set F i (joined (get_or F i 0) to)) F → length G ≡ length F → Linking from to F₀ (rest / 2) (i + 1) G
-  step g l =
+  step : G ≡ cond (eqb (rest % 2) 1) (set F i (joined (get_or F i 0) to)) F → Linking from to F₀ (rest / 2) (i + 1) G
+  step g =
       record {
         is =
             ap (link_from (most_occurrences - (i + 1)) (i + 1) (rest / 2) to) g
             ∙ sym (on most_occurrences rest to F h)
             ∙ W.is;
         within = omega arith;
-        long = l ∙ W.long;
       }
 
-  -- the entry is read where there is one, so it is the same by any default
-  pub linking_with : (d : ℕ) {z : ℕ} → rest % 2 ≡ 1 → z ≡ joined (get_or F i d) to → G ≡ set F i z → Linking from to F₀ (rest / 2) (i + 1) G
-  linking_with d {z} e s g =
-      step (g ∙ rw (s, get_or_default F i d 0 (omega (arith, W.long, h)), eq-eqb (rest % 2) 1 e)) (ap length g ∙ length-set F i z)
+  pub linking_with : {z : ℕ} → rest % 2 ≡ 1 → z ≡ joined (get_or F i 0) to → G ≡ set F i z → Linking from to F₀ (rest / 2) (i + 1) G
+  linking_with e z g = step (g ∙ rw (z, eq-eqb (rest % 2) 1 e))
 
-  pub linking_without : (d : ℕ) → (rest % 2 ≡ 1 → ⊥) → G ≡ set F i (get_or F i d) → Linking from to F₀ (rest / 2) (i + 1) G
-  linking_without d e g =
-      let same : G ≡ F = g ∙ set-get_or F i d in
-      step (same ∙ rw (ne_eqb (rest % 2) 1 e)) (ap length same)
+  pub linking_without : (rest % 2 ≡ 1 → ⊥) → G ≡ F → Linking from to F₀ (rest / 2) (i + 1) G
+  linking_without e g = step (g ∙ rw (ne_eqb (rest % 2) 1 e))
 
 pub linking_ends : {from to : ℕ} {F₀ : List ℕ} {rest i : ℕ} {F : List ℕ} → Linking from to F₀ rest i F → most_occurrences ≤ i → F ≡ link from to F₀
 linking_ends {to = to} {rest = rest} {F = F} W h = sym (done most_occurrences rest to F h) ∙ W.is
+
+-- the same loop through a table that is lent, which has an entry for each occurrence
+pub record LinkingTable (from to : ℕ) (F₀ : List ℕ) (rest i : ℕ) (F : List ℕ) : Type 0 where
+  pub linking : Linking from to F₀ rest i F
+  pub long : length F ≡ most_occurrences
+
+pub table_begins : (to : ℕ) {from rest : ℕ} {F : List ℕ} → rest ≡ from → length F ≡ most_occurrences → LinkingTable from to F rest 0 F
+table_begins to {from} {F = F} e l = record { linking = subst (λ x. Linking from to F x 0 F) (sym e) (linking_begins from to F); long = l }
+
+module _ {from to : ℕ} {F₀ : List ℕ} {rest i : ℕ} {F : List ℕ} (W : LinkingTable from to F₀ rest i F) (h : i < most_occurrences) {G : List ℕ} where
+  -- the entry is read where there is one, so it is the same by any default
+  pub table_with : (d : ℕ) {z : ℕ} → rest % 2 ≡ 1 → z ≡ joined (get_or F i d) to → G ≡ set F i z → LinkingTable from to F₀ (rest / 2) (i + 1) G
+  table_with d {z} e s g =
+      record {
+        linking = linking_with W.linking h e (s ∙ ap (λ y. joined y to) (get_or_default F i d 0 (omega (arith, W.long, h)))) g;
+        long = ap length g ∙ length-set F i z ∙ W.long;
+      }
+
+  pub table_without : (d : ℕ) → (rest % 2 ≡ 1 → ⊥) → G ≡ set F i (get_or F i d) → LinkingTable from to F₀ (rest / 2) (i + 1) G
+  table_without d e g =
+      let same : G ≡ F = g ∙ set-get_or F i d in
+      record { linking = linking_without W.linking h e same; long = ap length same ∙ W.long }

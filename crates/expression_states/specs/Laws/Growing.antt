@@ -7,6 +7,7 @@ use mathlib.Core.List.{List, [], ◌∷◌, ◌++◌, append-nil}
 use Prim.Native.Nat.{ℕ, ◌+◌, ◌-◌, ◌≤◌, ◌<◌}
 use Rattle.std.proofs.Math.Nat.{sub-zero}
 use Rattle.std.proofs.lemmas.List.{get_or_default}
+use Rattle.std.specs.Int.Bits.{bit_and}
 use Rattle.tables.specs.Limits.{most_pool, most_messages}
 use Rattle.theory_model.specs.Laws.Basics.{by_test}
 use Rattle.theory_exploration.specs.Explore.{fresh, expand}
@@ -109,17 +110,24 @@ pub record Marked (S₀ : List ℕ) (n₀ z : ℕ) (M S : List ℕ) (n m : ℕ) 
   pub few : m ≤ most_messages
 
 module _ {S₀ M S : List ℕ} {n₀ z n m : ℕ} (W : Marked S₀ n₀ z M S n m) where
-  -- the entry is read where there is one, so it is the same by any default
-  pub marked_next : (d : ℕ) {S' : List ℕ} {n' w : ℕ} → length M ≡ most_messages → m < most_messages → w ≡ meet z (get_or M m d)
-      → Grows S n 1 (a_state w) S' n' → Marked S₀ n₀ z M S' n' (m + 1)
-  marked_next d {S'} {n'} {w} l h e g =
-      let same : w ≡ meet z (get_or M m 0) = e ∙ ap (meet z) (get_or_default M m d 0 (omega (arith, l))) in
+  pub marked_next : {S' : List ℕ} {n' : ℕ} → m < most_messages → Grows S n 1 (a_state (bit_and z (get_or M m 0))) S' n'
+      → Marked S₀ n₀ z M S' n' (m + 1)
+  unfolding meet
+  marked_next h g =
       record {
-        adding = λ L k. adding_next (W.adding L k) h (k.each m h) (subst (λ x. Grows S n 1 (a_state x) S' n') same g);
+        adding = λ L k. adding_next (W.adding L k) h (k.each m h) g;
         long = g.long ∙ W.long;
         within = omega (arith, g.within, W.within);
         few = omega arith;
       }
+
+  -- the entry is read where there is one, so it is the same by any default
+  pub marked_entry : (d : ℕ) {S' : List ℕ} {n' w : ℕ} → length M ≡ most_messages → m < most_messages → w ≡ meet z (get_or M m d)
+      → Grows S n 1 (a_state w) S' n' → Marked S₀ n₀ z M S' n' (m + 1)
+  unfolding meet
+  marked_entry d {S'} {n'} {w} l h e g =
+      let same : w ≡ bit_and z (get_or M m 0) = e ∙ ap (bit_and z) (get_or_default M m d 0 (omega (arith, l, h))) in
+      marked_next h (subst (λ x. Grows S n 1 (a_state x) S' n') same g)
 
   pub marked_end : most_messages ≤ m → AddsNext z M S₀ n₀ S n
   marked_end h =

@@ -1,17 +1,17 @@
 use Rattle.std.proofs.Common.{rules}
-use Rattle.expression_sets.specs.Laws.Linking.{linking_begins, linking_with, linking_without, linking_ends}
+use Rattle.expression_sets.specs.Laws.Linking.{linking_ends, table_begins, table_with, table_without}
 use Rattle.expression_sets.proofs.sets.Occurring.connect.Goals.{then-rest-eq1, else-rest-eq1}
 use Rattle.expression_sets.proofs.sets.Occurring.connect.Goals as goal
 
 pub loop-behind-init : goal.loop-behind-init
-loop-behind-init c = linking_begins _ c.from.view_is (search (rules, c.well_formed))
+loop-behind-init c = table_begins _ c.from.view_is (search (rules, c.well_formed))
 
 pub loop-behind-preserved : goal.loop-behind-preserved
 loop-behind-preserved c =
     elim c.if-rest-eq1.branch [
-      | then-rest-eq1 w ↦ linking_with c.loop-behind.invariant c.loop-behind-test.true _ w.if-rest-eq1.true w.bitor.ensures w.behind-items-is
-      | else-rest-eq1 w ↦ linking_without c.loop-behind.invariant c.loop-behind-test.true _ w.if-rest-eq1.false w.behind-items-is
+      | then-rest-eq1 w ↦ table_with c.loop-behind.invariant c.loop-behind-test.true _ w.if-rest-eq1.true w.bitor.ensures w.behind-items-is
+      | else-rest-eq1 w ↦ table_without c.loop-behind.invariant c.loop-behind-test.true _ w.if-rest-eq1.false w.behind-items-is
     ]
 
 pub returns-clause-follow : goal.returns-clause-follow
-returns-clause-follow c = linking_ends c.loop-behind.invariant c.loop-behind-test.false
+returns-clause-follow c = linking_ends c.loop-behind.invariant.linking c.loop-behind-test.false
