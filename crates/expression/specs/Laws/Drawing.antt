@@ -19,8 +19,11 @@ use Rattle.expression.specs.Said.{automaton_of}
 
 -- the list of states is as long as was counted
 module _ {first n : ℕ} {F L S : List ℕ} (found : FoundStates first F L S n) where
+  pub found_length : n ≡ length (take n S)
+  found_length = sym (length-take-le n S found.within)
+
   pub found_few : {N : List ℕ} → N ≡ take n S → n ≤ most_pool → length N ≤ most_pool
-  found_few same h = omega (arith, ap length same ∙ length-take-le n S found.within)
+  found_few same h = omega (arith, ap length same, found_length)
 
 module _ (A : Automaton) {S : List ℕ} {n : ℕ} (found : FoundStates A.first A.follow A.label S n) where
   pub draws_none : most_pool < n → turned_away 22 0 ≡ draw A
@@ -28,7 +31,7 @@ module _ (A : Automaton) {S : List ℕ} {n : ℕ} (found : FoundStates A.first A
 
   module _ (h : n ≤ most_pool) where
     as_many : length (states A) ≡ n
-    as_many = ap length (sym (found.few h)) ∙ length-take-le n S found.within
+    as_many = ap length (sym (found.few h)) ∙ sym (found_length found)
 
     -- tables that were filled for a list of states, with its length
     abbrev pub filled_for : List ℕ → Pool

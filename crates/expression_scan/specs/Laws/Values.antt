@@ -1,6 +1,6 @@
 -- The number of a run, clipped digit by digit.
 use Rattle.std.specs.Prelude.{◌≡◌, refl, Bool, true, false, cond, List, [], ◌∷◌, ℕ, ◌+◌, ◌-◌, ◌*◌, ◌≤◌, ◌<◌, leb, ltb, length, get_or, drop}
-use Rattle.std.proofs.Common.{sym, ap, subst, ◌∙◌, drop_of_length-le, arith, leb-true, ltb-true, ltb-false, le-ltb}
+use Rattle.std.proofs.Common.{sym, ap, subst, ◌∙◌, drop_of_length-le, arith, leb-true, ltb-true, ltb-false, lt-ltb, le-ltb}
 use Rattle.theory_model.specs.Laws.Basics.{by_test, and_is}
 use Rattle.theory_grammar.specs.Grammar.{Digit}
 use Rattle.theory_grammar.specs.Parse.{is_digit}
@@ -23,6 +23,9 @@ value_least n (b ∷ u) = by (is_digit b) (value_least (n * 10 + (b - 48)) u)
     by true h = omega arith
     by false h = omega arith
 
+pub clip_small : (n : ℕ) → n < message_limit → clip n ≡ n
+clip_small n h = ap (λ t. cond t n message_limit) (lt-ltb n message_limit h)
+
 pub clip_large : (n : ℕ) → message_limit ≤ n → clip n ≡ message_limit
 clip_large n h = ap (λ t. cond t n message_limit) (le-ltb n message_limit h)
 
@@ -30,7 +33,7 @@ pub clip_twice : (n : ℕ) → clip (clip n) ≡ clip n
 clip_twice n = by (ltb n message_limit) refl
   where
     by : (t : Bool) → ltb n message_limit ≡ t → clip (cond t n message_limit) ≡ cond t n message_limit
-    by true e = ap (λ t. cond t n message_limit) e
+    by true e = clip_small n (ltb-true n message_limit e)
     by false e = refl
 
 -- the number goes on with the digit at a place, and ends where there is none

@@ -1,6 +1,6 @@
 -- Sets of occurrences as the code makes them: the set of one, and the loop that adds to what may follow.
-use Rattle.std.specs.Prelude.{◌≡◌, refl, cond, List, ℕ, suc, ◌+◌, ◌-◌, ◌*◌, ◌/◌, ◌%◌, ◌^◌, ◌≤◌, ◌<◌, eqb, length, get_or, set}
-use Rattle.std.proofs.Common.{sym, ap, subst, ◌∙◌, lt-ltb, eq-eqb, ne_eqb, arith, one-mul, mod-eq_of_lt, pow-suc, sub-eq-zero_of_le, length-set}
+use Rattle.std.specs.Prelude.{◌≡◌, refl, cond, List, ℕ, zero, suc, ◌+◌, ◌-◌, ◌*◌, ◌/◌, ◌%◌, ◌^◌, ◌≤◌, ◌<◌, eqb, length, get_or, set}
+use Rattle.std.proofs.Common.{sym, ap, subst, ◌∙◌, lt-ltb, le-ltb, eq-eqb, ne_eqb, arith, one-mul, mod-eq_of_lt, pow-suc, sub-eq-zero_of_le, length-set}
 use Rattle.std.proofs.lemmas.List.{get_or_default, set-get_or}
 use Rattle.std.proofs.Math.Nat.{one-le-pow, pow-le-pow_right}
 use Rattle.numbers.specs.Laws.Parts.{one_more_lem}
@@ -12,6 +12,9 @@ pub only_shift : (k : ℕ) → k < most_occurrences → 1 * 2 ^ k % 4294967296 �
 only_shift k h =
     let small : 2 ^ k < 4294967296 = omega (arith, pow-suc 2 k, one-le-pow k 2 (omega arith), pow-le-pow_right {n = 2} (omega arith) {i = suc k} {j = 32} h) in
     rw (one-mul, lt-ltb k most_occurrences h, mod-eq_of_lt small)
+
+pub only_none : (k : ℕ) → most_occurrences ≤ k → only k ≡ 0
+only_none k h = ap (λ t. cond t (2 ^ k) 0) (le-ltb k most_occurrences h)
 
 -- A LOOP that adds to what may follow: what is left of the set, from the occurrence i on, goes into this table
 pub record Linking (from to : ℕ) (F₀ : List ℕ) (rest i : ℕ) (F : List ℕ) : Type 0 where
@@ -51,6 +54,16 @@ module _ {from to : ℕ} {F₀ : List ℕ} {rest i : ℕ} {F : List ℕ} (W : Li
 
 pub linking_ends : {from to : ℕ} {F₀ : List ℕ} {rest i : ℕ} {F : List ℕ} → Linking from to F₀ rest i F → most_occurrences ≤ i → F ≡ link from to F₀
 linking_ends {to = to} {rest = rest} {F = F} W h = sym (done most_occurrences rest to F h) ∙ W.is
+
+-- nothing is left of the set
+link_none : (left i to : ℕ) (F : List ℕ) → link_from left i 0 to F ≡ F
+unfolding link_from
+link_none zero i to F = refl
+link_none (suc left) i to F = link_none left (i + 1) to F
+
+pub linking_empty : {from to : ℕ} {F₀ : List ℕ} {rest i : ℕ} {F : List ℕ} → Linking from to F₀ rest i F → rest ≡ 0 → F ≡ link from to F₀
+linking_empty {to = to} {i = i} {F = F} W e =
+    sym (link_none (most_occurrences - i) i to F) ∙ ap (λ x. link_from (most_occurrences - i) i x to F) (sym e) ∙ W.is
 
 -- the same loop through a table that is lent, which has an entry for each occurrence
 pub record LinkingTable (from to : ℕ) (F₀ : List ℕ) (rest i : ℕ) (F : List ℕ) : Type 0 where
