@@ -118,6 +118,9 @@ impl Occurring {
     {
         let mut rest = from.bits;
         for behind in &mut self.follow {
+            if rest == 0 {
+                return;
+            }
             if rest % 2 == 1 {
                 *behind = *behind | to;
             }
