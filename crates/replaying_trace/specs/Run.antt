@@ -6,7 +6,6 @@ use Rattle.tables.specs.declared.tables.Machines.{Machines}
 use Rattle.tables.specs.declared.tables.Queues.{Queues}
 use Rattle.tables.specs.declared.tables.Tables.{Tables}
 use Rattle.tables.specs.declared.view.TablesView.{TablesView}
-use Rattle.tables.specs.View.{viewed}
 use Rattle.theory_model.specs.Model.{Configuration}
 use Rattle.theory_files.specs.Tables.{session_of}
 use Rattle.theory_replay.specs.Rules.{room, Ended}
@@ -19,6 +18,7 @@ use Rattle.replaying_step.specs.Taking.{Stays}
 use Rattle.replaying_step.specs.declared.runs.RunRecord.{RunRecord}
 use Rattle.tables.specs.declared.head.Head.{Head}
 use Rattle.tables.specs.Head.{head_of}
+use Rattle.replaying_trace.specs.Tables.{view_without_bad}
 use Rattle.replaying_trace.specs.Reply.{said_stop}
 use Rattle.replaying_trace.specs.declared.progress.Stop.{Stop}
 use Rattle.replaying_trace.specs.declared.progress.Progress.{Progress}
@@ -71,7 +71,7 @@ turned h t x (Ok p) r mem = Gone h t x (state r mem p)
 turned h t x (Err why) r mem = Halts t why x r mem
 
 pub record Stepped (v : TablesView) (s : List ℕ) (x : State) (a : Result Progress Stop) (r : RunRecord) (mem : List ℕ) : Type 0 where
-  pub turned : turned v.head (turn (session_of (viewed v)) s x.progress.at (stands v.head x)) x a r mem
+  pub turned : turned (head_of (view_without_bad v)) (turn (session_of (view_without_bad v)) s x.progress.at (stands v.head x)) x a r mem
 
 -- the replay has ended so, in the form of the end
 pub record Final (h : Head) (e : Ended) (mem : List ℕ) (a : Code.Ended) (r' : RunRecord) (mem' : List ℕ) : Type 0 where

@@ -2,8 +2,10 @@
 use Rattle.std.specs.Prelude.{ℕ, ◌*◌, List, replicate}
 use Rattle.tables.specs.Limits.{most_bad}
 use Rattle.tables.specs.Head.{tables_of}
+use Rattle.tables.specs.View.{viewed}
 use Rattle.tables.specs.declared.tables.Tables.{Tables}
 use Rattle.tables.specs.declared.head.Head.{Head}
+use Rattle.tables.specs.declared.view.TablesView.{TablesView}
 
 -- a head and four large tables; the rows of the bad entries are 0
 abbrev pub replay_tables : Head → List ℕ → List ℕ → List ℕ → List ℕ → Tables
@@ -22,3 +24,7 @@ head_without_bad T =
 
 abbrev pub without_bad : Tables → Tables
 without_bad T = replay_tables (head_without_bad T) T.transitions.rows T.pool.finals T.pool.arcs T.map.roots
+
+-- of those that a view shows
+abbrev pub view_without_bad : TablesView → Tables
+view_without_bad v = without_bad (viewed v)

@@ -1,5 +1,5 @@
 // The loop of a replay over the record that a caller lends, and the service itself; `replay_from` is the service on a record by value.
-ghost use Rattle.tables.specs.View.{viewed};
+ghost use Rattle.replaying_trace.specs.Tables.{view_without_bad};
 ghost use Rattle.replaying_trace.specs.Reply.{Replays};
 ghost use Rattle.replaying_trace.specs.Run.{opening, Ready, Ran};
 
@@ -17,8 +17,8 @@ use tables::view::TablesView;
 
 // Step after step, to the form of the end; the record and the memory are lent on for each.
 fn run(r: &mut RunRecord, t: &TablesView<'_>, trace: &[u8], memory: &mut [u8]) -> Ended
-    requires { Ready (viewed t.now) trace.now (opening r.old memory.old) }
-    ensures { Ran (viewed t.now) trace.now r.old memory.old result r.new memory.new }
+    requires { Ready (view_without_bad t.now) trace.now (opening r.old memory.old) }
+    ensures { Ran (view_without_bad t.now) trace.now r.old memory.old result r.new memory.new }
 {
     let mut p = Progress { at: 0, steps: 0 };
     'steps: loop {

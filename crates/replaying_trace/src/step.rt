@@ -1,5 +1,5 @@
 // One step on the run's record: the configuration is asked first, then the end of the trace, then the next number.
-ghost use Rattle.tables.specs.View.{viewed};
+ghost use Rattle.replaying_trace.specs.Tables.{view_without_bad};
 ghost use Rattle.replaying_trace.specs.Run.{state, Ready, Stepped};
 
 use crate::progress::{Progress, Stop};
@@ -18,7 +18,7 @@ impl Progress {
         trace: &[u8],
         memory: &mut [u8],
     ) -> Result<Progress, Stop>
-        requires { Ready (viewed t.now) trace.now (state r.old memory.old self) }
+        requires { Ready (view_without_bad t.now) trace.now (state r.old memory.old self) }
         ensures { Stepped t.now trace.now (state r.old memory.old self) result r.new memory.new }
     {
         r.locate(t, memory)?;

@@ -31,8 +31,10 @@ use Rattle.replaying_queues.specs.Laying.{Layable, Lays}
 use Rattle.replaying_step.specs.Configurations.{config_of, counts_of, Holds}
 use Rattle.replaying_step.specs.After.{record_after}
 use Rattle.replaying_step.specs.declared.runs.RunRecord.{RunRecord}
+use Rattle.replaying_trace.specs.Tables.{without_bad}
 use Rattle.replaying_trace.specs.Reply.{ran, Outcome, ran_to, lent_to, replay_to, replay_of, Replays}
 use Rattle.replaying_trace.specs.Run.{opening, Ready, rest, Ran, starts_with}
+use Rattle.replaying_trace.specs.Laws.Tables.{without_bad_valid, without_bad_replayed}
 use Rattle.replaying_trace.specs.declared.progress.ReplayRefusal.TheVariants.{File, TraceTooLong, MemoryShort}
 use Rattle.replaying_trace.specs.declared.progress.Ended as Code
 
@@ -133,20 +135,21 @@ module _ (bytes s mem₀ : List ℕ) (r : RunRecord) {T : Tables} {next : ℕ} (
   begins_layable = record { queues = V.queues; enough = enough }
 
   module _ {mem₁ : List ℕ} (l : Lays T.queues.lengths T.queues.contents T.queues.count mem₀ mem₁) where
-    pub begins_ready : Ready T s (opening (start_of T) mem₁)
+    pub begins_ready : Ready (without_bad T) s (opening (start_of T) mem₁)
     begins_ready =
         record {
-          valid = V;
+          valid = without_bad_valid T V;
           holds = start_holds T V l enough;
           most = h;
           within = omega arith;
           counted = omega arith;
         }
 
-    all : rest T s (opening (start_of T) mem₁) ≡ replayed (session_of T) s
-    all = ap₂ (λ k γ. replay_from (session_of T) s k 0 0 γ) (sub-zero (length s)) (start_is T V l)
+    all : rest (without_bad T) s (opening (start_of T) mem₁) ≡ replayed (session_of T) s
+    all =
+        ap₂ (λ k γ. replay_from (session_of (without_bad T)) s k 0 0 γ) (sub-zero (length s)) (start_is T V l) ∙ without_bad_replayed T s
 
-    is : replay_of bytes s mem₀ r ≡ ran_to T mem₁ (rest T s (opening (start_of T) mem₁))
+    is : replay_of bytes s mem₀ r ≡ ran_to T mem₁ (rest (without_bad T) s (opening (start_of T) mem₁))
     unfolding replay_of
     is =
         ap (λ x. replay_to x s mem₀ r) e
@@ -154,7 +157,7 @@ module _ (bytes s mem₀ : List ℕ) (r : RunRecord) {T : Tables} {next : ℕ} (
         ∙ same_end T V l s
         ∙ ap (ran_to T mem₁) (sym all)
 
-    pub replays_ran : {a : Code.Ended} {r' : RunRecord} {mem' : List ℕ} → Ran T s (start_of T) mem₁ a r' mem' → Replays bytes s mem₀ r (Ok a) r' mem'
+    pub replays_ran : {a : Code.Ended} {r' : RunRecord} {mem' : List ℕ} → Ran (without_bad T) s (start_of T) mem₁ a r' mem' → Replays bytes s mem₀ r (Ok a) r' mem'
     replays_ran F =
         record {
           reply = ap ran F.why ∙ sym (ap (λ o. o.reply) is);

@@ -21,7 +21,7 @@ use Rattle.replaying_step.specs.Taking.{Takeable, TakeAsked, Stays, Tries}
 use Rattle.replaying_step.specs.declared.runs.RunRecord.{RunRecord}
 use Rattle.replaying_step.specs.declared.taking.Untaken.TheVariants as Untaken
 use Rattle.tables.specs.declared.view.TablesView.{TablesView}
-use Rattle.tables.specs.View.{viewed}
+use Rattle.replaying_trace.specs.Tables.{view_without_bad}
 use Rattle.replaying_trace.specs.Run.{State, stands, Ready, Stepped}
 use Rattle.replaying_trace.specs.declared.progress.Stop.TheVariants as Stop
 use Rattle.replaying_trace.specs.declared.progress.Progress.{Progress}
@@ -38,9 +38,9 @@ unmoved : {r : RunRecord} {mem : List ℕ} → Stays r mem r mem
 unmoved = record { same = refl; kept = refl }
 
 -- WHAT A STEP'S STATE GIVES to its parts
-module _ (v : TablesView) (s : List ℕ) (x : State) (R : Ready (viewed v) s x) where
+module _ (v : TablesView) (s : List ℕ) (x : State) (R : Ready (view_without_bad v) s x) where
   abbrev S : Session
-  S = session_of (viewed v)
+  S = session_of (view_without_bad v)
 
   abbrev γ : Configuration
   γ = stands v.head x
