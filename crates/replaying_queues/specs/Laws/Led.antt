@@ -38,19 +38,26 @@ first_more mem heads lengths q =
 ring_length : (mem heads lengths : List ℕ) (q : ℕ) → length (ring_at mem heads lengths q) ≡ get_or lengths q 0
 ring_length mem heads lengths q = waiting_length mem _ (get_or heads q 0) (get_or lengths q 0)
 
+pub waits_none : (lengths : List ℕ) → Waits lengths 0 0
+waits_none lengths = record { is = λ mem heads. refl; most = omega arith }
+
+pub waits_more : {lengths : List ℕ} {q n : ℕ} → Waits lengths q n → get_or lengths q 0 ≤ room → Waits lengths (q + 1) (n + get_or lengths q 0)
+waits_more {lengths} {q} W h =
+    record {
+      is = λ mem heads. omega (arith, W.is mem heads, first_more mem heads lengths q, ring_length mem heads lengths q);
+      most = omega (arith, W.most);
+    }
+
+pub waits_at : {lengths : List ℕ} {q k n : ℕ} → Waits lengths q n → q ≡ k → Waits lengths k n
+waits_at {lengths} {n = n} W e = subst (λ k. Waits lengths k n) e W
+
 -- as many as the sum of the first lengths
 pub waits : (lengths : List ℕ) → ((q : ℕ) → get_or lengths q 0 ≤ room) → (q : ℕ) → q ≤ length lengths → Waits lengths q (sum (take q lengths))
-waits lengths held zero h = record { is = λ mem heads. refl; most = omega arith }
+waits lengths held zero h = waits_none lengths
 waits lengths held (suc q) h =
-    let W = waits lengths held q (omega arith) in
     let next : sum (take (suc q) lengths) ≡ sum (take q lengths) + get_or lengths q 0 =
     ap (λ k. sum (take k lengths)) (sym (add-one q)) ∙ sum_by_more (λ x. x) lengths q 0 (omega arith) in
-    record {
-      is =
-          λ mem heads.
-          omega (arith, W.is mem heads, next, ap (λ k. length (word (rings mem heads lengths k))) (add-one q), first_more mem heads lengths q, ring_length mem heads lengths q);
-      most = omega (arith, W.most, next, held q);
-    }
+    subst (Waits lengths (suc q)) (sym next) (waits_at (waits_more (waits lengths held q (omega arith)) (held q)) (add-one q))
 
 -- no more messages of a ring are followed than it has room for
 far_most : (arcs : List ℕ) (x : Option ℕ) (u : List ℕ) → far_arcs arcs x u ≤ length u
