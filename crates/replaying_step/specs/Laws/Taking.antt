@@ -22,7 +22,7 @@ use Rattle.replaying_queues.specs.Laws.Rings.{rings_fit}
 use Rattle.replaying_step.specs.Parts.{transitions_of, model_in}
 use Rattle.replaying_step.specs.Configurations.{run_of, config_of, Holds}
 use Rattle.replaying_step.specs.Laws.Shifting.{ringed_rings}
-use Rattle.replaying_step.specs.Taking.{Takeable, Stays, Shiftable, Shifted, Unshifted, Acts, Takes}
+use Rattle.replaying_step.specs.Taking.{Takeable, Stays, Shiftable, Shifted, Unshifted, Shifts, Acts, Takes}
 use Rattle.replaying_step.specs.Laws.Lists.{each_of_set}
 use Rattle.tables.specs.declared.head.Head.{Head}
 use Rattle.replaying_step.specs.declared.runs.RunRecord.{RunRecord}
@@ -108,26 +108,21 @@ module _ {f : Head} {rows : List ℕ} {r : RunRecord} {mem : List ℕ} {i : ℕ}
     taken_to : {qs : List (List ℕ)} → act action before.queues ≡ some qs → take? (model_in f rows) i before ≡ some (after qs)
     taken_to {qs} e = is_taken (model_in f rows) i before (transition_at rows row) qs numbered is_at_lem e
 
-    stays : {r' : RunRecord} {mem' : List ℕ} → r'.states ≡ r.states → Unshifted r.heads r.lengths mem r'.heads r'.lengths mem' → Stays r mem r' mem'
-    stays {r'} e u = record { same = ap₂ (run_of r'.states) u.heads u.lengths ∙ ap (λ ss. run_of ss r.heads r.lengths) e; kept = u.memory }
+    stays : {hs ls mem' : List ℕ} → Unshifted r.heads r.lengths mem hs ls mem' → Stays r mem (run_of r.states hs ls) mem'
+    stays u = record { same = ap₂ (run_of r.states) u.heads u.lengths; kept = u.memory }
 
-    pub take_refused : (why : Untaken) {r' : RunRecord} {mem' : List ℕ} → Acts rows row r mem (Err why) r' mem' → Takes f rows i r mem (Err why) r' mem'
-    take_refused NotPossible P = let (e, u) = P.shifts f.queues row_shiftable in (refused_none e, stays P.states u)
-    take_refused NoRoom P = let ((qs, e, n), u) = P.shifts f.queues row_shiftable in ((after qs, taken_to e, n), stays P.states u)
+    pub take_refused : {hs ls mem' : List ℕ} → Shifts f.queues action r.heads r.lengths mem (Err NotPossible) hs ls mem'
+        → Takes f rows i r mem (Err NotPossible) (run_of r.states hs ls) mem'
+    take_refused (e, u) = (refused_none e, stays u)
+
+    pub take_full : {hs ls mem' : List ℕ} → Shifts f.queues action r.heads r.lengths mem (Err NoRoom) hs ls mem'
+        → Takes f rows i r mem (Err NoRoom) (run_of r.states hs ls) mem'
+    take_full ((qs, e, n), u) = ((after qs, taken_to e, n), stays u)
 
     -- THE STEP IS TAKEN: the machine moves to its to-state
-    module _ {r' : RunRecord} {mem' : List ℕ} (P : Acts rows row r mem (Ok tt) r' mem') where
-      abbrev hs : List ℕ
-      hs = r'.heads
-
-      abbrev ls : List ℕ
-      ls = r'.lengths
-
+    module _ {hs ls mem' : List ℕ} (s : Shifted f.queues action r.heads r.lengths mem hs ls mem') where
       abbrev arrived : RunRecord
       arrived = run_of (set r.states (machine_at rows row) (to_at rows row)) hs ls
-
-      s : Shifted f.queues action r.heads r.lengths mem hs ls mem'
-      s = P.shifts f.queues row_shiftable
 
       states_moved : take f.machines.count arrived.states ≡ set (take f.machines.count r.states) (machine_at rows row) (to_at rows row)
       states_moved =
@@ -162,8 +157,8 @@ module _ {f : Head} {rows : List ℕ} {r : RunRecord} {mem : List ℕ} {i : ℕ}
             enough = omega (arith, A.holds.enough, s.long);
           }
 
-      taken_yes : Takes f rows i r mem (Ok tt) arrived mem'
-      taken_yes =
+      pub take_yes : Takes f rows i r mem (Ok tt) arrived mem'
+      take_yes =
           record {
             taken = taken_to s.acted ∙ ap (λ c. some (record { control = c; queues = rings mem' hs ls f.queues.count })) led;
             fitting = rings_fit (ringed_rings A.queues s.ringed (omega (arith, A.holds.enough, s.long)));
@@ -172,6 +167,17 @@ module _ {f : Head} {rows : List ℕ} {r : RunRecord} {mem : List ℕ} {i : ℕ}
             long = s.long;
           }
 
-      pub take_yes : Takes f rows i r mem (Ok tt) (run_of (set r'.states (machine_at rows row) (to_at rows row)) hs ls) mem'
-      take_yes =
-          subst (λ ss. Takes f rows i r mem (Ok tt) (run_of (set ss (machine_at rows row) (to_at rows row)) hs ls) mem') (sym P.states) taken_yes
+    -- THE ROW'S ACTION, whichever queues the row is of: the machines' states stayed
+    pub acts_refused : (why : Untaken) {r' : RunRecord} {mem' : List ℕ} → Acts rows row r mem (Err why) r' mem' → Takes f rows i r mem (Err why) r' mem'
+    acts_refused NotPossible {r'} {mem'} P =
+        subst (λ ss. Takes f rows i r mem (Err NotPossible) (run_of ss r'.heads r'.lengths) mem') (sym P.states)
+        (take_refused (P.shifts f.queues row_shiftable))
+    acts_refused NoRoom {r'} {mem'} P =
+        subst (λ ss. Takes f rows i r mem (Err NoRoom) (run_of ss r'.heads r'.lengths) mem') (sym P.states)
+        (take_full (P.shifts f.queues row_shiftable))
+
+    pub acts_yes : {r' : RunRecord} {mem' : List ℕ} → Acts rows row r mem (Ok tt) r' mem'
+        → Takes f rows i r mem (Ok tt) (run_of (set r'.states (machine_at rows row) (to_at rows row)) r'.heads r'.lengths) mem'
+    acts_yes {r'} {mem'} P =
+        subst (λ ss. Takes f rows i r mem (Ok tt) (run_of (set ss (machine_at rows row) (to_at rows row)) r'.heads r'.lengths) mem') (sym P.states)
+        (take_yes (P.shifts f.queues row_shiftable))
