@@ -48,7 +48,7 @@ module _ (v : TablesView) (s : List ℕ) (x : State) (R : Ready (view_without_ba
   abbrev at : ℕ
   at = x.progress.at
 
-  transitions_counted : length S.model.transitions ≡ v.head.transitions
+  pub transitions_counted : length S.model.transitions ≡ v.head.transitions
   transitions_counted = transitions_length v.rows.now v.head.transitions 0
 
   pub ready_mapped : Mapped v x.lent x.memory
@@ -61,7 +61,7 @@ module _ (v : TablesView) (s : List ℕ) (x : State) (R : Ready (view_without_ba
         holds = R.holds;
       }
 
-  ready_takeable : {i : ℕ} → i < v.head.transitions → Takeable v.head v.rows.now x.lent x.memory i
+  pub ready_takeable : {i : ℕ} → i < v.head.transitions → Takeable v.head v.rows.now x.lent x.memory i
   ready_takeable h =
       record {
         machines = R.valid.machines;
