@@ -10,7 +10,7 @@ ghost use Rattle.checking_pairs.specs.Pairs.{side_of, NodeFits};
 ghost use Rattle.checking_pairs.specs.Over.{read_over, jump_over};
 ghost use Rattle.checking_pairs.specs.Leads.{LeadsTo};
 
-use crate::over::WalkOver;
+use crate::over::StepOver;
 use crate::pairs::{AFTER, Node};
 use following::messages::follow_word;
 use tables::kinds::{Message, Reached};
@@ -46,7 +46,7 @@ pub fn read(arcs: &[u8], entry: bool, x: Node, m: Message) -> Option<usize>
 }
 
 // The step: the source reads what is taken out, the target what is put in.
-pub fn step(t: &WalkOver<'_>, x: Node) -> Option<usize>
+pub fn step(t: &StepOver<'_>, x: Node) -> Option<usize>
     requires { NodeFits x }
     ensures { LeadsTo result (jump_over t.now.arcs.now t.now.rows.now t.now.walk x.source.0 (reached_of x.target.0)) }
 {

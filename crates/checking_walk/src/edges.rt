@@ -9,7 +9,7 @@ ghost use Rattle.checking_walk.specs.Shown.{letter_over, LowestBelow, Placed, Ed
 
 use checking_pairs::marks::Marks;
 use checking_pairs::moves::{read, step};
-use checking_pairs::over::WalkOver;
+use checking_pairs::over::{StepOver, WalkOver};
 use checking_pairs::pairs::Node;
 use tables::kinds::Message;
 
@@ -46,7 +46,12 @@ fn letter_of(t: &WalkOver<'_>, from: usize, code: usize) -> u8
         match message_to(t, x, 0, w.cut, code) {
             Some(m) => m,
             None => {
-                if step(t, x) == Some(code) {
+                let jump = StepOver {
+                    walk: w,
+                    arcs: t.arcs,
+                    rows: t.rows,
+                };
+                if step(&jump, x) == Some(code) {
                     w.sum
                 } else {
                     w.sum + 1

@@ -10,7 +10,7 @@ ghost use Rattle.checking_walk.specs.Answers.{search_on, Answered};
 
 use checking_pairs::marks::Marks;
 use checking_pairs::moves::{read, step};
-use checking_pairs::over::WalkOver;
+use checking_pairs::over::{StepOver, WalkOver};
 use checking_pairs::pairs::Node;
 use tables::kinds::{Message, Reached};
 use tables::lookup::is_final;
@@ -58,7 +58,12 @@ fn visit(t: &WalkOver<'_>, x: Node, from: usize, found: &mut Marks<'_>)
     let w = t.walk;
     if x.side == 0 {
         sweep(t, x, 0, w.cut, from, found);
-        mark_next(step(t, x), from, found);
+        let jump = StepOver {
+            walk: w,
+            arcs: t.arcs,
+            rows: t.rows,
+        };
+        mark_next(step(&jump, x), from, found);
     } else {
         sweep(t, x, w.cut, w.sum, from, found);
     }
