@@ -1,6 +1,7 @@
 // The tables of a session: the kinds of number, the limits, the layout of each table, lookup of roots, arcs and final marks.
 #![tactic(auto)]
 
+pub mod empty;
 pub mod head;
 pub mod kinds;
 pub mod lookup;
