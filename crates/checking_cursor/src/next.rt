@@ -1,7 +1,7 @@
 // The item after another.
-ghost use Rattle.std.specs.Prelude.{List, ℕ, ◌+◌, ◌*◌, ◌≤◌, ◌<◌};
+ghost use Rattle.std.specs.Prelude.{List, ℕ, ◌≡◌, ◌+◌, ◌*◌, ◌≤◌, ◌<◌};
 ghost use Rattle.tables.specs.Limits.{most_transitions, most_bad};
-ghost use Rattle.checking_cursor.specs.Left.{from_step, from_entry, later, most_steps, past_of, Stands};
+ghost use Rattle.checking_cursor.specs.Left.{from_step, from_entry, later, goes, most_steps, past_of, Stands};
 ghost use Rattle.checking_cursor.specs.Next.{Movable, Sought, Found};
 
 use crate::cursor::Cursor;
@@ -66,4 +66,11 @@ pub fn next(h: Head, rows: &[u8], at: Option<Cursor>) -> Option<Cursor>
         Cursor::Step(c, i) => seek(h, rows, c.0 as usize, i + 1),
         Cursor::Entry(b) => entry_from(h, b + 1),
     }
+}
+
+// Whether there is an item where the cursor stands.
+pub fn is_going(at: Option<Cursor>) -> bool
+    ensures { result ≡ goes at }
+{
+    at.is_some()
 }
