@@ -4,6 +4,7 @@
 pub mod files;
 pub mod input;
 pub mod lent;
+pub mod lines;
 
 ghost use Rattle.std.specs.Prelude.{◌≤◌, ◌≡◌, true, length};
 

@@ -4,6 +4,7 @@ use membership::member::member;
 use membership::reply::Member;
 use std::io::{Read, Write};
 use streams::fill_front;
+use streams::lines::Line;
 
 pub(crate) fn answer<R: Read, W: Write>(
     input: &mut R,
@@ -18,10 +19,11 @@ pub(crate) fn answer<R: Read, W: Write>(
     if !fill_front(input, contents, messages) {
         return None;
     }
-    let told = match member(file, control, &contents[..messages]) {
-        Ok(Member::Yes(far)) => writeln!(output, "yes {far}"),
-        Ok(Member::No(far)) => writeln!(output, "no {far}"),
-        Err(why) => writeln!(output, "refused {} at {}", why.number(), why.place()),
+    let mut line = Line { output };
+    let _ = match member(file, control, &contents[..messages]) {
+        Ok(Member::Yes(far)) => write!(line, "yes {far}"),
+        Ok(Member::No(far)) => write!(line, "no {far}"),
+        Err(why) => write!(line, "refused {} at {}", why.number(), why.place()),
     };
-    told.ok()
+    line.output.write_all(b"\n").ok()
 }

@@ -7,6 +7,7 @@ use std::io;
 use std::io::{Read, Write};
 use streams::files::next_file;
 use streams::lent::{digest, fill};
+use streams::lines::Line;
 
 // Answers the replay against this file.
 pub(crate) fn answer<R: Read, W: Write>(
@@ -23,15 +24,15 @@ pub(crate) fn answer<R: Read, W: Write>(
     if memory.len() < room {
         return None;
     }
-    answer_in(
-        output,
+    let _ = answer_in(
+        &mut Line { output },
         file,
         &trace[..length],
         &mut memory[..room],
         head[2],
         head[3],
-    )
-    .ok()
+    );
+    Some(())
 }
 
 // Answers the replay in this memory.

@@ -28,7 +28,7 @@ fn refused<W: Write>(output: &mut W, why: ReplayRefusal) -> io::Result<()> {
         ReplayRefusal::TraceTooLong => {
             write!(output, "trace refused {} at {}", TOO_LONG, MOST_BYTES)
         }
-        ReplayRefusal::MemoryShort => write!(output, "memory refused {} at 0", SHORT_MEMORY),
+        ReplayRefusal::MemoryShort => { write!(output, "memory refused {} at {}", SHORT_MEMORY, 0) }
     }
 }
 

@@ -3,6 +3,7 @@ use expression::draw::expression;
 use std::io;
 use std::io::Write;
 use streams::lent::RunningDigest;
+use streams::lines::Line;
 use tables::tables::Pool;
 
 fn digest_of(pool: &Pool) -> u64 {
@@ -13,12 +14,15 @@ fn digest_of(pool: &Pool) -> u64 {
     digest.sum()
 }
 
+// Whether the line ends is told.
 pub(crate) fn answer<W: Write>(output: &mut W, text: &[u8]) -> io::Result<()> {
-    match expression(text) {
+    let mut line = Line { output };
+    let _ = match expression(text) {
         Ok(drawing) => {
             let (pool, root) = (drawing.pool, drawing.root.0);
-            writeln!(output, "pool {} {root} {}", pool.count, digest_of(&pool))
+            write!(line, "pool {} {root} {}", pool.count, digest_of(&pool))
         }
-        Err(why) => writeln!(output, "refused {} at {}", why.number(), why.place()),
-    }
+        Err(why) => write!(line, "refused {} at {}", why.number(), why.place()),
+    };
+    line.output.write_all(b"\n")
 }

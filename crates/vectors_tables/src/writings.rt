@@ -7,6 +7,7 @@ use std::io;
 use std::io::{Read, Write};
 use streams::files::next_file;
 use streams::lent::{digest, fill};
+use streams::lines::Line;
 use writing_file::write::WriteRefusal;
 
 // Where a question's parts stand.
@@ -30,7 +31,8 @@ pub(crate) fn answer<R: Read, W: Write>(
     if buffer.len() < room {
         return None;
     }
-    answer_in(output, file, question, &mut buffer[..room]).ok()
+    let _ = answer_in(&mut Line { output }, file, question, &mut buffer[..room]);
+    Some(())
 }
 
 // Answers it in this buffer.
@@ -43,7 +45,7 @@ fn answer_in<W: Write>(
     fill(buffer, entry(question, FILL));
     match write_asked(file, question, buffer) {
         Ok(length) => write!(output, "wrote {length}")?,
-        Err(why) => write!(output, "refused {} at 0", why.number())?,
+        Err(why) => write!(output, "refused {} at {}", why.number(), 0)?,
     }
     writeln!(output, " {}", digest(buffer))
 }
