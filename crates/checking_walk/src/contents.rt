@@ -8,17 +8,17 @@ use crate::edges::edge_to;
 use checking_pairs::marks::Marks;
 use checking_pairs::over::WalkOver;
 
-// A word of the table of transitions, laid last message first. Returns the next place.
+// A word of the table of transitions, laid last message first. Returns the next place. Message by message: the library's copy of a slice beside memory that
+// is lent asks for `memmove`, which a program that links the archive need not have.
 fn lay_word(rows: &[u8], word: usize, out: usize, contents: &mut [u8], start: usize) -> usize
     requires word_within { WordWithin rows.now word out }
     requires out_in_bounds { start + out ≤ length contents.old }
     ensures { Laid (word_over rows.now word out) start contents.old contents.new result }
 {
-    let end = start + out;
-    let part = &mut contents[start..end];
-    part.copy_from_slice(&rows[word..word + out]);
-    part.reverse();
-    end
+    for k in 0..out {
+        contents[start + k] = rows[word + (out - 1 - k)];
+    }
+    start + out
 }
 
 // What a letter stands for: a message, or for the step those that it takes out. Returns the next place.

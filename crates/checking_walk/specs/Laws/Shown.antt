@@ -1,7 +1,7 @@
 -- The contents of a pair are those of its parent and what the letter between them stands for: laid back along the parents, last message first.
-use Rattle.std.specs.Prelude.{◌≡◌, List, [], ◌∷◌, ◌++◌, reverse, length, set, take, drop}
+use Rattle.std.specs.Prelude.{◌≡◌, List, [], ◌∷◌, ◌++◌, reverse, length, get_or, set, take, drop}
 use Rattle.std.proofs.Math.Path.{refl, ap}
-use Rattle.std.proofs.Common.{sym, ap₂, subst, ◌∙◌, append_assoc, append-nil, arith, zero-add, length-append, length-drop, length-take-le, take_at, drop_at, eq-eqb, ne_eqb}
+use Rattle.std.proofs.Common.{sym, ap₂, subst, ◌∙◌, append_assoc, append-nil, arith, zero-add, length-append, length-drop, drop_of_length-le, drop-cons, get_or-take, get_or-drop, length-take-le, take_at, drop_at, eq-eqb, ne_eqb}
 use Rattle.std.proofs.lemmas.List.{reverse-append, reverse-reverse, length-reverse}
 use Prim.Native.Nat.{ℕ, zero, suc, ◌+◌, ◌-◌, ◌≤◌, ◌<◌}
 use Rattle.std.proofs.lemmas.List.Edits.{sets, sets-eq}
@@ -89,6 +89,39 @@ word_laid {rows} {word} {out} {start} {contents} {part} {front} z h p f =
           ∙ sym (sets-eq v contents start (omega (arith, long)));
       next = omega (arith, word_length_lem z);
     }
+
+-- A WORD is laid from its end: the messages from number i on are there
+pub record Wording (rows : List ℕ) (word out start i n : ℕ) (contents contents' : List ℕ) : Type 0 where
+  pub laid : Laid (drop i (word_over rows word out)) start contents contents' n
+  pub left : n + i ≡ start + out
+
+module _ {rows : List ℕ} {word out : ℕ} (z : WordWithin rows word out) where
+  pub word_begin : (start : ℕ) (contents : List ℕ) → Wording rows word out start out start contents contents
+  word_begin start contents =
+      let short : length (word_over rows word out) ≤ out = omega (arith, word_length_lem z) in
+      record { laid = laid_as (sym (drop_of_length-le (word_over rows word out) short)) (laid_none start contents); left = refl }
+
+  word_next : (i : ℕ) → i < out → get_or rows (word + i) 0 ∷ drop (suc i) (word_over rows word out) ≡ drop i (word_over rows word out)
+  word_next i h =
+      sym (drop-cons (word_over rows word out) i 0 (omega (arith, word_length_lem z))
+      ∙ ap (λ m. m ∷ drop (suc i) (word_over rows word out)) (get_or-take out (drop word rows) i 0 h ∙ get_or-drop word rows i 0))
+
+  module _ {start i n : ℕ} {contents contents' : List ℕ} (W : Wording rows word out start i n contents contents') where
+    pub word_most : i ≤ out
+    word_most = omega (arith, W.left, W.laid.next)
+
+    pub word_more : 0 < i → Wording rows word out start (i - 1) (n + 1) contents (set contents' n (get_or rows (word + (i - 1)) 0))
+    word_more h =
+        let e : i ≡ suc (i - 1) = omega arith in
+        record {
+          laid =
+              laid_as (ap (λ k. get_or rows (word + (i - 1)) 0 ∷ drop k (word_over rows word out)) e ∙ word_next (i - 1) (omega (arith, word_most)))
+              (laid_before W.laid (laid_one (get_or rows (word + (i - 1)) 0) n contents'));
+          left = omega (arith, W.left);
+        }
+
+    pub word_end : i ≤ 0 → Laid (word_over rows word out) start contents contents' n
+    word_end h = laid_as (ap (λ k. drop k (word_over rows word out)) (let e : i ≡ 0 = omega arith in e)) W.laid
 
 -- BACK ALONG THE PARENTS
 module _ (arcs rows : List ℕ) (w : Walk) (seen queue : List ℕ) where
