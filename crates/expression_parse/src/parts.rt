@@ -35,18 +35,18 @@ pub(crate) fn ends(s: &[u8], at: usize) -> bool
     s.len() <= at || s[at] == b')' || s[at] == b'|'
 }
 
-// How many spaces stand there.
-fn spaces(s: &[u8], at: usize) -> usize
-    ensures { result ≡ length (take_while (λ b. b == 32) (drop at s.now)) }
+// How many spaces stand at the front.
+fn spaces(rest: &[u8]) -> usize
+    ensures { result ≡ length (take_while (λ b. b == 32) rest.now) }
 {
-    s.iter().skip(at).take_while(|b| **b == b' ').count()
+    rest.iter().take_while(|b| **b == b' ').count()
 }
 
-// The place behind the spaces.
+// The place behind the spaces. The slice is cut off, as `iter().skip(at)` goes through all that it passes over.
 pub(crate) fn skip(s: &[u8], at: usize) -> usize
     ensures { result ≡ at + leading is_space (drop at s.now) }
 {
-    at + spaces(s, at)
+    at + spaces(&s[at.min(s.len())..])
 }
 
 impl Part {
