@@ -3,7 +3,7 @@
 ghost use Rattle.std.specs.Prelude.{◌≡◌, OnErr};
 ghost use Rattle.numbers.specs.Said.{said_with};
 ghost use Rattle.reading_file.specs.File.{Reads, read_file};
-ghost use Rattle.reading_file.specs.Lent.{Blank, headed, lent_reading};
+ghost use Rattle.reading_file.specs.Lent.{Blank, headed, lent_tables, lent_reading};
 
 use crate::ends::read_ends;
 use numbers::reader::Reader;
@@ -22,6 +22,40 @@ use tables::tables::{
 pub struct HeadRead {
     pub sets: SetTables,
     pub head: Head,
+}
+
+impl HeadRead {
+    // All tables, with the three that were lent. Whoever only looks at them asks for them here: inside the `Result` of `read` they are copied once more.
+    pub fn tables(
+        self,
+        rows: &[u8; ROWS],
+        finals: &[u8; DiagramState::LIMIT],
+        arcs: &[u8; POOL_ARCS],
+    ) -> Tables
+        ensures { result ≡ lent_tables rows.now finals.now arcs.now self }
+    {
+        let head = self.head;
+        let sets = self.sets;
+        let entries = sets.bad.rows;
+        Tables {
+            machines: head.machines,
+            queues: head.queues,
+            transitions: Transitions {
+                count: head.transitions,
+                rows: *rows,
+            },
+            pool: Pool {
+                count: head.states,
+                finals: *finals,
+                arcs: *arcs,
+            },
+            map: sets.map,
+            bad: BadList {
+                count: head.bad,
+                rows: entries,
+            },
+        }
+    }
 }
 
 // Field after field, from the first byte on. A refusal leaves the lent tables as far as they were filled.
@@ -93,25 +127,5 @@ pub fn read(s: &[u8]) -> Result<Tables, Refusal>
     let mut finals = [0u8; DiagramState::LIMIT];
     let mut arcs = [0u8; POOL_ARCS];
     let read = read_into(s, &mut rows, &mut finals, &mut arcs)?;
-    let head = read.head;
-    let sets = read.sets;
-    let entries = sets.bad.rows;
-    Ok(Tables {
-        machines: head.machines,
-        queues: head.queues,
-        transitions: Transitions {
-            count: head.transitions,
-            rows,
-        },
-        pool: Pool {
-            count: head.states,
-            finals,
-            arcs,
-        },
-        map: sets.map,
-        bad: BadList {
-            count: head.bad,
-            rows: entries,
-        },
-    })
+    Ok(read.tables(&rows, &finals, &arcs))
 }
