@@ -13,10 +13,10 @@ ghost use Rattle.reading_file.specs.Valid.{Valid};
 
 use crate::reply::{Member, MemberRefusal};
 use numbers::number::{entry, wide};
-use reading_file::reading::read;
-use tables::kinds::{ControlState, Message, Reached};
+use reading_file::reading::read_into;
+use tables::kinds::{ControlState, DiagramState, Message, Reached};
 use tables::lookup::{along, is_final, root_of};
-use tables::tables::{Pool, Queues, Tables};
+use tables::tables::{POOL_ARCS, Pool, Queues, ROWS, Tables};
 
 // The queue that a message belongs to.
 fn queue_of(q: &Queues, m: Message) -> u8
@@ -87,6 +87,10 @@ fn ask(t: &Tables, control: usize, contents: &[u8]) -> Result<Member, MemberRefu
 pub fn member(file: &[u8], control: usize, contents: &[u8]) -> Result<Member, MemberRefusal>
     ensures { said_member result ≡ member_of file.now control contents.now }
 {
-    let tables = read(file)?;
+    let mut rows = [0u8; ROWS];
+    let mut finals = [0u8; DiagramState::LIMIT];
+    let mut arcs = [0u8; POOL_ARCS];
+    let read = read_into(file, &mut rows, &mut finals, &mut arcs)?;
+    let tables = read.tables(&rows, &finals, &arcs);
     ask(&tables, control, contents)
 }
