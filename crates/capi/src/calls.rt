@@ -14,10 +14,11 @@ use c_tables::write::write_flat;
 use checking_file::check::check;
 use expression::draw::expression;
 use membership::member::member;
-use reading_file::reading::read;
+use reading_file::reading::read_into;
 use replaying_step::runs::RunRecord;
 use replaying_trace::run::replay;
-use tables::tables::{MOST_MACHINES, MOST_QUEUES};
+use tables::kinds::DiagramState;
+use tables::tables::{MOST_MACHINES, MOST_QUEUES, POOL_ARCS, ROWS};
 
 // The number of the layout.
 const LAYOUT: usize = 4;
@@ -41,10 +42,13 @@ pub extern "C" fn swarmbanner_read(file: &[u8], space: &mut [u8], reply: &mut [u
     if reply.len() < REPLY_LEAST {
         return NO_ROOM;
     }
-    match read(file) {
+    let mut rows = [0u8; ROWS];
+    let mut finals = [0u8; DiagramState::LIMIT];
+    let mut arcs = [0u8; POOL_ARCS];
+    match read_into(file, &mut rows, &mut finals, &mut arcs) {
         Err(why) => put_told(reply, tell_refusal(why)),
-        Ok(tables) => {
-            put_flat(space, tables);
+        Ok(read) => {
+            put_flat(space, read.tables(&rows, &finals, &arcs));
             put_told(reply, bare(READ))
         }
     }
