@@ -84,6 +84,15 @@ impl From<Offence> for ExpressionRefusal {
 fn draw(part: Part, occurring: &Occurring) -> Result<Drawing, ExpressionRefusal>
     ensures { said_drawing result ≡ draw (automaton_of part occurring.now.follow occurring.now.label) }
 {
+    // The machine code sets all locals to 0 where a function begins: made first, the pool is set to 0 once.
+    let mut drawing = Drawing {
+        root: DiagramState(0),
+        pool: Pool {
+            count: 0,
+            finals: [0u8; DiagramState::LIMIT],
+            arcs: [0u8; POOL_ARCS],
+        },
+    };
     let marks = occurring.marks();
     let moves = Moves {
         first: part.first,
@@ -95,18 +104,10 @@ fn draw(part: Part, occurring: &Occurring) -> Result<Drawing, ExpressionRefusal>
         return Err(ExpressionRefusal::TooManyStates);
     }
     let found = states.found();
-    let mut finals = [0u8; DiagramState::LIMIT];
-    fill_finals(part.skips, part.last, found, &mut finals);
-    let mut arcs = [0u8; POOL_ARCS];
-    fill_arcs(&moves, found, &mut arcs);
-    Ok(Drawing {
-        root: DiagramState(0),
-        pool: Pool {
-            count: states.count as u8,
-            finals,
-            arcs,
-        },
-    })
+    drawing.pool.count = states.count as u8;
+    fill_finals(part.skips, part.last, found, &mut drawing.pool.finals);
+    fill_arcs(&moves, found, &mut drawing.pool.arcs);
+    Ok(drawing)
 }
 
 // The pool and root for just the language of a text, or a refusal with its place.
