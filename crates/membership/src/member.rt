@@ -2,6 +2,7 @@
 ghost use Rattle.std.specs.Prelude.{◌≡◌, ◌≤◌, take};
 ghost use Rattle.tables.specs.Limits.{most_pool};
 ghost use Rattle.tables.specs.Kinds.{reached_of};
+ghost use Rattle.tables.specs.View.{viewed};
 ghost use Rattle.theory_model.specs.Model.{queue_of};
 ghost use Rattle.theory_model.specs.Diagram.{one_more, how_far};
 ghost use Rattle.theory_tables.specs.Pool.{pool_of};
@@ -16,7 +17,8 @@ use numbers::number::{entry, wide};
 use reading_file::reading::read_into;
 use tables::kinds::{ControlState, DiagramState, Message, Reached};
 use tables::lookup::{along, is_final, root_of};
-use tables::tables::{POOL_ARCS, Pool, Queues, ROWS, Tables};
+use tables::tables::{POOL_ARCS, Queues, ROWS};
+use tables::view::TablesView;
 
 // The queue that a message belongs to.
 fn queue_of(q: &Queues, m: Message) -> u8
@@ -42,12 +44,13 @@ fn followed(at: Reached) -> usize
 }
 
 // Every message is held to its number and its queue, also where the diagram has nowhere to go.
-fn judge(q: &Queues, pool: &Pool, start: Reached, contents: &[u8]) -> Result<Member, MemberRefusal>
-    requires queues_valid { QueuesValid q.now }
-    requires pool_valid { PoolValid q.now.sum pool.now }
+fn judge(t: &TablesView<'_>, start: Reached, contents: &[u8]) -> Result<Member, MemberRefusal>
+    requires queues_valid { QueuesValid t.now.head.queues }
+    requires pool_valid { PoolValid t.now.head.queues.sum (viewed t.now).pool }
     requires start_le_most_pool { start.0 ≤ most_pool }
-    ensures { said_member result ≡ judge (take q.now.count q.now.messages) (pool_of pool.now) (how_far (pool_of pool.now) (reached_of start.0) contents.now) 0 0 (reached_of start.0) contents.now }
+    ensures { said_member result ≡ judge (take t.now.head.queues.count t.now.head.queues.messages) (pool_of (viewed t.now).pool) (how_far (pool_of (viewed t.now).pool) (reached_of start.0) contents.now) 0 0 (reached_of start.0) contents.now }
 {
+    let q = &t.head.queues;
     let mut at = start;
     let mut queue: u8 = 0;
     let mut far: usize = 0;
@@ -60,11 +63,11 @@ fn judge(q: &Queues, pool: &Pool, start: Reached, contents: &[u8]) -> Result<Mem
         if own < queue {
             return Err(MemberRefusal::EarlierQueue(i));
         }
-        at = along(&pool.arcs, at, m);
+        at = along(t.arcs, at, m);
         far += followed(at);
         queue = own;
     }
-    if is_final(&pool.finals, at) {
+    if is_final(t.finals, at) {
         Ok(Member::Yes(far))
     } else {
         Ok(Member::No(far))
@@ -72,18 +75,18 @@ fn judge(q: &Queues, pool: &Pool, start: Reached, contents: &[u8]) -> Result<Mem
 }
 
 // The question put to the tables of a file that was read.
-fn ask(t: &Tables, control: usize, contents: &[u8]) -> Result<Member, MemberRefusal>
-    requires { Valid t.now }
-    ensures { said_member result ≡ ask (session_of t.now) control contents.now }
+fn ask(t: &TablesView<'_>, control: usize, contents: &[u8]) -> Result<Member, MemberRefusal>
+    requires { Valid (viewed t.now) }
+    ensures { said_member result ≡ ask (session_of (viewed t.now)) control contents.now }
 {
-    if t.machines.product <= control {
+    if t.head.machines.product <= control {
         return Err(MemberRefusal::NoControl);
     }
-    let start = root_of(&t.map.roots, ControlState::new(control));
-    judge(&t.queues, &t.pool, start, contents)
+    let start = root_of(t.roots, ControlState::new(control));
+    judge(t, start, contents)
 }
 
-// Do these contents belong to this control state of the file?
+// Do these contents belong to this control state of the file? Its tables are looked at where they were read.
 pub fn member(file: &[u8], control: usize, contents: &[u8]) -> Result<Member, MemberRefusal>
     ensures { said_member result ≡ member_of file.now control contents.now }
 {
@@ -91,6 +94,13 @@ pub fn member(file: &[u8], control: usize, contents: &[u8]) -> Result<Member, Me
     let mut finals = [0u8; DiagramState::LIMIT];
     let mut arcs = [0u8; POOL_ARCS];
     let read = read_into(file, &mut rows, &mut finals, &mut arcs)?;
-    let tables = read.tables(&rows, &finals, &arcs);
+    let tables = TablesView {
+        head: read.head,
+        rows: &rows,
+        finals: &finals,
+        arcs: &arcs,
+        roots: &read.sets.map.roots,
+        entries: &read.sets.bad.rows,
+    };
     ask(&tables, control, contents)
 }

@@ -6,4 +6,4 @@ use Rattle.membership.proofs.member.judge.Given as goal
 
 abbrev pub invariant-loop-i : goal.invariant-loop-i
 invariant-loop-i l =
-    Judging l.q l.pool.finals l.pool.arcs l.contents (reached_of l.initial.at.0) l.i l.queue l.far (reached_of l.at.0) × (l.at.0 ≤ most_pool)
+    Judging l.t.head.queues l.t.finals.now l.t.arcs.now l.contents (reached_of l.initial.at.0) l.i l.queue l.far (reached_of l.at.0) × (l.at.0 ≤ most_pool)

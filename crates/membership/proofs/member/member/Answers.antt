@@ -14,10 +14,10 @@ returns-in_err-read c =
 pub ask-requires : goal.ask-requires
 ask-requires c =
     let e = ap (λ r. lent_reading r c.read_into.new.rows c.read_into.new.finals c.read_into.new.arcs) c.in_ok-read.was in
-    read_valid c.args.file.now (sym (ap said_answer e) ∙ c.read_into.ensures.reads.reply) (c.tables-tables.ensures ∙ sym (ap handed e) ∙ c.read_into.ensures.reads.tables)
+    read_valid c.args.file.now (sym (ap said_answer e) ∙ c.read_into.ensures.reads.reply) (sym (ap handed e) ∙ c.read_into.ensures.reads.tables)
 
 pub returns : goal.returns
 returns c =
     let a = c.args in
     let e = ap (λ r. lent_reading r c.read_into.new.rows c.read_into.new.finals c.read_into.new.arcs) c.in_ok-read.was in
-    c.ask.ensures ∙ sym (reply_asked a.file.now a.control a.contents.now (sym (ap said_answer e) ∙ c.read_into.ensures.reads.reply) (c.tables-tables.ensures ∙ sym (ap handed e) ∙ c.read_into.ensures.reads.tables))
+    c.ask.ensures ∙ sym (reply_asked a.file.now a.control a.contents.now (sym (ap said_answer e) ∙ c.read_into.ensures.reads.reply) (sym (ap handed e) ∙ c.read_into.ensures.reads.tables))
