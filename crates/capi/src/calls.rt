@@ -12,13 +12,13 @@ use c_tables::places::TABLES_LEAST;
 use c_tables::put::put_flat;
 use c_tables::write::write_flat;
 use checking_file::check::check;
-use expression::draw::expression;
+use expression::draw::expression_into;
 use membership::member::member;
 use reading_file::reading::read_into;
 use replaying_step::runs::RunRecord;
 use replaying_trace::run::replay;
 use tables::kinds::DiagramState;
-use tables::tables::{MOST_MACHINES, MOST_QUEUES, POOL_ARCS, ROWS};
+use tables::tables::{MOST_MACHINES, MOST_QUEUES, POOL_ARCS, Pool, ROWS};
 
 // The number of the layout.
 const LAYOUT: usize = 4;
@@ -141,7 +141,12 @@ pub extern "C" fn swarmbanner_expression(text: &[u8], pool: &mut [u8], reply: &m
     if reply.len() < REPLY_LEAST {
         return NO_ROOM;
     }
-    let drawn = expression(text);
-    put_drawn(pool, &drawn);
-    put_told(reply, tell_drawn(&drawn))
+    let mut drawn = Pool {
+        count: 0,
+        finals: [0u8; DiagramState::LIMIT],
+        arcs: [0u8; POOL_ARCS],
+    };
+    let root = expression_into(text, &mut drawn);
+    put_drawn(pool, root, &drawn);
+    put_told(reply, tell_drawn(root, &drawn))
 }

@@ -23,10 +23,13 @@ pub record Drawn : Type 0 where
   pub reply : Reply
   pub pool : Pool
 
+-- a pool that is all 0
+abbrev pub empty_pool : Pool
+empty_pool = record { count = 0; finals = replicate most_pool 0; arcs = replicate pool_arcs 0 }
+
 -- beside a refusal the pool is all 0
 abbrev pub turned_away : ℕ → ℕ → Drawn
-turned_away k p =
-    record { reply = refused k p; pool = record { count = 0; finals = replicate most_pool 0; arcs = replicate pool_arcs 0 } }
+turned_away k p = record { reply = refused k p; pool = empty_pool }
 
 abbrev pub states : Automaton → List ℕ
 states A = states_from A.first A.follow A.label

@@ -1,6 +1,8 @@
 -- What the code answers, in the words of the definition: for each case the number and the values of document 02.
 use Rattle.std.specs.Prelude.{List, ℕ, Result, Ok, Err}
 use Rattle.theory_occurrences.specs.Positions.{Automaton}
+use Rattle.tables.specs.declared.kinds.DiagramState.{DiagramState}
+use Rattle.tables.specs.declared.tables.Pool.{Pool}
 use Rattle.expression_parse.specs.declared.parts.Part.{Part}
 use Rattle.expression_scan.specs.Said.{said_excess}
 use Rattle.expression.specs.Expression.{Reply, Drawn, root, refused, turned_away, most_text}
@@ -30,6 +32,11 @@ said_reply (Err e) = refused (refusal_number e) (refusal_place e)
 abbrev pub said_drawing : Result Drawing ExpressionRefusal → Drawn
 said_drawing (Ok d) = record { reply = root d.root.0; pool = d.pool }
 said_drawing (Err e) = turned_away (refusal_number e) (refusal_place e)
+
+-- a root and the pool that it stands in; a refusal speaks of no pool
+abbrev pub drawn : Result DiagramState ExpressionRefusal → Pool → Result Drawing ExpressionRefusal
+drawn (Ok r) P = Ok (record { root = r; pool = P })
+drawn (Err e) P = Err e
 
 -- the automaton that the parse leaves in a part and two tables
 abbrev pub automaton_of : Part → List ℕ → List ℕ → Automaton

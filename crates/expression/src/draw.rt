@@ -1,8 +1,8 @@
 // The diagram for just the language of an expression, or why there is none.
-ghost use Rattle.std.specs.Prelude.{◌≡◌};
-ghost use Rattle.expression.specs.Expression.{draw, expression};
+ghost use Rattle.std.specs.Prelude.{◌≡◌, OnErr};
+ghost use Rattle.expression.specs.Expression.{empty_pool, draw, expression};
 ghost use Rattle.expression.specs.declared.draw.ExpressionRefusal.TheVariants.{Outside, Offender};
-ghost use Rattle.expression.specs.Said.{refusal_number, refusal_place, said_drawing, automaton_of};
+ghost use Rattle.expression.specs.Said.{refusal_number, refusal_place, drawn, said_drawing, automaton_of};
 
 use expression_parse::cycle::parse;
 use expression_parse::parts::{Part, Stuck};
@@ -81,18 +81,15 @@ impl From<Offence> for ExpressionRefusal {
 }
 
 // The diagram for a text that keeps within the limits.
-fn draw(part: Part, occurring: &Occurring) -> Result<Drawing, ExpressionRefusal>
-    ensures { said_drawing result ≡ draw (automaton_of part occurring.now.follow occurring.now.label) }
+fn draw(
+    part: Part,
+    occurring: &Occurring,
+    pool: &mut Pool,
+) -> Result<DiagramState, ExpressionRefusal>
+    requires { pool.old ≡ empty_pool }
+    ensures draws { said_drawing (drawn result pool.new) ≡ draw (automaton_of part occurring.now.follow occurring.now.label) }
+    ensures kept { OnErr result (pool.new ≡ pool.old) }
 {
-    // The machine code sets all locals to 0 where a function begins: made first, the pool is set to 0 once.
-    let mut drawing = Drawing {
-        root: DiagramState(0),
-        pool: Pool {
-            count: 0,
-            finals: [0u8; DiagramState::LIMIT],
-            arcs: [0u8; POOL_ARCS],
-        },
-    };
     let marks = occurring.marks();
     let moves = Moves {
         first: part.first,
@@ -104,15 +101,17 @@ fn draw(part: Part, occurring: &Occurring) -> Result<Drawing, ExpressionRefusal>
         return Err(ExpressionRefusal::TooManyStates);
     }
     let found = states.found();
-    drawing.pool.count = states.count as u8;
-    fill_finals(part.skips, part.last, found, &mut drawing.pool.finals);
-    fill_arcs(&moves, found, &mut drawing.pool.arcs);
-    Ok(drawing)
+    pool.count = states.count as u8;
+    fill_finals(part.skips, part.last, found, &mut pool.finals);
+    fill_arcs(&moves, found, &mut pool.arcs);
+    Ok(DiagramState(0))
 }
 
-// The pool and root for just the language of a text, or a refusal with its place.
-pub fn expression(text: &[u8]) -> Result<Drawing, ExpressionRefusal>
-    ensures { said_drawing result ≡ expression text.now }
+// The root for just the language of a text, with its pool in one that is lent and all 0; after a refusal that is as it was.
+pub fn expression_into(text: &[u8], pool: &mut Pool) -> Result<DiagramState, ExpressionRefusal>
+    requires { pool.old ≡ empty_pool }
+    ensures draws { said_drawing (drawn result pool.new) ≡ expression text.now }
+    ensures kept { OnErr result (pool.new ≡ pool.old) }
 {
     if MOST_TEXT < text.len() {
         return Err(ExpressionRefusal::TooLong);
@@ -123,5 +122,18 @@ pub fn expression(text: &[u8]) -> Result<Drawing, ExpressionRefusal>
     };
     let part = parse(text, &mut occurring)?;
     check(text)?;
-    draw(part, &occurring)
+    draw(part, &occurring, pool)
+}
+
+// The pool and root for just the language of a text, or a refusal with its place.
+pub fn expression(text: &[u8]) -> Result<Drawing, ExpressionRefusal>
+    ensures { said_drawing result ≡ expression text.now }
+{
+    let mut pool = Pool {
+        count: 0,
+        finals: [0u8; DiagramState::LIMIT],
+        arcs: [0u8; POOL_ARCS],
+    };
+    let root = expression_into(text, &mut pool)?;
+    Ok(Drawing { root, pool })
 }

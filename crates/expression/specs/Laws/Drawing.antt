@@ -14,7 +14,7 @@ use Rattle.expression_scan.specs.declared.limits.Offence.{Offence}
 use Rattle.expression_parse.specs.Steps.{Parses, Whole, whole, outside}
 use Rattle.expression_parse.specs.declared.parts.Part.{Part}
 use Rattle.expression_parse.specs.declared.parts.Stuck.{Stuck}
-use Rattle.expression.specs.Expression.{Drawn, root, most_text, turned_away, states, numbered, draw, limited, read, measured, expression}
+use Rattle.expression.specs.Expression.{Drawn, root, most_text, empty_pool, turned_away, states, numbered, draw, limited, read, measured, expression}
 use Rattle.expression.specs.Said.{automaton_of}
 
 -- the list of states is as long as was counted
@@ -51,6 +51,16 @@ module _ (A : Automaton) {S : List ℕ} {n : ℕ} (found : FoundStates A.first A
         ap₂ (λ x y. record { reply = root 0; pool = record { count = n; finals = x; arcs = y } }) f a
         ∙ ap (λ (Q : Pool). record { reply = root 0; pool = Q }) pool
         ∙ sym (ap (λ b. numbered b A) (le-ltb most_pool (length (states A)) (omega (arith, as_many))))
+
+    -- the same in a pool that was all 0
+    pub draws_into : {P : Pool} {N finals arcs : List ℕ} → P ≡ empty_pool → N ≡ take n S
+        → finals ≡ entries_from (λ i. final_mark A.skips A.last (get_or N i 0)) (length N) 0 P.finals
+        → arcs ≡ entries_from (arc_entry N A.first A.follow A.label) (length N * most_messages) 0 P.arcs
+        → ◌≡◌ {A = Drawn} (record { reply = root 0; pool = record { count = n; finals = finals; arcs = arcs } }) (draw A)
+    draws_into {N = N} e same f a =
+        draws_pool same
+        (f ∙ ap (λ (P : Pool). entries_from (λ i. final_mark A.skips A.last (get_or N i 0)) (length N) 0 P.finals) e)
+        (a ∙ ap (λ (P : Pool). entries_from (arc_entry N A.first A.follow A.label) (length N * most_messages) 0 P.arcs) e)
 
 -- THE TEXT, as the code goes through its cases
 module _ {s L F L' F' : List ℕ} where
