@@ -9,7 +9,6 @@ use Rattle.reading_file.specs.File.{read_file, read_reply_of, tables_read, hande
 use Rattle.reading_file.specs.Valid.{Valid}
 use Rattle.tables.specs.declared.tables.Tables.{Tables}
 use Rattle.numbers.specs.declared.refusal.Refusal.{Refusal}
-use Rattle.numbers.specs.Said.{number_of, place_of}
 use Rattle.theory_model.specs.Laws.Basics.{is_and}
 use Rattle.theory_files.specs.Reply.{shown_of}
 use Rattle.theory_files.specs.Checking.{Checked, check_of, Checks}
