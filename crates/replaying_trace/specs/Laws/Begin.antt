@@ -14,6 +14,7 @@ use Rattle.tables.specs.Limits.{most_queues}
 use Rattle.tables.specs.Starting.{starting_at}
 use Rattle.tables.specs.Laws.Each.{each_length}
 use Rattle.reading_file.specs.Valid.{Valid}
+use Rattle.tables.specs.declared.tables.BadList.{BadList}
 use Rattle.tables.specs.declared.tables.Tables.{Tables}
 use Rattle.reading_file.specs.File.{read_file}
 use Rattle.reading_file.specs.Laws.Valid.{valid}
@@ -34,7 +35,7 @@ use Rattle.replaying_step.specs.declared.runs.RunRecord.{RunRecord}
 use Rattle.replaying_trace.specs.Tables.{without_bad}
 use Rattle.replaying_trace.specs.Reply.{ran, Outcome, ran_to, lent_to, replay_to, replay_of, Replays}
 use Rattle.replaying_trace.specs.Run.{opening, Ready, rest, Ran, starts_with}
-use Rattle.replaying_trace.specs.Laws.Tables.{without_bad_valid, without_bad_replayed}
+use Rattle.replaying_trace.specs.Laws.Tables.{with_bad, ready_without_bad, with_bad_replayed, without_bad_replayed}
 use Rattle.replaying_trace.specs.declared.progress.ReplayRefusal.TheVariants.{File, TraceTooLong, MemoryShort}
 use Rattle.replaying_trace.specs.declared.progress.Ended as Code
 
@@ -135,33 +136,47 @@ module _ (bytes s mem₀ : List ℕ) (r : RunRecord) {T : Tables} {next : ℕ} (
   begins_layable = record { queues = V.queues; enough = enough }
 
   module _ {mem₁ : List ℕ} (l : Lays T.queues.lengths T.queues.contents T.queues.count mem₀ mem₁) where
-    pub begins_ready : Ready (without_bad T) s (opening (start_of T) mem₁)
+    pub begins_ready : Ready T s (opening (start_of T) mem₁)
     begins_ready =
         record {
-          valid = without_bad_valid T V;
+          valid = V;
           holds = start_holds T V l enough;
           most = h;
           within = omega arith;
           counted = omega arith;
         }
 
-    all : rest (without_bad T) s (opening (start_of T) mem₁) ≡ replayed (session_of T) s
-    all =
-        ap₂ (λ k γ. replay_from (session_of (without_bad T)) s k 0 0 γ) (sub-zero (length s)) (start_is T V l) ∙ without_bad_replayed T s
+    pub begins_ready_without_bad : Ready (without_bad T) s (opening (start_of T) mem₁)
+    begins_ready_without_bad = ready_without_bad begins_ready
 
-    is : replay_of bytes s mem₀ r ≡ ran_to T mem₁ (rest (without_bad T) s (opening (start_of T) mem₁))
+    -- in the file's tables with any bad entries
+    all : (B : BadList) → rest (with_bad T B) s (opening (start_of T) mem₁) ≡ replayed (session_of T) s
+    all B =
+        ap₂ (λ k γ. replay_from (session_of (with_bad T B)) s k 0 0 γ) (sub-zero (length s)) (start_is T V l)
+        ∙ with_bad_replayed T B s
+        ∙ without_bad_replayed T s
+
+    is : (B : BadList) → replay_of bytes s mem₀ r ≡ ran_to T mem₁ (rest (with_bad T B) s (opening (start_of T) mem₁))
     unfolding replay_of
-    is =
+    is B =
         ap (λ x. replay_to x s mem₀ r) e
         ∙ ap₂ (λ x y. lent_to x y T s mem₀ r) (le-leb (length s) most_bytes h) (le-leb (T.queues.count * room) (length mem₀) enough)
         ∙ same_end T V l s
-        ∙ ap (ran_to T mem₁) (sym all)
+        ∙ ap (ran_to T mem₁) (sym (all B))
 
-    pub replays_ran : {a : Code.Ended} {r' : RunRecord} {mem' : List ℕ} → Ran (without_bad T) s (start_of T) mem₁ a r' mem' → Replays bytes s mem₀ r (Ok a) r' mem'
-    replays_ran F =
+    pub replays_ran_with_bad : (B : BadList) {a : Code.Ended} {r' : RunRecord} {mem' : List ℕ} → Ran (with_bad T B) s (start_of T) mem₁ a r' mem'
+        → Replays bytes s mem₀ r (Ok a) r' mem'
+    replays_ran_with_bad B F =
         record {
-          reply = ap ran F.why ∙ sym (ap (λ o. o.reply) is);
-          steps = F.steps ∙ sym (ap (λ o. o.steps) is);
-          lent = F.lent ∙ sym (ap (λ o. o.lent) is);
-          queues = F.memory ∙ sym (ap (λ o. o.queues) is);
+          reply = ap ran F.why ∙ sym (ap (λ o. o.reply) (is B));
+          steps = F.steps ∙ sym (ap (λ o. o.steps) (is B));
+          lent = F.lent ∙ sym (ap (λ o. o.lent) (is B));
+          queues = F.memory ∙ sym (ap (λ o. o.queues) (is B));
         }
+
+    pub replays_ran : {a : Code.Ended} {r' : RunRecord} {mem' : List ℕ} → Ran T s (start_of T) mem₁ a r' mem' → Replays bytes s mem₀ r (Ok a) r' mem'
+    replays_ran = replays_ran_with_bad T.bad
+
+    pub replays_ran_without_bad : {a : Code.Ended} {r' : RunRecord} {mem' : List ℕ} → Ran (without_bad T) s (start_of T) mem₁ a r' mem'
+        → Replays bytes s mem₀ r (Ok a) r' mem'
+    replays_ran_without_bad = replays_ran_with_bad (without_bad T).bad

@@ -21,7 +21,9 @@ use Rattle.replaying_step.specs.Taking.{Takeable, TakeAsked, Stays, Tries}
 use Rattle.replaying_step.specs.declared.runs.RunRecord.{RunRecord}
 use Rattle.replaying_step.specs.declared.taking.Untaken.TheVariants as Untaken
 use Rattle.tables.specs.declared.view.TablesView.{TablesView}
+use Rattle.tables.specs.declared.tables.BadList.{BadList}
 use Rattle.replaying_trace.specs.Tables.{view_without_bad}
+use Rattle.replaying_trace.specs.Laws.Tables.{view_with_bad}
 use Rattle.replaying_trace.specs.Run.{State, stands, Ready, Stepped}
 use Rattle.replaying_trace.specs.declared.progress.Stop.TheVariants as Stop
 use Rattle.replaying_trace.specs.declared.progress.Progress.{Progress}
@@ -37,8 +39,8 @@ module _ (S : Session) (s : List ℕ) (at : ℕ) (γ : Configuration) where
 unmoved : {r : RunRecord} {mem : List ℕ} → Stays r mem r mem
 unmoved = record { same = refl; kept = refl }
 
--- WHAT A STEP'S STATE GIVES to its parts
-module _ (v : TablesView) (s : List ℕ) (x : State) (R : Ready (view_without_bad v) s x) where
+-- WHAT A STEP'S STATE GIVES to its parts, whatever the bad entries
+module _ (v : TablesView) (s : List ℕ) (x : State) {B : BadList} (R : Ready (view_with_bad v B) s x) where
   abbrev S : Session
   S = session_of (view_without_bad v)
 

@@ -1,7 +1,7 @@
 use Rattle.std.proofs.lemmas.Result.{err_from_is_err_and}
 use mathlib.Core.Path.{refl}
 use Rattle.reading_file.specs.Laws.Reading.{answer_read, answer_refused}
-use Rattle.replaying_trace.specs.Laws.Begin.{replays_unread, replays_long, replays_short, begins_layable, begins_ready, replays_ran}
+use Rattle.replaying_trace.specs.Laws.Begin.{replays_unread, replays_long, replays_short, begins_layable, begins_ready_without_bad, replays_ran_without_bad}
 use Rattle.replaying_trace.proofs.run.replay.Goals as goal
 
 pub returns-in_err-read : goal.returns-in_err-read
@@ -23,9 +23,9 @@ lay_starting-requires c =
 pub run-requires : goal.run-requires
 run-requires c =
     let enough = rw c.wide.ensures.same at c.if-memory-wide.false in
-    rw c.starting_record.ensures (begins_ready _ _ _ c.args.r.now (answer_read _ _ c.in_ok-read.ensures.reads refl).1 c.if-trace-gt-MOST_BYTES.false enough c.lay_starting.ensures)
+    rw c.starting_record.ensures (begins_ready_without_bad _ _ _ c.args.r.now (answer_read _ _ c.in_ok-read.ensures.reads refl).1 c.if-trace-gt-MOST_BYTES.false enough c.lay_starting.ensures)
 
 pub returns : goal.returns
 returns c =
     let enough = rw c.wide.ensures.same at c.if-memory-wide.false in
-    replays_ran _ _ _ c.args.r.now (answer_read _ _ c.in_ok-read.ensures.reads refl).1 c.if-trace-gt-MOST_BYTES.false enough c.lay_starting.ensures (rw c.starting_record.ensures at c.run.ensures)
+    replays_ran_without_bad _ _ _ c.args.r.now (answer_read _ _ c.in_ok-read.ensures.reads refl).1 c.if-trace-gt-MOST_BYTES.false enough c.lay_starting.ensures (rw c.starting_record.ensures at c.run.ensures)
