@@ -1,6 +1,6 @@
 -- Tables less their bad entries can be replayed, and no replay tells them from the same tables with their own bad entries or any others.
 use Rattle.std.specs.Prelude.{ℕ, ◌*◌, ◌≡◌, List}
-use Rattle.std.proofs.Common.{arith}
+use Rattle.std.proofs.Common.{sym, arith}
 use Rattle.std.proofs.lemmas.List.{length-replicate}
 use Rattle.numbers.specs.Laws.Written.{zeros_hold}
 use Rattle.tables.specs.Limits.{most_bad}
@@ -76,5 +76,4 @@ module _ (T : Tables) (B : BadList) (s : List ℕ) where
       replayed_without_bad (session_of T).model (session_of T).pool (session_of T).root (session_of (with_bad T B)).bad (session_of (without_bad T)).bad s
 
 pub without_bad_replayed : (T : Tables) (s : List ℕ) → replayed (session_of (without_bad T)) s ≡ replayed (session_of T) s
-without_bad_replayed T s =
-    replayed_without_bad (session_of T).model (session_of T).pool (session_of T).root (session_of (without_bad T)).bad (session_of T).bad s
+without_bad_replayed T s = sym (with_bad_replayed T T.bad s)
